@@ -1,0 +1,167 @@
+-- Document 01, "The image": what cause 13 asks of what an image holds, its limits with it, as a proposition and as a test. Layout is about bytes, and
+-- not here.
+use mathlib.Core.Path.{_≡_}
+use mathlib.Core.Bool.{Bool, _&&_, cond, false, true}
+use mathlib.Core.Option.{Option, none, some}
+use mathlib.Core.List.{[], _∷_}
+use Prim.Native.Nat.{_*_, _+_, _<_, _≤_, suc, ℕ}
+use lib.Dec.{eqb, ltb}
+use lib.ListN.{length}
+use Rattle.calculus.specs.Syntax.{Const, unit, num, op, Exp, var, name, const, lam, app, Value, Component, thread-of, holds, open-for, used, awaited, Config, at, Allowed, constants, EachAll}
+use Rattle.calculus.specs.Names.{count-in}
+use Rattle.calculus.specs.Step.{Place, settled, meet, loose, place}
+use Rattle.calculus.specs.Limits.{max-num, max-names, max-nodes, byte-values}
+
+-- document 01, "variables are bound inside them": every variable of e is bound in e, or by one of `depth` lambdas around it
+pub data Closed : ℕ → Exp → Type 0 where
+  closed-var : {depth i : ℕ} → i < depth → Closed depth (var i)
+  closed-name : {depth k : ℕ} → Closed depth (name k)
+  closed-const : {depth : ℕ} {c : Const} → Closed depth (const c)
+  closed-lam : {depth t : ℕ} {e : Exp} → Closed (suc depth) e → Closed depth (lam t e)
+  closed-app : {depth : ℕ} {f a : Exp} → Closed depth f → Closed depth a → Closed depth (app f a)
+
+-- a component's expression is closed
+abbrev pub ClosedIn : Component → Type 0
+ClosedIn (thread-of e) = Closed 0 e
+ClosedIn (holds e) = Closed 0 e
+ClosedIn (open-for y) = Unit {0}
+ClosedIn used = Unit {0}
+ClosedIn awaited = Unit {0}
+
+-- document 01, "nums at most 1000"
+abbrev pub NumSmall : Const → Type 0
+NumSmall unit = Unit {0}
+NumSmall (num n) = n ≤ max-num
+NumSmall (op o t) = Unit {0}
+
+-- document 01, "every node of every expression counted"
+unfoldable pub nodes : Exp → ℕ
+nodes (var i) = 1
+nodes (name k) = 1
+nodes (const c) = 1
+nodes (lam t e) = suc (nodes e)
+nodes (app f a) = suc (nodes f + nodes a)
+
+-- document 01, the table of node forms: how many bytes an expression takes, the tag and what is after it
+unfoldable pub const-bytes : Const → ℕ
+const-bytes unit = 1
+const-bytes (num n) = 3
+const-bytes (op o t) = 2
+
+unfoldable pub bytes : Exp → ℕ
+bytes (var i) = 2
+bytes (name k) = 2
+bytes (const c) = const-bytes c
+bytes (lam t e) = 2 + bytes e
+bytes (app f a) = suc (bytes f + bytes a)
+
+-- the sum over all expressions of a configuration
+unfoldable pub sum-in : (Exp → ℕ) → Component → ℕ
+sum-in measure (thread-of e) = measure e
+sum-in measure (holds e) = measure e
+sum-in measure (open-for y) = 0
+sum-in measure used = 0
+sum-in measure awaited = 0
+
+unfoldable pub sum-all : (Exp → ℕ) → Config → ℕ
+sum-all measure [] = 0
+sum-all measure (c ∷ C) = sum-in measure c + sum-all measure C
+
+abbrev pub nodes-all : Config → ℕ
+nodes-all C = sum-all nodes C
+
+-- document 01, "a two-byte m", "m heads of six bytes", "then the expressions": the length of the image that holds C
+abbrev pub image-length : Config → ℕ
+image-length C = 2 + 6 * length C + sum-all bytes C
+
+-- document 01, "At most 256 names and 4,096 nodes in all"
+pub record WithinLimits (C : Config) : Type 0 where
+  pub few-names : length C ≤ max-names
+  pub few-nodes : nodes-all C ≤ max-nodes
+
+-- what an image has to keep: cause 13 does not fit
+pub record ImageRule (C : Config) : Type 0 where
+  -- "variables are bound inside them"
+  pub bound : (x : ℕ) (c : Component) → at C x ≡ some c → ClosedIn c
+  -- "names are below m"
+  pub names-below : (x : ℕ) (c : Component) → at C x ≡ some c → (k : ℕ) → length C ≤ k → count-in k c ≡ 0
+  -- "nums at most 1000"
+  pub small : EachAll (constants NumSmall) C
+  -- "Cells hold values"
+  pub cells : (x : ℕ) (v : Exp) → at C x ≡ some (holds v) → Value v
+  -- "each open handle's companion is of kind 5"
+  pub companions : (z y : ℕ) → at C z ≡ some (open-for y) → at C y ≡ some awaited
+  -- "Each kind-5 name is the companion of exactly one open handle"
+  pub futures : (y : ℕ) → at C y ≡ some awaited → (z : ℕ) × (at C z ≡ some (open-for y)) × ((z′ : ℕ) → at C z′ ≡ some (open-for y) → z′ ≡ z)
+  -- "At most 256 names and 4,096 nodes in all"
+  pub limits : WithinLimits C
+
+-- the same as a test that computes (Theory.ImageTest, `image-test-iff`).
+-- "variables are bound inside them, names are below m, nums at most 1000"
+unfoldable pub constant-test : Const → Bool
+constant-test unit = true
+constant-test (num n) = ltb n (suc max-num)
+constant-test (op o t) = true
+
+unfoldable pub expression-test : ℕ → ℕ → Exp → Bool
+expression-test m depth (var i) = ltb i depth
+expression-test m depth (name k) = ltb k m
+expression-test m depth (const c) = constant-test c
+expression-test m depth (lam t e) = expression-test m (suc depth) e
+expression-test m depth (app f a) = expression-test m depth f && expression-test m depth a
+
+-- "Cells hold values"
+unfoldable pub is-settled : Place → Bool
+is-settled (settled v w) = true
+is-settled (meet F f v wf wv) = false
+is-settled loose = false
+
+-- "each open handle's companion is of kind 5"
+unfoldable pub is-awaited : Option Component → Bool
+is-awaited (some awaited) = true
+is-awaited (some (thread-of e)) = false
+is-awaited (some (holds e)) = false
+is-awaited (some (open-for y)) = false
+is-awaited (some used) = false
+is-awaited none = false
+
+-- how many open handles have the companion y
+unfoldable pub handle-for : ℕ → Component → ℕ
+handle-for y (open-for z) = cond (eqb z y) 1 0
+handle-for y (thread-of e) = 0
+handle-for y (holds e) = 0
+handle-for y used = 0
+handle-for y awaited = 0
+
+unfoldable pub handles-for : ℕ → Config → ℕ
+handles-for y [] = 0
+handles-for y (c ∷ C) = handle-for y c + handles-for y C
+
+-- the component of name k of C keeps its rules
+unfoldable pub component-test : Config → ℕ → Component → Bool
+component-test C k (thread-of e) = expression-test (length C) 0 e
+component-test C k (holds v) = expression-test (length C) 0 v && is-settled (place v)
+component-test C k (open-for y) = is-awaited (at C y)
+component-test C k used = true
+component-test C k awaited = eqb (handles-for k C) 1
+
+-- each component passes, the first having name k
+unfoldable pub each-test : (ℕ → Component → Bool) → ℕ → Config → Bool
+each-test test k [] = true
+each-test test k (c ∷ C) = test k c && each-test test (suc k) C
+
+unfoldable pub limits-test : Config → Bool
+limits-test C = ltb (length C) (suc max-names) && ltb (nodes-all C) (suc max-nodes)
+
+-- cause 13 does not fit
+unfoldable pub image-test : Config → Bool
+image-test C = each-test (component-test C) 0 C && limits-test C
+
+-- what the node forms can write: "index byte", "type number" in one byte, nums as above. Of names `ImageRule` says it.
+abbrev pub WritableConst : Const → Type 0
+WritableConst unit = Unit {0}
+WritableConst (num n) = n ≤ max-num
+WritableConst (op o t) = t < byte-values
+
+abbrev pub Writable : Allowed
+Writable = record { index = λ i. i < byte-values; annotation = λ t. t < byte-values; constant = WritableConst }

@@ -1,0 +1,65 @@
+-- How often names and bound variables stand in an expression, and document 01's "has a value of its type".
+use mathlib.Core.Path.{_≡_}
+use mathlib.Core.Bool.{cond}
+use mathlib.Core.Option.{some}
+use mathlib.Core.List.{[], _∷_}
+use Prim.Native.Nat.{_+_, _≤_, suc, ℕ}
+use lib.Dec.{eqb}
+use Rattle.calculus.specs.Types.{once, LinType, fun, multiplicity}
+use Rattle.calculus.specs.Syntax.{Const, Exp, var, name, const, lam, app, Value, Component, thread-of, holds, open-for, used, awaited, Config, at}
+use Rattle.calculus.specs.Typing.{TypeNumbers, NameTypes, Derivation}
+use Rattle.calculus.specs.Narrowing.{Narrow}
+
+-- how often name k stands in e
+unfoldable pub count : ℕ → Exp → ℕ
+count k (var i) = 0
+count k (name j) = cond (eqb j k) 1 0
+count k (const c) = 0
+count k (lam t e) = count k e
+count k (app e₁ e₂) = count k e₁ + count k e₂
+
+-- how often the variable of the lambda `depth` lambdas out stands in e
+unfoldable pub uses : ℕ → Exp → ℕ
+uses depth (var i) = cond (eqb i depth) 1 0
+uses depth (name j) = 0
+uses depth (const c) = 0
+uses depth (lam t e) = uses (suc depth) e
+uses depth (app e₁ e₂) = uses depth e₁ + uses depth e₂
+
+-- how often name k stands in a component, and in all those of a configuration
+unfoldable pub count-in : ℕ → Component → ℕ
+count-in k (thread-of e) = count k e
+count-in k (holds e) = count k e
+count-in k (open-for y) = 0
+count-in k used = 0
+count-in k awaited = 0
+
+unfoldable pub count-all : ℕ → Config → ℕ
+count-all k [] = 0
+count-all k (c ∷ C) = count-in k c + count-all k C
+
+-- name k has a once type
+abbrev pub OnceName : NameTypes → ℕ → Type 0
+OnceName Σ k = (α : LinType) × (at Σ k ≡ some α) × (multiplicity α ≡ once)
+
+-- name k stands under no many-lambda of e
+pub data Outside (τ : TypeNumbers) (k : ℕ) : Exp → Type 0 where
+  out-var : {i : ℕ} → Outside τ k (var i)
+  out-name : {j : ℕ} → Outside τ k (name j)
+  out-const : {c : Const} → Outside τ k (const c)
+  out-once : {t : ℕ} {e : Exp} {α β : LinType} → τ t ≡ some (fun once α β) → Outside τ k e → Outside τ k (lam t e)
+  out-none : {t : ℕ} {e : Exp} → count k e ≡ 0 → Outside τ k (lam t e)
+  out-app : {e₁ e₂ : Exp} → Outside τ k e₁ → Outside τ k e₂ → Outside τ k (app e₁ e₂)
+
+-- document 01: "a name of a once type stands in it at most once and under no many-lambda"
+pub record OnceNamesOnce (τ : TypeNumbers) (Σ : NameTypes) (e : Exp) : Type 0 where
+  pub at-most-once : (k : ℕ) → OnceName Σ k → count k e ≤ 1
+  pub outside : (k : ℕ) → OnceName Σ k → Outside τ k e
+
+-- document 01: v is "a value of its type", here α: "a derivation by the recipe's rules, names so typed and type bytes read in the recipe's table, gives
+-- that value the type". The recipe's rules are Figs. 8 and 9 and the narrowing.
+pub record HasType (τ : TypeNumbers) (Σ : NameTypes) (v : Exp) (α : LinType) : Type 0 where
+  pub value : Value v
+  pub derivation : Derivation τ Σ [] v α
+  pub narrow : Narrow τ v
+  pub names : OnceNamesOnce τ Σ v

@@ -1,0 +1,128 @@
+-- Document 01, "A step": the place where two values meet, and what a step of one thread answers.
+use mathlib.Core.Path.{_≡_}
+use mathlib.Core.Option.{Option, none, some}
+use mathlib.Core.List.{[], _++_, _∷_}
+use Prim.Native.Nat.{_+_, ℕ}
+use lib.ListN.{length, set}
+use Rattle.calculus.specs.Syntax.{unit, num, op, cell, exch, thread, handle, Exp, var, name, const, lam, app, Value, is-name, is-const, is-lam, is-exch, Component, thread-of, holds, open-for, used, awaited, Config, at}
+use Rattle.calculus.specs.Reduction.{substitute, Context, hole, in-function, in-argument, Has, put, Rule, BETA, THREAD-NEW, FUTURE-DEREF, HANDLE-NEW, HANDLE-BIND, CELL-NEW, CELL-EXCH}
+
+-- Fig. 3, document 01 "one place where two values meet": what an expression is. It is the value v; or F[f v], where the values f and v meet and
+-- f v is no value; or, only if it is not closed, a variable is in the way.
+pub data Place : Type 0 where
+  settled : (v : Exp) → Value v → Place
+  meet : Context → (f v : Exp) → Value f → Value v → Place
+  loose : Place
+
+-- two values side by side: exch applied to a value is a value (Fig. 1), the first line; else they meet, all others
+unfoldable pub beside : (f v : Exp) → Value f → Value v → Place
+beside f v (is-const {c = op exch t}) w = settled (app (const (op exch t)) v) (is-exch w)
+beside f v (is-const {c = unit}) w = meet hole f v is-const w
+beside f v (is-const {c = num n}) w = meet hole f v is-const w
+beside f v (is-const {c = op cell t}) w = meet hole f v is-const w
+beside f v (is-const {c = op thread t}) w = meet hole f v is-const w
+beside f v (is-const {c = op handle t}) w = meet hole f v is-const w
+beside f v is-name w = meet hole f v is-name w
+beside f v is-lam w = meet hole f v is-lam w
+beside f v (is-exch u) w = meet hole f v (is-exch u) w
+
+-- the place of an application, by those of its function and of its argument a: F e before v F (Fig. 3)
+unfoldable pub place-app : Place → Place → Exp → Place
+place-app (meet F f v wf wv) q a = meet (in-function F a) f v wf wv
+place-app loose q a = loose
+place-app (settled f wf) (meet F g v wg wv) a = meet (in-argument f wf F) g v wg wv
+place-app (settled f wf) loose a = loose
+place-app (settled f wf) (settled v wv) a = beside f v wf wv
+
+-- the place of an expression
+unfoldable pub place : Exp → Place
+place (var i) = loose
+place (name k) = settled (name k) is-name
+place (const c) = settled (const c) is-const
+place (lam t e) = settled (lam t e) is-lam
+place (app f a) = place-app (place f) (place a) a
+
+-- document 01, "A step": a rule with its outcome, waiting with the name needed, done; and causes 14 (no-thread), 16 (used-handle)
+-- and 17 (wrong-kind). Causes 12, 13 and 15 are about bytes and limits, and not the calculus's.
+pub data Answer : Type 0 where
+  rule : Rule → Config → Answer
+  waiting : ℕ → Answer
+  done no-thread used-handle wrong-kind : Answer
+
+-- document 01: "a thread that needs the value of a thread not done .. answers waiting with that name"
+unfoldable pub when-done : ℕ → Place → Answer → Answer
+when-done y (settled v w) answer = answer
+when-done y (meet F f v wf wv) answer = waiting y
+when-done y loose answer = waiting y
+
+-- F[y v] by y's component: FUTURE.DEREF, waiting, HANDLE.BIND, cause 16, else cause 17
+unfoldable pub step-call : Config → ℕ → Context → ℕ → Exp → Option Component → Answer
+step-call C x F y v (some (thread-of w)) = when-done y (place w) (rule FUTURE-DEREF (put C x F (app w v)))
+step-call C x F y v (some awaited) = waiting y
+step-call C x F z v (some (open-for y)) = rule HANDLE-BIND (set (set (put C x F (const unit)) y (thread-of v)) z used)
+step-call C x F z v (some used) = used-handle
+step-call C x F y v (some (holds w)) = wrong-kind
+step-call C x F y v none = wrong-kind
+
+-- F[exch y v] by y's component: FUTURE.DEREF, waiting, CELL.EXCH, else cause 17
+unfoldable pub step-exchange : Config → ℕ → Context → ℕ → ℕ → Exp → Option Component → Answer
+step-exchange C x F t y v (some (thread-of w)) = when-done y (place w) (rule FUTURE-DEREF (put C x F (app (app (const (op exch t)) w) v)))
+step-exchange C x F t y v (some awaited) = waiting y
+step-exchange C x F t y v (some (holds w)) = rule CELL-EXCH (set (put C x F w) y (holds v))
+step-exchange C x F t y v (some (open-for z)) = wrong-kind
+step-exchange C x F t y v (some used) = wrong-kind
+step-exchange C x F t y v none = wrong-kind
+
+-- F[f v] by what value f is: BETA, THREAD.NEW, HANDLE.NEW, CELL.NEW, the two above, else cause 17
+unfoldable pub step-meeting : Config → ℕ → Context → {f : Exp} → Value f → Exp → Answer
+step-meeting C x F (is-lam {t = t} {e = e}) v = rule BETA (put C x F (substitute 0 v e))
+step-meeting C x F (is-const {c = op thread t}) v = rule THREAD-NEW (put C x F (name (length C)) ++ (thread-of (app v (name (length C))) ∷ []))
+step-meeting C x F (is-name {k = y}) v = step-call C x F y v (at C y)
+step-meeting C x F (is-exch {t = t} (is-name {k = y})) v = step-exchange C x F t y v (at C y)
+step-meeting C x F (is-const {c = op handle t}) v =
+    rule HANDLE-NEW (put C x F (app (app v (name (length C))) (name (length C + 1))) ++ (awaited ∷ open-for (length C) ∷ []))
+step-meeting C x F (is-const {c = op cell t}) v = rule CELL-NEW (put C x F (name (length C)) ++ (holds v ∷ []))
+step-meeting C x F (is-const {c = unit}) v = wrong-kind
+step-meeting C x F (is-const {c = num n}) v = wrong-kind
+step-meeting C x F (is-const {c = op exch t}) v = wrong-kind
+step-meeting C x F (is-exch is-const) v = wrong-kind
+step-meeting C x F (is-exch is-lam) v = wrong-kind
+step-meeting C x F (is-exch (is-exch w)) v = wrong-kind
+
+-- document 01: "a thread whose expression is a value .. answers done"
+unfoldable pub step-place : Config → ℕ → Place → Answer
+step-place C x (settled v w) = done
+step-place C x (meet F f v wf wv) = step-meeting C x F wf v
+step-place C x loose = wrong-kind
+
+-- document 01, cause 14: "number is no thread"
+unfoldable pub step-component : Config → ℕ → Option Component → Answer
+step-component C x (some (thread-of e)) = step-place C x (place e)
+step-component C x (some (holds v)) = no-thread
+step-component C x (some (open-for y)) = no-thread
+step-component C x (some used) = no-thread
+step-component C x (some awaited) = no-thread
+step-component C x none = no-thread
+
+-- what a step of thread x of C answers. It is meant for what an image may hold (Image, `ImageRule`): cause 13 is tried before. Elsewhere HANDLE.BIND does
+-- not look at the future, `substitute` shifts nothing, and a variable in the way answers 17.
+unfoldable pub step-of : Config → ℕ → Answer
+step-of C x = step-component C x (at C x)
+
+-- Fig. 3, Ef: the place of thread x needs y's value, F[y v] or F[exch y v]
+pub data Needs (C : Config) (x y : ℕ) : Type 0 where
+  to-call : (F : Context) (v : Exp) → Value v → Has C x F (app (name y) v) → Needs C x y
+  to-exchange : (F : Context) (t : ℕ) (v : Exp) → Value v → Has C x F (app (app (const (op exch t)) (name y)) v) → Needs C x y
+
+-- document 01: y is "a thread not done, or a future not bound"
+pub data Unready (C : Config) (y : ℕ) : Type 0 where
+  not-done : (e : Exp) → ¬ Value e → at C y ≡ some (thread-of e) → Unready C y
+  not-bound : at C y ≡ some awaited → Unready C y
+
+-- document 01, cause 16, and the paper's handle error: the place of thread x applies a used handle z
+abbrev pub AppliesUsed : Config → ℕ → Type 0
+AppliesUsed C x = (F : Context) × (z : ℕ) × (v : Exp) × Value v × (Has C x F (app (name z) v)) × (at C z ≡ some used)
+
+-- document 01, cause 17: "two values meet" at the place of thread x
+abbrev pub Meets : Config → ℕ → Type 0
+Meets C x = (F : Context) × (f v : Exp) × Value f × Value v × (¬ Value (app f v)) × (Has C x F (app f v))

@@ -1,0 +1,46 @@
+-- Document 01's third demand, from the verdict: it holds of every run of every recipe that is accepted.
+use mathlib.Core.Path.{_≡_, refl}
+use mathlib.Core.Option.{some}
+use mathlib.Core.List.{List, [], _∷_}
+use Prim.Native.Nat.{suc, ℕ}
+use lib.ListN.{length}
+use Rattle.calculus.specs.Types.{many, LinType, multiplicity}
+use Rattle.calculus.specs.Syntax.{Exp, at, EachAll}
+use Rattle.calculus.specs.Typing.{NameTypes, Derivation}
+use Rattle.calculus.specs.Image.{ImageRule, Writable}
+use Rattle.calculus.specs.Run.{Call, after, Step, steps, Demand}
+use Rattle.calculus.specs.Table.{Table, TableRule, type-at}
+use Rattle.calculus.specs.Verdict.{type-number, verdict}
+use Rattle.calculus.specs.Recipe.{type-found, with-type, bay-types, start, Admitted}
+use Rattle.calculus.specs.Theory.Recipes.{Bays, no-bay, bay, BaysTyped, recipe-loaded, recipe-images, recipe-demand}
+use Rattle.calculus.specs.Theory.Verdict.{accepted-iff, verdict-iff, verdict-derived-iff}
+
+-- terms whose numbers have types with derivations have the types computed
+found-typed : (T : Table) {Σ : NameTypes} (es : List Exp) →
+    ((i : ℕ) (e : Exp) → at es i ≡ some e → (n : ℕ) × (α : LinType) × (type-number T [] e ≡ some n) × (type-at T n ≡ some α) × Derivation (type-at T) Σ [] e α × (multiplicity α ≡ many)) →
+    Bays (type-at T) Σ es (bay-types T es)
+unfolding bay-types type-found with-type
+found-typed T [] h = no-bay
+found-typed T (e ∷ es) h = let (n, α, p, q, d, m) = h 0 e refl in rw (p, q) (bay d m (found-typed T es (λ i. h (suc i))))
+
+pub bays-typed : {T : Table} → TableRule T → (es : List Exp) → verdict T es ≡ 0 → BaysTyped (type-at T) es (bay-types T es)
+bays-typed {T} R es accepted = found-typed T es λ i e h.
+    let (n, a) = verdict-iff T es .0 accepted i e h in
+    let (α, q, d, m, w) = accepted-iff R (length es) e n .0 a in
+    (n, α, a .no-cause-9, q, d, m)
+
+module _ {T : Table} {es : List Exp} (a : Admitted T es) (run : List Call) where
+  -- the third demand
+  pub demand : Demand (type-at T) (start T es) run
+  demand = recipe-demand (bays-typed (a .table) es (a .accepted)) (a .written) (a .bays) (a .size) run
+      (λ i e h. let (α, d, m, w) = verdict-derived-iff (a .table) es .0 (a .accepted) i e h in w)
+
+  -- every image, that loaded and those that steps are handed and leave, breaks no rule and no limit, and the node forms can write its indices, type
+  -- numbers and nums
+  pub image-loaded : ImageRule (start T es .config) × EachAll Writable (start T es .config)
+  image-loaded = recipe-loaded (bays-typed (a .table) es (a .accepted)) (a .written) (a .bays) (a .size) run
+
+  pub images : (i : ℕ) (n : Step) → at (steps (type-at T) (start T es) run) i ≡ some n →
+      (ImageRule (n .before .config) × EachAll Writable (n .before .config)) ×
+      (ImageRule (after (type-at T) (n .before) (n .call) .config) × EachAll Writable (after (type-at T) (n .before) (n .call) .config))
+  images = recipe-images (bays-typed (a .table) es (a .accepted)) (a .written) (a .bays) (a .size) run

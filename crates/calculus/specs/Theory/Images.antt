@@ -1,0 +1,128 @@
+-- Every step of a run is handed an image that keeps its rules and limits, and that the node forms can write.
+use mathlib.Core.Path.{_≡_}
+use mathlib.Core.Logic.{_⊎_, inl, inr}
+use mathlib.Core.Option.{some}
+use mathlib.Core.List.{List, [], _∷_}
+use Prim.Native.Nat.{_*_, _≤_, ℕ}
+use native.Mathlib.Omega.{arith}
+use Rattle.calculus.specs.Types.{once, LinType, multiplicity}
+use Rattle.calculus.specs.Syntax.{Const, unit, num, op, Exp, var, name, const, lam, app, Component, thread-of, holds, open-for, used, awaited, Config, at, constants, Each, each-var, each-name, each-const, each-lam, each-app, EachIn, EachAll}
+use Rattle.calculus.specs.Typing.{TypeNumbers}
+use Rattle.calculus.specs.Reduction.{Rule, Reduces}
+use Rattle.calculus.specs.Names.{OnceName}
+use Rattle.calculus.specs.Run.{State, Call, grown, after, Step, steps}
+use Rattle.calculus.specs.Limits.{image-bytes}
+use Rattle.calculus.specs.Image.{ClosedIn, NumSmall, nodes, const-bytes, bytes, sum-in, sum-all, image-length, WithinLimits, ImageRule, WritableConst, Writable}
+use Rattle.calculus.specs.Theory.Tests.{clash}
+use Rattle.calculus.specs.Theory.Lists.{at-bound, at-below}
+use Rattle.calculus.specs.Theory.Expressions.{derivation-closed}
+use Rattle.calculus.specs.Theory.Sound.{Fits, Sound, absent-of}
+use Rattle.calculus.specs.Theory.Replies.{after-keeps, run-keeps}
+use Rattle.calculus.specs.Theory.Runs.{SoundState}
+use Rattle.calculus.specs.Theory.Each.{each-step}
+use Rattle.calculus.specs.Theory.Preservation.{preservation}
+
+fits-closed : (τ : TypeNumbers) (S : List LinType) (C : Config) (x : ℕ) (c : Component) → Fits τ S C x c → ClosedIn c
+fits-closed τ S C x (thread-of e) f = derivation-closed (f .3)
+fits-closed τ S C x (holds e) f = derivation-closed (f .3)
+fits-closed τ S C x (open-for y) f = tt
+fits-closed τ S C x used f = tt
+fits-closed τ S C x awaited f = tt
+
+pub sound-image : {τ : TypeNumbers} {S : List LinType} {C : Config} → Sound τ S C → EachAll (constants NumSmall) C → WithinLimits C → ImageRule C
+sound-image {τ} {S} {C} s a w = record {
+  bound = λ x c h. fits-closed τ S C x c (s .fits x c h);
+  names-below = λ x c h k l. absent-of s k l x c (s .fits x c h);
+  small = a;
+  cells = λ x v h. s .fits x (holds v) h .2;
+  companions = λ z y h. s .fits z (open-for y) h .4;
+  futures = λ y h. let f = s .fits y awaited h in (f .0, f .1, λ z′ g. s .one-handle y z′ (f .0) g (f .1));
+  limits = w;
+}
+
+-- every name of a once type is a handle
+pub once-is-handle : {τ : TypeNumbers} {S : List LinType} {C : Config} → Sound τ S C → (k : ℕ) → OnceName S k →
+    ((y : ℕ) × (at C k ≡ some (open-for y))) ⊎ (at C k ≡ some used)
+once-is-handle {τ} {S} {C} s k o = let c = at-below C k (omega (arith, at-bound S k (o .1), s .sizes)) in go (c .0) (c .1)
+  where
+    t : at S k ≡ some (o .0)
+    t = o .1
+
+    m : multiplicity (o .0) ≡ once
+    m = o .2
+
+    go : (c : Component) → at C k ≡ some c → ((y : ℕ) × (at C k ≡ some (open-for y))) ⊎ (at C k ≡ some used)
+    go (thread-of e) h = let f = s .fits k (thread-of e) h in let p = f .1 in let q = f .2 in absurd (clash (cc (t, m)))
+    go (holds e) h = let f = s .fits k (holds e) h in let p = f .1 in absurd (clash (cc (t, m)))
+    go (open-for y) h = inl (y, h)
+    go used h = inr h
+    go awaited h = let f = s .fits k awaited h in let g = s .fits (f .0) (open-for k) (f .1) in
+        let p = g .2 in let q = g .3 in absurd (clash (cc (t, m)))
+
+-- what can be written has small nums
+writable-small : (c : Const) → WritableConst c → NumSmall c
+writable-small unit w = tt
+writable-small (num n) w = w
+writable-small (op o t) w = tt
+
+each-small : {e : Exp} → Each Writable e → Each (constants NumSmall) e
+each-small (each-var l) = each-var tt
+each-small each-name = each-name
+each-small (each-const {c = c} w) = each-const (writable-small c w)
+each-small (each-lam l s) = each-lam tt (each-small s)
+each-small (each-app p q) = each-app (each-small p) (each-small q)
+
+in-small : (c : Component) → EachIn Writable c → EachIn (constants NumSmall) c
+in-small (thread-of e) w = each-small w
+in-small (holds e) w = each-small w
+in-small (open-for y) w = tt
+in-small used w = tt
+in-small awaited w = tt
+
+-- no image is longer than 13,826 bytes: a node takes at most three
+const-bytes-bound : (c : Const) → const-bytes c ≤ 3
+unfolding const-bytes
+const-bytes-bound unit = omega arith
+const-bytes-bound (num n) = omega arith
+const-bytes-bound (op o t) = omega arith
+
+bytes-bound : (e : Exp) → bytes e ≤ 3 * nodes e
+unfolding bytes nodes
+bytes-bound (var i) = omega arith
+bytes-bound (name k) = omega arith
+bytes-bound (const c) = omega (arith, const-bytes-bound c)
+bytes-bound (lam t e) = omega (arith, bytes-bound e)
+bytes-bound (app f a) = omega (arith, bytes-bound f, bytes-bound a)
+
+sum-in-bound : (c : Component) → sum-in bytes c ≤ 3 * sum-in nodes c
+unfolding sum-in
+sum-in-bound (thread-of e) = bytes-bound e
+sum-in-bound (holds e) = bytes-bound e
+sum-in-bound (open-for y) = omega arith
+sum-in-bound used = omega arith
+sum-in-bound awaited = omega arith
+
+sum-bound : (C : Config) → sum-all bytes C ≤ 3 * sum-all nodes C
+unfolding sum-all
+sum-bound [] = omega arith
+sum-bound (c ∷ C) = omega (arith, sum-in-bound c, sum-bound C)
+
+pub image-fits : (C : Config) → WithinLimits C → image-length C ≤ image-bytes
+image-fits C w = omega (arith, sum-bound C, w .few-names, w .few-nodes)
+
+-- what is kept all through a run
+abbrev pub Good : TypeNumbers → State → Type 0
+Good τ s = SoundState τ s × EachAll Writable (s .config) × WithinLimits (s .config)
+
+pub good-image : {τ : TypeNumbers} {s : State} → Good τ s → ImageRule (s .config) × EachAll Writable (s .config)
+good-image (d, a, w) = (sound-image d (λ x c p. in-small c (a x c p)) w, a)
+
+good-kept : (τ : TypeNumbers) (s : State) → Good τ s → (x : ℕ) (r : Rule) (C′ : Config) → Reduces (s .config) x r C′ → WithinLimits C′ → Good τ (grown τ s x C′)
+good-kept τ s g x r C′ d w = (preservation (g .0) d, each-step Writable tt (g .1) d, w)
+
+-- every step of a run is handed an image that keeps its rules, which can be written, and leaves one
+pub run-images : (τ : TypeNumbers) (s : State) → Good τ s → (run : List Call) (i : ℕ) (n : Step) → at (steps τ s run) i ≡ some n →
+    (ImageRule (n .before .config) × EachAll Writable (n .before .config)) × (ImageRule (after τ (n .before) (n .call) .config) × EachAll Writable (after τ (n .before) (n .call) .config))
+run-images τ s g run i n h =
+    let b = run-keeps τ (Good τ) (good-kept τ) s g run i n h in
+    (good-image b, good-image (after-keeps τ (Good τ) (good-kept τ) (n .before) b (n .call)))

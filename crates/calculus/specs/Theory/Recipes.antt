@@ -1,0 +1,172 @@
+-- The state that a recipe with typed terms is loaded to is sound, so the third demand holds of every run from it.
+use mathlib.Core.Path.{_∙_, _≡_, ap, refl, sym}
+use mathlib.Core.Logic.{_⊎_, inl, inr}
+use mathlib.Core.Option.{some}
+use mathlib.Core.List.{List, [], _++_, _∷_, map}
+use Prim.Native.Nat.{_+_, _-_, _<_, _≤_, suc, zero, ℕ}
+use native.Mathlib.Decide.{decLt}
+use native.Mathlib.Omega.{arith}
+use lib.ListN.{length, length-append, length-map, length-replicate, replicate}
+use Rattle.calculus.specs.Types.{many, LinType, num-type, ref, multiplicity}
+use Rattle.calculus.specs.Syntax.{unit, num, Exp, const, is-const, Component, thread-of, holds, open-for, used, Config, at, Allowed, constants, Each, each-const, EachAll}
+use Rattle.calculus.specs.Typing.{TypeNumbers, NameTypes, of-num, no-once-nil, Derivation, d-const}
+use Rattle.calculus.specs.Narrowing.{NarrowConst, Narrow}
+use Rattle.calculus.specs.Names.{OnceName}
+use Rattle.calculus.specs.Run.{Call, after, Step, steps, Demand}
+use Rattle.calculus.specs.Recipe.{setting-types, loaded}
+use Rattle.calculus.specs.Limits.{max-bays, max-recipe-nodes}
+use Rattle.calculus.specs.Image.{nodes, sum-in, sum-all, nodes-all, WithinLimits, ImageRule, Writable}
+use Rattle.calculus.specs.Theory.Tests.{clash}
+use Rattle.calculus.specs.Theory.Lists.{append-below, append-right, append-cases, at-replicate, replicate-at}
+use Rattle.calculus.specs.Theory.Expressions.{more-names}
+use Rattle.calculus.specs.Theory.Configurations.{types-more}
+use Rattle.calculus.specs.Theory.Sound.{Fits}
+use Rattle.calculus.specs.Theory.Runs.{SoundState, run-demand}
+use Rattle.calculus.specs.Theory.Each.{each-append, run-each}
+use Rattle.calculus.specs.Theory.Images.{Good, good-image, run-images}
+
+-- the terms es have the types αs, each of multiplicity many, names being typed by Σ
+pub data Bays (τ : TypeNumbers) (Σ : NameTypes) : List Exp → List LinType → Type 0 where
+  no-bay : Bays τ Σ [] []
+  bay : {e : Exp} {α : LinType} {es : List Exp} {αs : List LinType} → Derivation τ Σ [] e α → multiplicity α ≡ many → Bays τ Σ es αs → Bays τ Σ (e ∷ es) (α ∷ αs)
+
+-- what Fig. 9 asks of a recipe: the terms have types where the names are the settings
+abbrev pub BaysTyped : TypeNumbers → List Exp → List LinType → Type 0
+BaysTyped τ es αs = Bays τ (setting-types (length es)) es αs
+
+bays-length : {τ : TypeNumbers} {Σ : NameTypes} {es : List Exp} {αs : List LinType} → Bays τ Σ es αs → length αs ≡ length es
+bays-length no-bay = refl
+bays-length (bay d m b) = ap suc (bays-length b)
+
+bay-at : {τ : TypeNumbers} {Σ : NameTypes} {es : List Exp} {αs : List LinType} → Bays τ Σ es αs → (i : ℕ) (c : Component) → at (map thread-of es) i ≡ some c →
+    (e : Exp) × (α : LinType) × (c ≡ thread-of e) × (at αs i ≡ some α) × (multiplicity α ≡ many) × Derivation τ Σ [] e α
+bay-at no-bay i c h = absurd (clash (cc))
+bay-at (bay {e = e} {α = α} d m b) zero c h = (e, α, cc, refl, m, d)
+bay-at (bay d m b) (suc i) c h = bay-at b i c h
+
+bays-many : {τ : TypeNumbers} {Σ : NameTypes} {es : List Exp} {αs : List LinType} → Bays τ Σ es αs → (i : ℕ) (α : LinType) → at αs i ≡ some α → multiplicity α ≡ many
+bays-many no-bay i α h = absurd (clash (cc))
+bays-many (bay {α = β} d m b) zero α h = let e : β ≡ α = cc in rw e at m
+bays-many (bay d m b) (suc i) α h = bays-many b i α h
+
+each-at : (Q : Allowed) (es : List Exp) → ((i : ℕ) (e : Exp) → at es i ≡ some e → Each Q e) → EachAll Q (map thread-of es)
+each-at Q [] f i c h = absurd (clash (cc))
+each-at Q (e ∷ es) f zero c h = let q : thread-of e ≡ c = cc in rw (← q) (f zero e refl)
+each-at Q (e ∷ es) f (suc i) c h = each-at Q es (λ i. f (suc i)) i c h
+
+start-each : (Q : Allowed) → Q .constant (num 0) → (es : List Exp) (αs : List LinType) → ((i : ℕ) (e : Exp) → at es i ≡ some e → Each Q e) →
+    EachAll Q (loaded es αs .config)
+unfolding loaded
+start-each Q zero-too es αs f = each-append Q (replicate (length es) (holds (const (num 0)))) (map thread-of es)
+    (λ k c h. rw (at-replicate (length es) _ k h .1) (each-const zero-too)) (each-at Q es f)
+
+-- what is loaded is within the limits
+nodes-append : (C D : Config) → nodes-all (C ++ D) ≡ nodes-all C + nodes-all D
+unfolding sum-all
+nodes-append [] D = omega arith
+nodes-append (c ∷ C) D = omega (arith, nodes-append C D)
+
+nodes-settings : (b : ℕ) → nodes-all (replicate b (holds (const (num 0)))) ≡ b
+unfolding sum-all sum-in nodes
+nodes-settings zero = refl
+nodes-settings (suc b) = omega (arith, nodes-settings b)
+
+start-within : (es : List Exp) (αs : List LinType) → length es ≤ max-bays → nodes-all (map thread-of es) ≤ max-recipe-nodes → WithinLimits (loaded es αs .config)
+unfolding loaded
+start-within es αs p q = record {
+  few-names = rw (length-append (replicate (length es) (holds (const (num 0)))) (map thread-of es), length-replicate, length-map) (omega arith);
+  few-nodes = rw (nodes-append (replicate (length es) (holds (const (num 0)))) (map thread-of es), nodes-settings (length es)) (omega arith);
+}
+
+-- what holds of every constant of the terms, of unit and of a setting's first value, holds of every constant all through a run
+recipe-each : (Q : Allowed) → Q .constant unit → Q .constant (num 0) → (τ : TypeNumbers) (es : List Exp) (αs : List LinType) →
+    ((i : ℕ) (e : Exp) → at es i ≡ some e → Each Q e) → (run : List Call) (i : ℕ) (n : Step) → at (steps τ (loaded es αs) run) i ≡ some n →
+    EachAll Q (n .before .config) × EachAll Q (after τ (n .before) (n .call) .config)
+recipe-each Q at-unit zero-too τ es αs f = run-each Q at-unit τ (loaded es αs) (start-each Q zero-too es αs f)
+
+module _ {τ : TypeNumbers} {es : List Exp} {αs : List LinType} (b : BaysTyped τ es αs) where
+  no-once-name : (k : ℕ) → ¬ OnceName (setting-types (length es) ++ αs) k
+  no-once-name k (α, t, m) = elim (decLt k (length es)) [
+    | yes l ↦
+        let p : at (setting-types (length es) ++ αs) k ≡ some (ref num-type) =
+        append-below (setting-types (length es)) αs k (rw length-replicate l) ∙ replicate-at (length es) (ref num-type) k l in
+        clash (cc)
+    | no l ↦
+        let e : k ≡ length (setting-types (length es)) + (k - length es) = rw length-replicate (omega arith) in
+        let p : at (setting-types (length es) ++ αs) k ≡ at αs (k - length es) =
+        ap (at (setting-types (length es) ++ αs)) e ∙ append-right (setting-types (length es)) αs (k - length es) in
+        let q : multiplicity α ≡ many = bays-many b (k - length es) α (sym p ∙ t) in
+        clash (cc)
+  ]
+
+  start-at : (k : ℕ) (c : Component) → at (loaded es αs .config) k ≡ some c →
+      ((k < length es) × (c ≡ holds (const (num 0)))) ⊎
+      ((i : ℕ) × (e : Exp) × (α : LinType) × (c ≡ thread-of e) × (k ≡ length es + i) × (at αs i ≡ some α) × (multiplicity α ≡ many) × Derivation τ (setting-types (length es)) [] e α)
+  unfolding loaded
+  start-at k c h = elim (append-cases (replicate (length es) (holds (const (num 0)))) (map thread-of es) k h) [
+    | inl q ↦ inl (at-replicate (length es) (holds (const (num 0))) k q)
+    | inr q ↦ let r = bay-at b (q .0) c (q .2) in
+        inr (q .0, r .0, r .1, r .2, (q .1 ∙ rw length-replicate), r .3, r .4, r .5)
+  ]
+
+  start-fits : (k : ℕ) (c : Component) → at (loaded es αs .config) k ≡ some c → Fits τ (setting-types (length es) ++ αs) (loaded es αs .config) k c
+  start-fits k c h = elim (start-at k c h) [
+    | inl q ↦ rw (q .1) (
+      num-type,
+      append-below (setting-types (length es)) αs k (rw length-replicate (q .0)) ∙ replicate-at (length es) (ref num-type) k (q .0),
+      is-const,
+      d-const no-once-nil of-num,
+    )
+    | inr q ↦ rw (q .3) (
+      q .2,
+      ap (at (setting-types (length es) ++ αs)) (let e : k ≡ length (setting-types (length es)) + q .0 = rw length-replicate (q .4) in e) ∙
+          append-right (setting-types (length es)) αs (q .0) ∙ q .5,
+      q .6,
+      more-names (types-more (setting-types (length es)) αs) (q .7),
+    )
+  ]
+
+  start-plain : (k : ℕ) (c : Component) → at (loaded es αs .config) k ≡ some c → ((v : Exp) × (c ≡ holds v)) ⊎ ((e : Exp) × (c ≡ thread-of e))
+  start-plain k c h = elim (start-at k c h) [ inl q ↦ inl (_, q .1) | inr q ↦ inr (q .1, q .3) ]
+
+  no-handle : (z y : ℕ) → ¬ (at (loaded es αs .config) z ≡ some (open-for y))
+  no-handle z y h = elim (start-plain z (open-for y) h) [
+    | inl q ↦ let e = q .1 in clash (cc)
+    | inr q ↦ let e = q .1 in clash (cc)
+  ]
+
+  none-used : (z : ℕ) → ¬ (at (loaded es αs .config) z ≡ some used)
+  none-used z h = elim (start-plain z used h) [
+    | inl q ↦ let e = q .1 in clash (cc)
+    | inr q ↦ let e = q .1 in clash (cc)
+  ]
+
+  pub start-sound : SoundState τ (loaded es αs)
+  unfolding loaded
+  start-sound = record {
+    sizes = simp (length-append, length-replicate, length-map) (ap (λ n. length es + n) (bays-length b));
+    fits = start-fits;
+    one-handle = λ y z z′ p q. absurd (no-handle z y p);
+    linear = λ k o. absurd (no-once-name k o);
+    outside = λ k o. absurd (no-once-name k o);
+    gone = λ k h. absurd (none-used k h);
+  }
+
+  -- document 01's third demand, of terms that can be written and are not too many; and every step is handed an image that breaks no rule and that can
+  -- be written
+  module _ (written : (i : ℕ) (e : Exp) → at es i ≡ some e → Each Writable e) (bays : length es ≤ max-bays) (size : nodes-all (map thread-of es) ≤ max-recipe-nodes)
+      (run : List Call) where
+    start-good : Good τ (loaded es αs)
+    start-good = (start-sound, start-each Writable (omega arith) es αs written, start-within es αs bays size)
+
+    pub recipe-loaded : ImageRule (loaded es αs .config) × EachAll Writable (loaded es αs .config)
+    recipe-loaded = good-image start-good
+
+    pub recipe-images : (i : ℕ) (n : Step) → at (steps τ (loaded es αs) run) i ≡ some n →
+        (ImageRule (n .before .config) × EachAll Writable (n .before .config)) × (ImageRule (after τ (n .before) (n .call) .config) × EachAll Writable (after τ (n .before) (n .call) .config))
+    recipe-images = run-images τ (loaded es αs) start-good run
+
+    pub recipe-demand : ((i : ℕ) (e : Exp) → at es i ≡ some e → Narrow τ e) → Demand τ (loaded es αs) run
+    recipe-demand narrow = run-demand (loaded es αs) start-sound run (λ i n h. recipe-images i n h .0 .0)
+        (start-each (constants (NarrowConst τ)) tt es αs narrow)
+        (λ i n h. recipe-each (constants (NarrowConst τ)) tt tt τ es αs narrow run i n h .1)
