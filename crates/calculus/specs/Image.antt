@@ -43,17 +43,17 @@ nodes (lam t e) = suc (nodes e)
 nodes (app f a) = suc (nodes f + nodes a)
 
 -- document 01, the table of node forms: how many bytes an expression takes, the tag and what is after it
-unfoldable pub const-bytes : Const → ℕ
-const-bytes unit = 1
-const-bytes (num n) = 3
-const-bytes (op o t) = 2
+unfoldable pub const-size : Const → ℕ
+const-size unit = 1
+const-size (num n) = 3
+const-size (op o t) = 2
 
-unfoldable pub bytes : Exp → ℕ
-bytes (var i) = 2
-bytes (name k) = 2
-bytes (const c) = const-bytes c
-bytes (lam t e) = 2 + bytes e
-bytes (app f a) = suc (bytes f + bytes a)
+unfoldable pub size : Exp → ℕ
+size (var i) = 2
+size (name k) = 2
+size (const c) = const-size c
+size (lam t e) = 2 + size e
+size (app f a) = suc (size f + size a)
 
 -- the sum over all expressions of a configuration
 unfoldable pub sum-in : (Exp → ℕ) → Component → ℕ
@@ -72,7 +72,7 @@ nodes-all C = sum-all nodes C
 
 -- document 01, "a two-byte m", "m heads of six bytes", "then the expressions": the length of the image that holds C
 abbrev pub image-length : Config → ℕ
-image-length C = 2 + 6 * length C + sum-all bytes C
+image-length C = 2 + 6 * length C + sum-all size C
 
 -- document 01, "At most 256 names and 4,096 nodes in all"
 pub record WithinLimits (C : Config) : Type 0 where

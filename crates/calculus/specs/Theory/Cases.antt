@@ -15,10 +15,10 @@ use Rattle.calculus.specs.Reduction.{substitute, plug, BETA, THREAD-NEW,
 use Rattle.calculus.specs.Names.{count, uses, OnceName, Outside, out-once, out-none, OnceNamesOnce}
 use Rattle.calculus.specs.Step.{beside, place-app, place, rule, waiting, done, no-thread, when-done, step-call, step-exchange, step-meeting, step-place, step-component, step-of}
 use Rattle.calculus.specs.NewTypes.{function-in, function-of, function-at, result-type, future-and-handle, coming, new-types}
-use Rattle.calculus.specs.Limits.{image-bytes}
+use Rattle.calculus.specs.Limits.{max-image-length}
 use Rattle.calculus.specs.Run.{State, Call, Reply, moved, waits, finished, refuses, reply-of, reply, leaves, after, Step, steps, replied, Binds, Demand}
 use Rattle.calculus.specs.Recipe.{loaded, type-found, with-type, bay-types, start, Admitted}
-use Rattle.calculus.specs.Image.{nodes, const-bytes, bytes, sum-in, sum-all, nodes-all, image-length, constant-test, expression-test, is-settled, is-awaited, handle-for, handles-for, component-test, each-test, limits-test, image-test, Writable}
+use Rattle.calculus.specs.Image.{nodes, const-size, size, sum-in, sum-all, nodes-all, image-length, constant-test, expression-test, is-settled, is-awaited, handle-for, handles-for, component-test, each-test, limits-test, image-test, Writable}
 use Rattle.calculus.specs.Table.{entry, Table, cell-reading, function-reading, read-entry, read-at, read-deep, type-at, test-entry, entry-test, entries-test, same-entry, new-to, distinct-test, entry-is, table-test}
 use Rattle.calculus.specs.Narrowing.{narrowed}
 use Rattle.calculus.specs.Verdict.{on-function, on-once-function, on-cell, is-many, scoped-const, scoped, is-cell-type, is-exch-type, is-thread-type, is-handle-type, annotated-const, annotated, const-number, on-number, result-number, applied-number, lambda-number, type-number, outside-many, linear-parameter, linear, every, verdict}
@@ -70,7 +70,7 @@ pub record Row : Type 0 where
 
 -- a step of thread x
 abbrev call : ℕ → Call
-call x = record { thread = x; buffer = image-bytes }
+call x = record { thread = x; buffer = max-image-length }
 
 -- a rule's number, or a cause's; 0 for done and waiting
 abbrev pub answer-number : Reply → ℕ
@@ -135,7 +135,7 @@ cases = refl
 
 -- case A's image has 18 bytes, as document 01 shows it
 case-A-length : image-length (start T3 (const unit ∷ []) .config) ≡ 18
-unfolding loaded sum-all sum-in bytes const-bytes
+unfolding loaded sum-all sum-in size const-size
 case-A-length = refl
 
 -- "The lowest number that fits wins, each cause tried over the whole file": the second bay's cause is one below the first bay's

@@ -11,8 +11,8 @@ use Rattle.calculus.specs.Typing.{TypeNumbers}
 use Rattle.calculus.specs.Reduction.{Rule, Reduces}
 use Rattle.calculus.specs.Names.{OnceName}
 use Rattle.calculus.specs.Run.{State, Call, grown, after, Step, steps}
-use Rattle.calculus.specs.Limits.{image-bytes}
-use Rattle.calculus.specs.Image.{ClosedIn, NumSmall, nodes, const-bytes, bytes, sum-in, sum-all, image-length, WithinLimits, ImageRule, WritableConst, Writable}
+use Rattle.calculus.specs.Limits.{max-image-length}
+use Rattle.calculus.specs.Image.{ClosedIn, NumSmall, nodes, const-size, size, sum-in, sum-all, image-length, WithinLimits, ImageRule, WritableConst, Writable}
 use Rattle.calculus.specs.Theory.Tests.{clash}
 use Rattle.calculus.specs.Theory.Lists.{at-bound, at-below}
 use Rattle.calculus.specs.Theory.Expressions.{derivation-closed}
@@ -80,34 +80,34 @@ in-small used w = tt
 in-small awaited w = tt
 
 -- no image is longer than 13,826 bytes: a node takes at most three
-const-bytes-bound : (c : Const) → const-bytes c ≤ 3
-unfolding const-bytes
-const-bytes-bound unit = omega arith
-const-bytes-bound (num n) = omega arith
-const-bytes-bound (op o t) = omega arith
+const-size-bound : (c : Const) → const-size c ≤ 3
+unfolding const-size
+const-size-bound unit = omega arith
+const-size-bound (num n) = omega arith
+const-size-bound (op o t) = omega arith
 
-bytes-bound : (e : Exp) → bytes e ≤ 3 * nodes e
-unfolding bytes nodes
-bytes-bound (var i) = omega arith
-bytes-bound (name k) = omega arith
-bytes-bound (const c) = omega (arith, const-bytes-bound c)
-bytes-bound (lam t e) = omega (arith, bytes-bound e)
-bytes-bound (app f a) = omega (arith, bytes-bound f, bytes-bound a)
+size-bound : (e : Exp) → size e ≤ 3 * nodes e
+unfolding size nodes
+size-bound (var i) = omega arith
+size-bound (name k) = omega arith
+size-bound (const c) = omega (arith, const-size-bound c)
+size-bound (lam t e) = omega (arith, size-bound e)
+size-bound (app f a) = omega (arith, size-bound f, size-bound a)
 
-sum-in-bound : (c : Component) → sum-in bytes c ≤ 3 * sum-in nodes c
+sum-in-bound : (c : Component) → sum-in size c ≤ 3 * sum-in nodes c
 unfolding sum-in
-sum-in-bound (thread-of e) = bytes-bound e
-sum-in-bound (holds e) = bytes-bound e
+sum-in-bound (thread-of e) = size-bound e
+sum-in-bound (holds e) = size-bound e
 sum-in-bound (open-for y) = omega arith
 sum-in-bound used = omega arith
 sum-in-bound awaited = omega arith
 
-sum-bound : (C : Config) → sum-all bytes C ≤ 3 * sum-all nodes C
+sum-bound : (C : Config) → sum-all size C ≤ 3 * sum-all nodes C
 unfolding sum-all
 sum-bound [] = omega arith
 sum-bound (c ∷ C) = omega (arith, sum-in-bound c, sum-bound C)
 
-pub image-fits : (C : Config) → WithinLimits C → image-length C ≤ image-bytes
+pub image-fits : (C : Config) → WithinLimits C → image-length C ≤ max-image-length
 image-fits C w = omega (arith, sum-bound C, w .few-names, w .few-nodes)
 
 -- what is kept all through a run

@@ -12,7 +12,7 @@ use Rattle.calculus.specs.Syntax.{Exp, thread-of, Config, at}
 use Rattle.calculus.specs.Typing.{TypeNumbers}
 use Rattle.calculus.specs.Reduction.{Rule, number, Reduces}
 use Rattle.calculus.specs.Step.{Answer, rule, waiting, done, no-thread, used-handle, wrong-kind, step-of}
-use Rattle.calculus.specs.Limits.{image-bytes}
+use Rattle.calculus.specs.Limits.{max-image-length}
 use Rattle.calculus.specs.Image.{WithinLimits, ImageRule, limits-test, image-test}
 use Rattle.calculus.specs.Run.{State, Call, Reply, moved, waits, finished, refuses, reply-of, reply, grown, leaves, after, Step, steps, Goes}
 use Rattle.calculus.specs.Theory.Tests.{clash, false-of, ltb-complete}
@@ -41,7 +41,7 @@ moved-answer C x wrong-kind h e = absurd (clash (cc))
 
 pub moved-means : (C : Config) (a : Call) {k : ℕ} {C′ : Config} → reply C a ≡ moved k C′ → Moves C (a .thread) k C′
 unfolding reply
-moved-means C a {k} {C′} = go (ltb (a .buffer) image-bytes) (image-test C)
+moved-means C a {k} {C′} = go (ltb (a .buffer) max-image-length) (image-test C)
   where
     go : (b w : Bool) → cond b (refuses 12) (cond w (reply-of (step-of C (a .thread))) (refuses 13)) ≡ moved k C′ → Moves C (a .thread) k C′
     go true w e = absurd (clash (cc))
@@ -125,27 +125,27 @@ refused-cause (refuses n) k c e = let q : n ≡ k = cc in rw q at c
 -- what a step answers on an image that keeps its rules where no thread goes wrong
 module _ (C : Config) (w : ImageRule C) (a : Call) (p : Proper (step-of C (a .thread))) where
   -- with a buffer that is long enough, what the step of the calculus answers
-  reply-long : ¬ (a .buffer < image-bytes) → reply C a ≡ reply-of (step-of C (a .thread))
+  reply-long : ¬ (a .buffer < max-image-length) → reply C a ≡ reply-of (step-of C (a .thread))
   unfolding reply
-  reply-long l = rw (not-less (a .buffer) image-bytes l, image-test-iff C .1 w) refl
+  reply-long l = rw (not-less (a .buffer) max-image-length l, image-test-iff C .1 w) refl
 
-  reply-short : a .buffer < image-bytes → reply C a ≡ refuses 12
+  reply-short : a .buffer < max-image-length → reply C a ≡ refuses 12
   unfolding reply
-  reply-short l = rw (ltb-complete (a .buffer) image-bytes l) refl
+  reply-short l = rw (ltb-complete (a .buffer) max-image-length l) refl
 
-  long : (k : ℕ) → ¬ (a .buffer < image-bytes) → reply C a ≡ refuses k → (k ≡ 14) ⊎ (k ≡ 15)
+  long : (k : ℕ) → ¬ (a .buffer < max-image-length) → reply C a ≡ refuses k → (k ≡ 14) ⊎ (k ≡ 15)
   long k l e = refused-cause (reply-of (step-of C (a .thread))) k (reply-causes (step-of C (a .thread)) p) (let q = reply-long l in cc)
 
   pub only-causes : (k : ℕ) → reply C a ≡ refuses k → (k ≡ 12) ⊎ ((k ≡ 14) ⊎ (k ≡ 15))
-  only-causes k e = elim (decLt (a .buffer) image-bytes) [ yes l ↦ inl (let q = reply-short l in cc) | no l ↦ inr (long k l e) ]
+  only-causes k e = elim (decLt (a .buffer) max-image-length) [ yes l ↦ inl (let q = reply-short l in cc) | no l ↦ inr (long k l e) ]
 
-  pub twelve-iff : (reply C a ≡ refuses 12) ↔ (a .buffer < image-bytes)
-  twelve-iff = (λ e. elim (decLt (a .buffer) image-bytes) [ yes l ↦ l | no l ↦ absurd (elim (long 12 l e) [ inl q ↦ omega arith | inr q ↦ omega arith ]) ], reply-short)
+  pub twelve-iff : (reply C a ≡ refuses 12) ↔ (a .buffer < max-image-length)
+  twelve-iff = (λ e. elim (decLt (a .buffer) max-image-length) [ yes l ↦ l | no l ↦ absurd (elim (long 12 l e) [ inl q ↦ omega arith | inr q ↦ omega arith ]) ], reply-short)
 
-  pub goes : ¬ (a .buffer < image-bytes) → (e : Exp) × (at C (a .thread) ≡ some (thread-of e)) → Goes (reply C a)
+  pub goes : ¬ (a .buffer < max-image-length) → (e : Exp) × (at C (a .thread) ≡ some (thread-of e)) → Goes (reply C a)
   goes l (u, h) = rw (reply-long l) (reply-goes (step-of C (a .thread)) p (λ q. no-thread-iff C (a .thread) .0 q u h))
 
-  pub fourteen-iff : ¬ (a .buffer < image-bytes) → (reply C a ≡ refuses 14) ↔ (¬ ((e : Exp) × (at C (a .thread) ≡ some (thread-of e))))
+  pub fourteen-iff : ¬ (a .buffer < max-image-length) → (reply C a ≡ refuses 14) ↔ (¬ ((e : Exp) × (at C (a .thread) ≡ some (thread-of e))))
   unfolding reply-of
   fourteen-iff l = (there, back)
     where
