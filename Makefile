@@ -1,3 +1,5 @@
 .PHONY: test
+
+# The gate, from nothing.
 test:
 	.ci/run
