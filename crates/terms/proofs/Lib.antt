@@ -1,0 +1,18 @@
+-- Laws and theorems on terms in bytes.
+
+-- a rule of a table, by one computed test
+pub mod Table
+-- numbers of several bytes
+pub mod Numbers
+-- the node at the front
+pub mod Heads
+-- the reader as a relation; its equation
+pub mod Reading
+-- bytes are one term exactly where they are the bytes of a well-formed tree
+pub mod Terms
+-- a list with a term at its front, seen through the node at its front
+pub mod Fronts
+-- a term at a position, seen through the node there
+pub mod Views
+-- expressions and their bytes
+pub mod Expressions
