@@ -12,7 +12,7 @@ use Rattle.calculus.specs.Lists.{tabulate, each-below, sum-below}
 use Rattle.calculus.specs.Image.{nodes, sum-in, sum-all, nodes-all}
 use Rattle.calculus.specs.Verdict.{every}
 use Rattle.calculus.specs.Theory.Tests.{and-true, and-parts}
-use Rattle.calculus.specs.Theory.Lists.{append-left, append-right}
+use Rattle.calculus.specs.Theory.Lists.{at-bound, at-below, at-past, same-at, append-left, append-right}
 
 module _ {A : Type 0} where
   pub length-tabulate : (n : ℕ) (f : ℕ → A) → length (tabulate n f) ≡ n
@@ -36,6 +36,20 @@ module _ {A : Type 0} where
   unfolding tabulate
   tabulate-same zero f g h = refl
   tabulate-same (suc n) f g h = ap₂ (λ (l : List A) (x : A). l ++ (x ∷ [])) (tabulate-same n f g (λ k l. h k (omega arith))) (h n (omega arith))
+
+-- what stands at a place is a value of f there
+pub tabulate-parts : {A : Type 0} (n : ℕ) (f : ℕ → A) (k : ℕ) (x : A) → at (tabulate n f) k ≡ some x → (k < n) × (x ≡ f k)
+tabulate-parts n f k x h = elim (decLt k n) [
+  | yes p ↦ (p, let q = tabulate-at n f k p in cc)
+  | no p ↦ absurd (let l = at-bound (tabulate n f) k h in p (omega (arith, length-tabulate n f)))
+]
+
+-- a list whose elements are the values of f
+pub tabulate-is : {A : Type 0} (n : ℕ) (f : ℕ → A) (l : List A) → length l ≡ n → ((k : ℕ) (x : A) → at l k ≡ some x → f k ≡ x) → tabulate n f ≡ l
+tabulate-is n f l e h = same-at (tabulate n f) l λ k. elim (decLt k n) [
+  | yes p ↦ let (x, q) = at-below l k (omega arith) in tabulate-at n f k p ∙ ap some (h k x q) ∙ sym q
+  | no p ↦ at-past (tabulate n f) k (omega (arith, length-tabulate n f)) ∙ sym (at-past l k (omega arith))
+]
 
 pub map-tabulate : {A B : Type 0} (g : A → B) (n : ℕ) (f : ℕ → A) → map g (tabulate n f) ≡ tabulate n (λ k. g (f k))
 unfolding tabulate
