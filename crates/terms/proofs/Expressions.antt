@@ -1,6 +1,6 @@
 -- Expressions and their bytes: an expression that fits is read back, and bytes are one term exactly where they are those of such an expression.
 use mathlib.Core.Path.{_≡_, ap, ap₂, refl, subst, sym, _∙_}
-use mathlib.Core.Bool.{Bool, false, or-false, or-true, true}
+use mathlib.Core.Bool.{Bool, false, false≢true, or-false, or-true, true}
 use mathlib.Core.Logic.{_↔_}
 use mathlib.Core.List.{List, [], _++_, _∷_, append-nil}
 use Prim.Native.Nat.{_%_, _+_, _<_, _≤_, suc, zero, ℕ}
@@ -18,7 +18,7 @@ use Rattle.calculus.specs.Theory.Expressions.{count-other, count-same}
 use Rattle.terms.specs.Numbers.{Bytes, little-endian}
 use Rattle.terms.specs.Forms.{form-of, forms, in-range, num-tag, subterms-of, tags}
 use Rattle.terms.specs.Tree.{InTable, Tree, leaf, one, tree-bytes, tree-depth, tree-nodes, tree-size, two, WellFormed}
-use Rattle.terms.specs.Reader.{end-at, first-rest, first-tree, got, GoodAt, read-term, tree-at}
+use Rattle.terms.specs.Reader.{end-at, first-rest, first-tree, Got, none, got, GoodAt, one-term, read-term, tree-at}
 use Rattle.terms.specs.Expressions.{bytes, const-bytes, const-tree, exp-of, Fits, leaf-exp, leaves, nesting, op-tag, term-at, TermAt, tree-of}
 use Rattle.terms.proofs.Table.{at, every}
 use Rattle.terms.proofs.Reading.{past-term}
@@ -32,11 +32,11 @@ leaf-rule : (test : Exp → Bool) (tag arg : ℕ) → T (every test (leaves arg)
 unfolding leaf-exp
 leaf-rule test tag arg all other = at test (leaves arg) (const unit) all other tag
 
-leaf-nodes : (tag arg : ℕ) → nodes (leaf-exp tag arg) ≡ 1
+pub leaf-nodes : (tag arg : ℕ) → nodes (leaf-exp tag arg) ≡ 1
 unfolding nodes leaves
 leaf-nodes tag arg = eqb→eq (nodes (leaf-exp tag arg)) 1 (leaf-rule (λ e. eqb (nodes e) 1) tag arg tt tt)
 
-leaf-nesting : (tag arg : ℕ) → nesting (leaf-exp tag arg) ≡ 1
+pub leaf-nesting : (tag arg : ℕ) → nesting (leaf-exp tag arg) ≡ 1
 unfolding nesting leaves
 leaf-nesting tag arg = eqb→eq (nesting (leaf-exp tag arg)) 1 (leaf-rule (λ e. eqb (nesting e) 1) tag arg tt tt)
 
@@ -320,6 +320,29 @@ one-term-iff l b = (
   λ (t, e). let (p, f) = one-term-is l t b e in (exp-of t, p, f),
   λ (e, p, f). (tree-of e, ap read-term (p ∙ sym (append-nil (bytes e))) ∙ read-written e [] f),
 )
+
+-- exactly one term
+one-term-parts : (g : Got) → one-term g ≡ true → (t : Tree) × (g ≡ got t [])
+unfolding one-term
+one-term-parts none e = absurd (false≢true e)
+one-term-parts (got t []) e = (t, refl)
+one-term-parts (got t (x ∷ rest)) e = absurd (false≢true e)
+
+pub one-term-sound : (l : List ℕ) → Bytes l → one-term (read-term l) ≡ true → (l ≡ bytes (term-at l 0)) × Fits (term-at l 0)
+unfolding term-at tree-at first-tree
+one-term-sound l b e = let (t, g) = one-term-parts (read-term l) e in rw g (one-term-is l t b g)
+
+-- the bytes of an expression are one term, that expression
+read-alone : (e : Exp) → Fits e → read-term (bytes e) ≡ got (tree-of e) []
+read-alone e f = ap read-term (sym (append-nil (bytes e))) ∙ read-written e [] f
+
+pub one-term-complete : (e : Exp) → Fits e → one-term (read-term (bytes e)) ≡ true
+unfolding one-term
+one-term-complete e f = rw (read-alone e f) refl
+
+pub term-of-bytes : (e : Exp) → Fits e → term-at (bytes e) 0 ≡ e
+unfolding term-at tree-at first-tree
+term-of-bytes e f = rw (read-alone e f) (exp-tree e)
 
 -- At a position
 

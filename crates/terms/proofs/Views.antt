@@ -1,8 +1,8 @@
 -- A term at a position of a list, seen through the node there: by the number of subterms, where the subterms stand, what the term is, and where
 -- it ends. Each walk of a term goes by these.
-use mathlib.Core.Path.{_≡_, ap, ap₂, subst, _∙_}
+use mathlib.Core.Path.{_≡_, ap, ap₂, refl, subst, _∙_}
 use mathlib.Core.List.{List}
-use Prim.Native.Nat.{_+_, _<_, _≤_, ℕ}
+use Prim.Native.Nat.{_+_, _<_, _≤_, suc, zero, ℕ}
 use native.Mathlib.Omega.{arith}
 use lib.ListN.{drop, length, length-drop}
 use lib.Seq.{drop-drop}
@@ -124,3 +124,12 @@ two-from {l} {at} {h} is g k =
       ends = omega (arith, ap tree-size t, head-is (drop at l) h is .at-size);
       onward = end-onward l (at + h .size);
     }
+
+-- the first subterm, whether or not there is a second
+pub first-good : {l : List ℕ} {at : ℕ} {h : Node} → head-at l at ≡ Is h → GoodAt l at → (h .subterms ≡ 0 → ⊥) → GoodAt l (at + h .size)
+first-good {l} {at} {h} is g not-0 = by (h .subterms) refl
+  where
+    by : (k : ℕ) → h .subterms ≡ k → GoodAt l (at + h .size)
+    by zero e = absurd (not-0 e)
+    by (suc zero) e = one-from is g e .good
+    by (suc (suc k)) e = two-from is g (omega (arith, node-at (g .inside) is .few)) .good

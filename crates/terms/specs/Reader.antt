@@ -1,7 +1,7 @@
 -- The reader: what term stands at the front of a list of bytes, if one does. It is defined for every list, a damaged one too.
 use mathlib.Core.Path.{_≡_}
 use mathlib.Core.Bool.{Bool, _&&_, false, true}
-use mathlib.Core.List.{List, []}
+use mathlib.Core.List.{List, [], _∷_}
 use Prim.Native.Nat.{_+_, _≤_, suc, zero, ℕ}
 use lib.Dec.{leb, ltb}
 use lib.ListN.{drop, getD, length}
@@ -83,6 +83,12 @@ read (suc n) l = read-with (read n) l
 -- the term at the front; none is deeper than it is long
 unfoldable pub read-term : List ℕ → Got
 read-term l = read (length l) l
+
+-- document 01, "exactly one term": a term was read, and no byte is over
+unfoldable pub one-term : Got → Bool
+one-term none = false
+one-term (got t []) = true
+one-term (got t (x ∷ rest)) = false
 
 abbrev pub tree-in : Got → Tree
 tree-in none = leaf 0 0

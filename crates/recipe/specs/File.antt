@@ -1,0 +1,90 @@
+-- Document 01, "The recipe file": opening, edition, pairs of offset and length, parts; causes 1 to 3 as tests.
+use mathlib.Core.Bool.{Bool, _&&_, _||_, cond, not}
+use mathlib.Core.List.{List, [], _∷_}
+use Prim.Native.Nat.{_%_, _*_, _+_, _-_, suc, zero, ℕ}
+use lib.Dec.{eqb, ltb}
+use lib.ListN.{drop, getD, length, take}
+use Rattle.calculus.specs.Limits.{min-file-length, max-file-length, min-parts, max-parts, min-entries, max-entries}
+
+-- document 01, "two-byte numbers are little-endian": the number at byte i. A byte past the end counts as 0, here and below.
+unfoldable pub word : List ℕ → ℕ → ℕ
+word s i = getD s i 0 + 256 * getD s (i + 1) 0
+
+-- document 01, "Bytes 0 and 1 are 4C 46"
+abbrev pub opening : List ℕ
+opening = 0x4C ∷ 0x46 ∷ []
+
+-- document 01, "Byte 2 is the edition, 01"
+abbrev pub edition : ℕ
+edition = 1
+
+-- document 01, "Byte 3 is n, the number of parts"
+unfoldable pub parts : List ℕ → ℕ
+parts s = getD s 3 0
+
+-- document 01, "one type table, then one term for each of b = n − 1 bays": what the parts are
+abbrev pub table-part : ℕ
+table-part = 0
+
+abbrev pub first-term : ℕ
+first-term = 1
+
+abbrev pub term-part : ℕ → ℕ
+term-part bay = first-term + bay
+
+unfoldable pub bays : List ℕ → ℕ
+bays s = parts s - first-term
+
+-- document 01, "Then n pairs of offset and length, two bytes each": where pair i stands; behind the last of n pairs it is 4 + 4n
+abbrev pub pair-at : ℕ → ℕ
+pair-at i = 4 + 4 * i
+
+unfoldable pub offset-of : List ℕ → ℕ → ℕ
+offset-of s i = word s (pair-at i)
+
+unfoldable pub length-of : List ℕ → ℕ → ℕ
+length-of s i = word s (pair-at i + 2)
+
+-- the part that pair i names
+unfoldable pub part : List ℕ → ℕ → List ℕ
+part s i = take (length-of s i) (drop (offset-of s i) s)
+
+-- n is below `least` or above `most`
+unfoldable pub outside : ℕ → ℕ → ℕ → Bool
+outside least most n = ltb n least || ltb most n
+
+-- document 01, cause 1: "file length outside 12 to 8,192"
+unfoldable pub cause-1 : List ℕ → Bool
+cause-1 s = outside min-file-length max-file-length (length s)
+
+-- document 01, cause 2: "first two bytes, edition, or n outside 2 to 17"
+unfoldable pub opens : List ℕ → Bool
+opens s = eqb (getD s 0 0) (getD opening 0 0) && eqb (getD s 1 0) (getD opening 1 0)
+
+unfoldable pub edition-known : List ℕ → Bool
+edition-known s = eqb (getD s 2 0) edition
+
+unfoldable pub cause-2 : List ℕ → Bool
+cause-2 s = not (opens s) || (not (edition-known s) || outside min-parts max-parts (parts s))
+
+-- document 01, "each next one where the former ends, the last ends with the file. No length is zero": k pairs, of which i is the first, and its part is to
+-- begin at `at`. Since parts go on from 4 + 4n to the end of the file, a file that is shorter fails (proofs.LaidOut, `pairs-cut`).
+unfoldable pub pairs-test : List ℕ → ℕ → ℕ → ℕ → Bool
+pairs-test s zero i at = eqb at (length s)
+pairs-test s (suc k) i at = eqb (offset-of s i) at && (not (eqb (length-of s i) 0) && pairs-test s k (i + 1) (at + length-of s i))
+
+-- document 01, "t entries of three bytes"
+abbrev pub entry-length : ℕ
+entry-length = 3
+
+-- document 01, cause 3: "table length no multiple of 3, or outside 9 to 768"
+unfoldable pub table-length-test : ℕ → Bool
+table-length-test n = eqb (n % entry-length) 0 && not (outside (entry-length * min-entries) (entry-length * max-entries) n)
+
+-- document 01, cause 3: "pairs break the layout", where "The first part begins at 4 + 4n"; or the table's length
+unfoldable pub cause-3 : List ℕ → Bool
+cause-3 s = not (pairs-test s (parts s) 0 (pair-at (parts s))) || not (table-length-test (length-of s table-part))
+
+-- document 01, "The lowest number that fits wins", for causes 1 to 3; 0 where none fits
+unfoldable pub layout-refusal : List ℕ → ℕ
+layout-refusal s = cond (cause-1 s) 1 (cond (cause-2 s) 2 (cond (cause-3 s) 3 0))

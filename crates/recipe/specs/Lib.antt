@@ -1,0 +1,6 @@
+-- Document 01, "The recipe file": causes 1 to 3, the parts.
+
+-- bytes, pairs and parts of a file; causes 1 to 3 as tests
+pub mod File
+-- the same as a proposition, one field for each sentence
+pub mod Laid

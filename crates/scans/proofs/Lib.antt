@@ -1,0 +1,15 @@
+-- What the proofs of the scans use, and what an answer says of the term there.
+
+-- several terms one after the other: the law of the loops
+pub mod Many
+-- from an answer to the term that stands there
+pub mod Answers
+-- nesting, by the number of subterms
+mod Depths
+-- a stack in an array
+mod Stack
+-- terms on levels of lambdas: the law of the loop with a stack
+mod Levels
+mod Walked
+-- scope of leaves, and scope as an image asks it
+pub mod Scopes

@@ -1,0 +1,6 @@
+-- What the scans of terms answer.
+
+-- where a term ends, and how many nodes it has
+pub mod Extents
+-- where a term ends that nests no deeper than a limit
+pub mod Depths

@@ -1,0 +1,199 @@
+// The type table: read by value, and its rules.
+ghost use mathlib.Core.Path.{_≡_};
+ghost use mathlib.Core.Bool.{_&&_};
+ghost use Prim.Native.Nat.{_+_, _<_, _≤_, _/_};
+ghost use lib.ListN.{length, getD, drop};
+ghost use Rattle.calculus.specs.Limits.{min-entries, max-entries};
+ghost use Rattle.calculus.specs.Table.{entry, entry-test, entries-test, same-entry, new-to, distinct-test, table-test};
+ghost use Rattle.recipe.specs.Laid.{Between, Laid};
+ghost use Rattle.table.specs.Entries.{table-of, type-table, cause-4, table-refusal};
+ghost use Rattle.table.specs.Filled.{unused, as-entry, as-table, filled, first-three};
+use recipe::ENTRY_LENGTH;
+use recipe::Recipe;
+use recipe::TABLE_PART;
+
+// An entry of the type table.
+pub struct Entry {
+    pub kind: u8,
+    pub p: u8,
+    pub q: u8,
+}
+
+// The entries that the bytes of a table say; unused ones are of kind 0.
+pub fn read_table(bytes: &[u8]) -> [Entry; Recipe::MAX_ENTRIES]
+    requires { ⌜ length (now bytes) / 3 ≤ max-entries ⌝ }
+    ensures { λ r. ⌜ r ≡ filled (table-of (now (bytes .entry))) ⌝ }
+{
+    let mut table = [Entry {
+        kind: 0,
+        p: 0,
+        q: 0,
+    }; Recipe::MAX_ENTRIES];
+    let count = bytes.len() / ENTRY_LENGTH;
+    let mut i = 0;
+    while i < count {
+        let at = ENTRY_LENGTH * i;
+        table[i] = Entry {
+            kind: bytes[at],
+            p: bytes[at + 1],
+            q: bytes[at + 2],
+        };
+        i += 1;
+    }
+    table
+}
+
+// The entry with number k keeps the rule of its kind.
+fn entry_stands(it: Entry, k: usize) -> bool
+    ensures { λ r. ⌜ r ≡ entry-test k (it .kind) (it .p) (it .q) ⌝ }
+{
+    let kind = it.kind;
+    let p = it.p as usize;
+    let q = it.q as usize;
+    if kind <= 1 {
+        return p == 0 && q == 0;
+    }
+    if kind == 2 {
+        return p < k && q == 0;
+    }
+    if kind <= 4 {
+        return p < k && q < k;
+    }
+    false
+}
+
+// Two entries are equal.
+fn is_same(a: Entry, b: Entry) -> bool
+    ensures { λ r. ⌜ r ≡ same-entry (as-entry a) (as-entry b) ⌝ }
+{
+    if a.kind != b.kind {
+        return false;
+    }
+    a.p == b.p && a.q == b.q
+}
+
+// Each entry keeps its rule.
+fn entries_stand(table: [Entry; Recipe::MAX_ENTRIES], count: usize) -> bool
+    requires { ⌜ count ≤ max-entries ⌝ }
+    ensures { λ r. ⌜ r ≡ entries-test 0 (as-table table count) ⌝ }
+{
+    let mut i = 0;
+    while i < count {
+        if !entry_stands(table[i], i) {
+            return false;
+        }
+        i += 1;
+    }
+    true
+}
+
+// No later entry equals entry i.
+fn is_new(table: [Entry; Recipe::MAX_ENTRIES], count: usize, i: usize) -> bool
+    requires { ⌜ (i < count) × (count ≤ max-entries) ⌝ }
+    ensures { λ r. ⌜ r ≡ new-to (as-entry (getD table i unused)) (drop (i + 1) (as-table table count)) ⌝ }
+{
+    let it = table[i];
+    let mut j = i + 1;
+    while j < count {
+        if is_same(it, table[j]) {
+            return false;
+        }
+        j += 1;
+    }
+    true
+}
+
+// No two entries are equal.
+fn entries_differ(table: [Entry; Recipe::MAX_ENTRIES], count: usize) -> bool
+    requires { ⌜ count ≤ max-entries ⌝ }
+    ensures { λ r. ⌜ r ≡ distinct-test (as-table table count) ⌝ }
+{
+    let mut i = 0;
+    while i < count {
+        if !is_new(table, count, i) {
+            return false;
+        }
+        i += 1;
+    }
+    true
+}
+
+// Entries 0, 1, 2 are unit, num, cell of num.
+fn first_stand(table: [Entry; Recipe::MAX_ENTRIES]) -> bool
+    ensures { λ r. ⌜ r ≡ first-three table ⌝ }
+{
+    if !is_same(
+        table[0],
+        Entry {
+            kind: 0,
+            p: 0,
+            q: 0,
+        },
+    ) {
+        return false;
+    }
+    if !is_same(
+        table[1],
+        Entry {
+            kind: 1,
+            p: 0,
+            q: 0,
+        },
+    ) {
+        return false;
+    }
+    is_same(
+        table[2],
+        Entry {
+            kind: 2,
+            p: 1,
+            q: 0,
+        },
+    )
+}
+
+// The table keeps its rules.
+pub fn table_stands(table: [Entry; Recipe::MAX_ENTRIES], count: usize) -> bool
+    requires { ⌜ Between min-entries max-entries count ⌝ }
+    ensures { λ r. ⌜ r ≡ table-test (as-table table count) ⌝ }
+{
+    if !entries_stand(table, count) {
+        return false;
+    }
+    if !entries_differ(table, count) {
+        return false;
+    }
+    first_stand(table)
+}
+
+// The type table of a recipe.
+pub fn table_in(recipe: &[u8]) -> [Entry; Recipe::MAX_ENTRIES]
+    requires { ⌜ Laid (now recipe) ⌝ }
+    ensures { λ r. ⌜ r ≡ filled (type-table (now (recipe .entry))) ⌝ }
+{
+    let bytes = recipe::part(recipe, TABLE_PART);
+    read_table(bytes)
+}
+
+// How many entries the type table of a recipe has.
+pub fn entry_count(recipe: &[u8]) -> usize
+    requires { ⌜ Laid (now recipe) ⌝ }
+    ensures { λ r. ⌜ r ≡ length (type-table (now (recipe .entry))) ⌝ }
+{
+    let bytes = recipe::part(recipe, TABLE_PART);
+    bytes.len() / ENTRY_LENGTH
+}
+
+// The lowest of causes 1 to 4 that fits, or 0.
+pub fn table_refusal(recipe: &[u8]) -> u8
+    ensures { λ r. ⌜ r ≡ table-refusal (now (recipe .entry)) ⌝ }
+{
+    let layout = recipe::layout_refusal(recipe);
+    if layout != 0 {
+        return layout;
+    }
+    if !table_stands(table_in(recipe), entry_count(recipe)) {
+        return 4;
+    }
+    0
+}

@@ -1,0 +1,32 @@
+-- Document 01, "one term for each of b = n − 1 bays": the bays' terms; causes 5 and 6.
+use mathlib.Core.Bool.{Bool, _||_, not}
+use mathlib.Core.List.{List}
+use Prim.Native.Nat.{ℕ}
+use lib.Dec.{leb, ltb}
+use Rattle.calculus.specs.Lists.{tabulate, each-below, sum-below}
+use Rattle.calculus.specs.Syntax.{Exp}
+use Rattle.calculus.specs.Limits.{max-nesting, max-recipe-nodes}
+use Rattle.calculus.specs.Image.{nodes}
+use Rattle.terms.specs.Reader.{one-term, read-term}
+use Rattle.terms.specs.Expressions.{nesting, term-at}
+use Rattle.recipe.specs.File.{bays, part, term-part}
+
+-- the part of a bay, and the expression that it says
+unfoldable pub bay-part : List ℕ → ℕ → List ℕ
+bay-part s bay = part s (term-part bay)
+
+unfoldable pub bay-term : List ℕ → ℕ → Exp
+bay-term s bay = term-at (bay-part s bay) 0
+
+unfoldable pub bay-terms : List ℕ → List Exp
+bay-terms s = tabulate (bays s) (bay-term s)
+
+-- document 01, cause 5: "a part is not exactly one term"
+unfoldable pub cause-5 : List ℕ → Bool
+cause-5 s = not (each-below (bays s) (λ bay. one-term (read-term (bay-part s bay))))
+
+-- document 01, cause 6: "nesting or nodes above the limit", "1,024 nodes over all terms"
+unfoldable pub cause-6 : List ℕ → Bool
+cause-6 s =
+    not (each-below (bays s) (λ bay. leb (nesting (bay-term s bay)) max-nesting))
+    || ltb max-recipe-nodes (sum-below (bays s) (λ bay. nodes (bay-term s bay)))

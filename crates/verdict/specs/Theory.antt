@@ -1,0 +1,6 @@
+-- The theorems about the verdict on a file.
+
+-- the bays' parts and terms: from the tests to the expressions, and back
+pub mod Bays
+-- accepted exactly when the file says a recipe that the papers ask for; the recipe is unique, and so are the types answered
+pub mod Accepted

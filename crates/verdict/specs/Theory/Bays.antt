@@ -1,0 +1,38 @@
+-- The bays' parts and terms: from the tests to the expressions, and back.
+use mathlib.Core.Path.{_≡_, ap, refl}
+use mathlib.Core.List.{List, [], _∷_}
+use Prim.Native.Nat.{_*_, _<_, suc, zero, ℕ}
+use native.Mathlib.Omega.{arith}
+use lib.ListN.{drop, getD, length, take}
+use Rattle.calculus.specs.Limits.{byte-values}
+use Rattle.calculus.specs.Table.{Table, entry}
+use Rattle.terms.specs.Numbers.{Bytes}
+use Rattle.terms.proofs.Terms.{bytes-drop}
+use Rattle.recipe.specs.File.{part, offset-of, length-of}
+use Rattle.table.specs.Entries.{table-of}
+use Rattle.verdict.specs.Recipe.{table-bytes}
+
+-- parts of a list of bytes are lists of bytes
+take-byte : (n i : ℕ) (l : List ℕ) → getD l i 0 < byte-values → getD (take n l) i 0 < byte-values
+take-byte zero i l b = omega arith
+take-byte (suc n) i [] b = omega arith
+take-byte (suc n) zero (x ∷ l) b = b
+take-byte (suc n) (suc i) (x ∷ l) b = take-byte n i l b
+
+pub part-bytes : (s : List ℕ) (i : ℕ) → Bytes s → Bytes (part s i)
+unfolding part
+part-bytes s i b k = take-byte (length-of s i) k (drop (offset-of s i) s) (bytes-drop (offset-of s i) s b k)
+
+-- the table: its bytes, and back
+pub table-bytes-of : (n : ℕ) (l : List ℕ) → length l ≡ 3 * n → table-bytes (table-of l) ≡ l
+unfolding table-bytes table-of
+table-bytes-of n [] e = refl
+table-bytes-of n (kind ∷ []) e = absurd (omega arith)
+table-bytes-of n (kind ∷ p ∷ []) e = absurd (omega arith)
+table-bytes-of zero (kind ∷ p ∷ q ∷ l) e = absurd (omega arith)
+table-bytes-of (suc n) (kind ∷ p ∷ q ∷ l) e = ap (λ r. kind ∷ p ∷ q ∷ r) (table-bytes-of n l (omega arith))
+
+pub table-of-bytes : (T : Table) → table-of (table-bytes T) ≡ T
+unfolding table-bytes table-of
+table-of-bytes [] = refl
+table-of-bytes (x ∷ T) = ap (λ r. entry (x .kind) (x .p) (x .q) ∷ r) (table-of-bytes T)
