@@ -2,10 +2,10 @@
 -- stand there. So some bytes are exactly one term where they are the bytes of a well-formed tree, and that tree is unique.
 use mathlib.Core.Path.{_≡_, refl, ap, sym, subst, subst⁻¹, _∙_}
 use mathlib.Core.Logic.{_↔_}
-use mathlib.Core.List.{List, [], _++_, append-assoc, append-nil}
-use Prim.Native.Nat.{ℕ, _+_}
+use mathlib.Core.List.{List, [], _++_, _∷_, append-assoc, append-nil}
+use Prim.Native.Nat.{ℕ, zero, suc, _+_}
 use native.Mathlib.Omega.{arith}
-use lib.ListN.{length, drop, length-append}
+use lib.ListN.{length, drop, take, length-append}
 use lib.Seq.{getD-drop}
 use Rattle.terms.specs.Numbers.{Bytes}
 use Rattle.terms.specs.Tree.{Tree, head-bytes, leaf, one, tree-bytes, tree-size, two, WellFormed}
@@ -16,6 +16,12 @@ use Rattle.terms.proofs.Reading.{Reads, leaf-reads, one-reads, two-read
 
 pub bytes-drop : (n : ℕ) (l : List ℕ) → Bytes l → Bytes (drop n l)
 bytes-drop n l b i = rw getD-drop (b (n + i))
+
+pub bytes-take : (n : ℕ) (l : List ℕ) → Bytes l → Bytes (take n l)
+bytes-take zero l b i = omega arith
+bytes-take (suc n) [] b i = omega arith
+bytes-take (suc n) (x ∷ l) b zero = b 0
+bytes-take (suc n) (x ∷ l) b (suc i) = bytes-take n l (λ k. b (suc k)) i
 
 bytes-after : {l : List ℕ} {t : Tree} {r : List ℕ} → Reads l t r → Bytes l → Bytes r
 bytes-after {l} {t} a b = rw (past a .rest) (bytes-drop (tree-size t) l b)

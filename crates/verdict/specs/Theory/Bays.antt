@@ -1,27 +1,20 @@
 -- The bays' parts and terms: from the tests to the expressions, and back.
 use mathlib.Core.Path.{_≡_, ap, refl}
 use mathlib.Core.List.{List, [], _∷_}
-use Prim.Native.Nat.{_*_, _<_, suc, zero, ℕ}
+use Prim.Native.Nat.{_*_, suc, zero, ℕ}
 use native.Mathlib.Omega.{arith}
-use lib.ListN.{drop, getD, length, take}
-use Rattle.calculus.specs.Limits.{byte-values}
+use lib.ListN.{drop, length}
 use Rattle.calculus.specs.Table.{Table, entry}
 use Rattle.terms.specs.Numbers.{Bytes}
-use Rattle.terms.proofs.Terms.{bytes-drop}
+use Rattle.terms.proofs.Terms.{bytes-drop, bytes-take}
 use Rattle.recipe.specs.File.{part, offset-of, length-of}
 use Rattle.table.specs.Entries.{table-of}
 use Rattle.verdict.specs.Recipe.{table-bytes}
 
 -- parts of a list of bytes are lists of bytes
-take-byte : (n i : ℕ) (l : List ℕ) → getD l i 0 < byte-values → getD (take n l) i 0 < byte-values
-take-byte zero i l b = omega arith
-take-byte (suc n) i [] b = omega arith
-take-byte (suc n) zero (x ∷ l) b = b
-take-byte (suc n) (suc i) (x ∷ l) b = take-byte n i l b
-
 pub part-bytes : (s : List ℕ) (i : ℕ) → Bytes s → Bytes (part s i)
 unfolding part
-part-bytes s i b k = take-byte (length-of s i) k (drop (offset-of s i) s) (bytes-drop (offset-of s i) s b k)
+part-bytes s i b = bytes-take (length-of s i) (drop (offset-of s i) s) (bytes-drop (offset-of s i) s b)
 
 -- the table: its bytes, and back
 pub table-bytes-of : (n : ℕ) (l : List ℕ) → length l ≡ 3 * n → table-bytes (table-of l) ≡ l
