@@ -4,7 +4,8 @@ use mathlib.Core.Bool.{false, true}
 use mathlib.Core.List.{List, [], _++_, _∷_}
 use Prim.Native.Nat.{_+_, suc, zero, ℕ}
 use lib.ListN.{replicate}
-use Rattle.recipe.specs.File.{word, parts, table-part, term-part, bays, pair-at, offset-of, length-of, part, outside, cause-1, opens, edition-known, cause-2, pairs-test, table-length-test, cause-3, layout-refusal}
+use Rattle.calculus.specs.Bytes.{word}
+use Rattle.recipe.specs.File.{parts, bays, table-bytes, term-bytes, pair-at, offset-of, length-of, part, outside, cause-1, opens, edition-known, cause-2, pairs-test, table-length-test, cause-3, layout-refusal}
 
 -- "table of three entries"
 abbrev table-3 : List ℕ
@@ -22,12 +23,12 @@ pub case-A-laid : layout-refusal case-A ≡ 0
 unfolding layout-refusal cause-1 cause-2 cause-3 outside opens edition-known parts pairs-test offset-of length-of word table-length-test
 case-A-laid = refl
 
-pub case-A-table : part case-A table-part ≡ table-3
-unfolding part offset-of length-of word
+pub case-A-table : table-bytes case-A ≡ table-3
+unfolding table-bytes part offset-of length-of word
 case-A-table = refl
 
-pub case-A-term : part case-A (term-part 0) ≡ 3 ∷ []
-unfolding part offset-of length-of word
+pub case-A-term : term-bytes case-A 0 ≡ 3 ∷ []
+unfolding term-bytes part offset-of length-of word
 case-A-term = refl
 
 pub case-A-bays : bays case-A ≡ 1

@@ -8,10 +8,10 @@ use native.Mathlib.Omega.{arith}
 use borrow.Author.Tests.{eq-eqb, eqb-true, eqb-false, le-ltb, ltb-false, ne-eqb, not-false, not-true}
 use lib.Dec.{eqb, ltb}
 use lib.ListN.{getD, length, length-drop, length-take, take}
-use Rattle.calculus.specs.Limits.{min-file-length, max-file-length, min-parts, max-parts, min-entries, max-entries}
+use Rattle.calculus.specs.Limits.{min-file-length, max-file-length, min-parts, max-parts, max-bays, min-entries, max-entries}
 use Rattle.calculus.specs.Theory.Tests.{and-true, and-parts}
-use Rattle.recipe.specs.File.{opening, edition, parts, table-part, pair-at, offset-of, length-of, part, outside, cause-1, opens, edition-known, cause-2, pairs-test, entry-length, table-length-test, cause-3, layout-refusal}
-use Rattle.recipe.specs.Laid.{Between, Laid, HasPart}
+use Rattle.recipe.specs.File.{opening, edition, parts, table-part, first-term, bays, pair-at, offset-of, length-of, part, table-bytes, outside, cause-1, opens, edition-known, cause-2, pairs-test, entry-length, table-length-test, cause-3, layout-refusal}
+use Rattle.recipe.specs.Laid.{Between, Laid, HasPart, HasBay}
 
 -- tests
 pub or-parts : (a b : Bool) → (a || b) ≡ false → (a ≡ false) × (b ≡ false)
@@ -50,7 +50,7 @@ opens-complete (a ∷ b ∷ s) e =
     and-true (eq-eqb a 0x4C p) (eq-eqb b 0x46 q)
 
 -- the pairs, as a proposition that goes by the number of pairs
-abbrev Chain : List ℕ → ℕ → ℕ → ℕ → Type 0
+abbrev pub Chain : List ℕ → ℕ → ℕ → ℕ → Type 0
 Chain s zero i at = at ≡ length s
 Chain s (suc k) i at = (offset-of s i ≡ at) × (0 < length-of s i) × Chain s k (i + 1) (at + length-of s i)
 
@@ -90,29 +90,29 @@ pairs-cut s k i at h = go (pairs-test s k i at) refl
     go false e = refl
 
 module _ (s : List ℕ) (c : Chain s (parts s) 0 (pair-at (parts s))) where
-  chain-first : 0 < parts s → offset-of s 0 ≡ pair-at (parts s)
+  pub chain-first : 0 < parts s → offset-of s 0 ≡ pair-at (parts s)
   chain-first h = go (parts s) h (pair-at (parts s)) c
     where
       go : (k : ℕ) → 0 < k → (at : ℕ) → Chain s k 0 at → offset-of s 0 ≡ at
       go zero h at c = absurd (omega arith)
       go (suc k) h at c = c .0
 
-  chain-next : (i : ℕ) → i + 1 < parts s → offset-of s (i + 1) ≡ offset-of s i + length-of s i
+  pub chain-next : (i : ℕ) → i + 1 < parts s → offset-of s (i + 1) ≡ offset-of s i + length-of s i
   chain-next i h =
       let (at, d) = chain-at s i (parts s) 0 (pair-at (parts s)) i (suc (suc (parts s - (i + 2)))) (omega arith) (omega arith) c in
       omega (arith, d .0, d .2 .0)
 
-  chain-last : (i : ℕ) → i + 1 ≡ parts s → offset-of s i + length-of s i ≡ length s
+  pub chain-last : (i : ℕ) → i + 1 ≡ parts s → offset-of s i + length-of s i ≡ length s
   chain-last i h =
       let (at, d) = chain-at s i (parts s) 0 (pair-at (parts s)) i (suc zero) (omega arith) (omega arith) c in
       omega (arith, d .0, d .2)
 
-  chain-some : (i : ℕ) → i < parts s → 0 < length-of s i
+  pub chain-some : (i : ℕ) → i < parts s → 0 < length-of s i
   chain-some i h =
       let (at, d) = chain-at s i (parts s) 0 (pair-at (parts s)) i (suc (parts s - (i + 1))) (omega arith) (omega arith) c in
       d .1
 
-  chain-inside : (i : ℕ) → i < parts s → offset-of s i + length-of s i ≤ length s
+  pub chain-inside : (i : ℕ) → i < parts s → offset-of s i + length-of s i ≤ length s
   chain-inside i h =
       let (at, d) = chain-at s i (parts s) 0 (pair-at (parts s)) i (suc (parts s - (i + 1))) (omega arith) (omega arith) c in
       omega (arith, d .0, chain-room s (parts s - (i + 1)) (i + 1) (at + length-of s i) (d .2))
@@ -126,7 +126,7 @@ chain-of s l (suc k) i at e f g =
       chain-of s l k (i + 1) (at + length-of s i) (omega arith) (λ h. omega (arith, l .next i (omega arith))) (λ h. omega (arith, l .last i (omega arith))),
     )
 
-chain : (s : List ℕ) → Laid s → Chain s (parts s) 0 (pair-at (parts s))
+pub chain : (s : List ℕ) → Laid s → Chain s (parts s) 0 (pair-at (parts s))
 chain s l = chain-of s l (parts s) 0 (pair-at (parts s)) (omega arith) (λ h. l .first) (λ h. absurd (omega (arith, l .has-parts .low)))
 
 -- the table's length
@@ -209,3 +209,31 @@ part-inside {s} {i} h = chain-inside s (chain s (h .laid)) i (h .below)
 pub length-part : {s : List ℕ} {i : ℕ} → HasPart s i → length (part s i) ≡ length-of s i
 unfolding part
 length-part {s} {i} h = let w = part-inside h in simp (length-take, length-drop) (omega arith)
+
+-- the table and the terms are parts
+pub table-is-part : {s : List ℕ} → Laid s → HasPart s table-part
+table-is-part l = record { laid = l; below = omega (arith, l .has-parts .low) }
+
+pub length-table-bytes : {s : List ℕ} → Laid s → length (table-bytes s) ≡ length-of s table-part
+unfolding table-bytes
+length-table-bytes l = length-part (table-is-part l)
+
+pub term-is-part : {s : List ℕ} {bay : ℕ} → HasBay s bay → HasPart s (first-term + bay)
+unfolding bays
+term-is-part h = record { laid = h .laid; below = omega (arith, h .below) }
+
+-- "2 to 17 parts", so 1 to 16 bays
+pub bays-between : {s : List ℕ} → Laid s → Between 1 max-bays (bays s)
+unfolding bays
+bays-between l = record { low = omega (arith, l .has-parts .low); high = omega (arith, l .has-parts .high) }
+
+-- "sorted by offset"
+sorted-by : (s : List ℕ) → Laid s → (i k : ℕ) → i + suc k < parts s → offset-of s i < offset-of s (i + suc k)
+sorted-by s l i zero h = let e : i + 1 ≡ i + suc zero = omega arith in rw (← e) (omega (arith, l .next i (omega arith), l .some-length i (omega arith)))
+sorted-by s l i (suc k) h =
+    let e : i + suc k + 1 ≡ i + suc (suc k) = omega arith in
+    let ih = sorted-by s l i k (omega arith) in
+    rw (← e) (omega (arith, l .next (i + suc k) (omega arith)))
+
+pub sorted : {s : List ℕ} → Laid s → (i j : ℕ) → i < j → j < parts s → offset-of s i < offset-of s j
+sorted {s} l i j h b = let e : i + suc (j - (i + 1)) ≡ j = omega arith in rw e at (sorted-by s l i (j - (i + 1)) (omega arith))

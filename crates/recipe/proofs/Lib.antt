@@ -4,5 +4,9 @@ pub mod LaidOut
 mod Causes
 -- the walk over the pairs
 mod Walks
+-- the file of its parts
+pub mod Wholes
 -- document 01's cases
 pub mod Cases
+-- the file of fitting parts
+pub mod Made

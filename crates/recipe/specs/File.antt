@@ -4,11 +4,8 @@ use mathlib.Core.List.{List, [], _∷_}
 use Prim.Native.Nat.{_%_, _*_, _+_, _-_, suc, zero, ℕ}
 use lib.Dec.{eqb, ltb}
 use lib.ListN.{drop, getD, length, take}
+use Rattle.calculus.specs.Bytes.{word}
 use Rattle.calculus.specs.Limits.{min-file-length, max-file-length, min-parts, max-parts, min-entries, max-entries}
-
--- document 01, "two-byte numbers are little-endian": the number at byte i. A byte past the end counts as 0, here and below.
-unfoldable pub word : List ℕ → ℕ → ℕ
-word s i = getD s i 0 + 256 * getD s (i + 1) 0
 
 -- document 01, "Bytes 0 and 1 are 4C 46"
 abbrev pub opening : List ℕ
@@ -21,19 +18,6 @@ edition = 1
 -- document 01, "Byte 3 is n, the number of parts"
 unfoldable pub parts : List ℕ → ℕ
 parts s = getD s 3 0
-
--- document 01, "one type table, then one term for each of b = n − 1 bays": what the parts are
-abbrev pub table-part : ℕ
-table-part = 0
-
-abbrev pub first-term : ℕ
-first-term = 1
-
-abbrev pub term-part : ℕ → ℕ
-term-part bay = first-term + bay
-
-unfoldable pub bays : List ℕ → ℕ
-bays s = parts s - first-term
 
 -- document 01, "Then n pairs of offset and length, two bytes each": where pair i stands; behind the last of n pairs it is 4 + 4n
 abbrev pub pair-at : ℕ → ℕ
@@ -48,6 +32,22 @@ length-of s i = word s (pair-at i + 2)
 -- the part that pair i names
 unfoldable pub part : List ℕ → ℕ → List ℕ
 part s i = take (length-of s i) (drop (offset-of s i) s)
+
+-- document 01, "one type table, then one term for each of b = n − 1 bays": what the parts are
+abbrev pub table-part : ℕ
+table-part = 0
+
+abbrev pub first-term : ℕ
+first-term = 1
+
+unfoldable pub bays : List ℕ → ℕ
+bays s = parts s - first-term
+
+unfoldable pub table-bytes : List ℕ → List ℕ
+table-bytes s = part s table-part
+
+unfoldable pub term-bytes : List ℕ → ℕ → List ℕ
+term-bytes s bay = part s (first-term + bay)
 
 -- n is below `least` or above `most`
 unfoldable pub outside : ℕ → ℕ → ℕ → Bool

@@ -5,7 +5,7 @@ use mathlib.Core.List.{List}
 use Prim.Native.Nat.{_*_, _+_, _<_, _≤_, ℕ}
 use lib.ListN.{getD, length, take}
 use Rattle.calculus.specs.Limits.{min-file-length, max-file-length, min-parts, max-parts, min-entries, max-entries}
-use Rattle.recipe.specs.File.{opening, edition, parts, table-part, pair-at, offset-of, length-of, entry-length}
+use Rattle.recipe.specs.File.{opening, edition, parts, table-part, bays, pair-at, offset-of, length-of, entry-length}
 
 -- n is from `least` to `most`
 pub record Between (least most n : ℕ) : Type 0 where
@@ -36,3 +36,8 @@ pub record Laid (s : List ℕ) : Type 0 where
 pub record HasPart (s : List ℕ) (i : ℕ) : Type 0 where
   pub laid : Laid s
   pub below : i < parts s
+
+-- a bay of such a file
+pub record HasBay (s : List ℕ) (bay : ℕ) : Type 0 where
+  pub laid : Laid s
+  pub below : bay < bays s

@@ -4,3 +4,5 @@
 pub mod File
 -- the same as a proposition, one field for each sentence
 pub mod Laid
+-- the file that some parts make
+pub mod Whole

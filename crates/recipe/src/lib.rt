@@ -2,16 +2,17 @@
 ghost use mathlib.Core.Path.{_≡_};
 ghost use Prim.Native.Nat.{_+_, _*_, _<_, _≤_};
 ghost use lib.ListN.{length};
+ghost use Rattle.calculus.specs.Bytes.{word};
 ghost use Rattle.calculus.specs.Limits.{min-file-length};
-ghost use Rattle.recipe.specs.File.{word, parts, bays, pair-at, offset-of, length-of, part, outside, cause-2, pairs-test, table-length-test, cause-3, layout-refusal};
-ghost use Rattle.recipe.specs.Laid.{Laid, HasPart};
+ghost use Rattle.recipe.specs.File.{bays, pair-at, offset-of, length-of, part, table-bytes, term-bytes, outside, cause-2, pairs-test, table-length-test, cause-3, layout-refusal};
+ghost use Rattle.recipe.specs.Laid.{Laid, HasPart, HasBay};
 
 mod cursor;
-mod limits;
+pub mod limits;
 
 use cursor::Cursor;
 
-// A recipe; its limits.
+// A recipe file, with its limits.
 pub struct Recipe {}
 
 impl Recipe {
@@ -41,9 +42,9 @@ pub const OPENING: [u8; 2] = *b"LF";
 pub const EDITION: u8 = 1;
 
 // What the parts are: the type table, then a term for each bay.
-pub const TABLE_PART: usize = 0;
+const TABLE_PART: usize = 0;
 
-pub const FIRST_TERM: usize = 1;
+const FIRST_TERM: usize = 1;
 
 // The bytes of an entry of the type table.
 pub const ENTRY_LENGTH: usize = 3;
@@ -192,4 +193,20 @@ pub fn part(recipe: &[u8], i: usize) -> &[u8]
     let start = offset_of(recipe, i);
     let size = length_of(recipe, i);
     &recipe[start..start + size]
+}
+
+// The bytes of the type table.
+pub fn table_bytes(recipe: &[u8]) -> &[u8]
+    requires { ⌜ Laid (now recipe) ⌝ }
+    ensures { λ r. ⌜ now r ≡ table-bytes (now (recipe .entry)) ⌝ }
+{
+    part(recipe, TABLE_PART)
+}
+
+// The bytes of a bay's term.
+pub fn term_bytes(recipe: &[u8], bay: usize) -> &[u8]
+    requires { ⌜ HasBay (now recipe) bay ⌝ }
+    ensures { λ r. ⌜ now r ≡ term-bytes (now (recipe .entry)) bay ⌝ }
+{
+    part(recipe, FIRST_TERM + bay)
 }

@@ -8,16 +8,19 @@ use native.Mathlib.Omega.{arith}
 use borrow.Author.Tests.{le-leb, leb-true}
 use lib.Dec.{leb}
 use lib.ListN.{drop, length, length-drop}
+use Rattle.calculus.specs.Bytes.{Bytes}
 use Rattle.calculus.specs.Syntax.{Exp}
 use Rattle.calculus.specs.Image.{nodes}
 use Rattle.calculus.specs.Theory.Tests.{clash}
-use Rattle.terms.specs.Numbers.{Bytes}
 use Rattle.terms.specs.Tree.{Tree, tree-nodes, tree-size}
 use Rattle.terms.specs.Reader.{end-at, first-rest, first-tree, Good, GoodAt, Got, got, none, read-term, tree-at}
 use Rattle.terms.specs.Expressions.{bytes, exp-of, Fits, term-at, tree-of}
 use Rattle.terms.proofs.Reading.{past-term}
+use Rattle.terms.proofs.Views.{end-inside, nodes-inside}
 use Rattle.terms.proofs.Fronts.{is-good, is-tree}
-use Rattle.terms.proofs.Expressions.{exp-tree, nodes-exp, one-term-is, read-written}
+use Rattle.terms.proofs.Sizes.{nodes-exp}
+use Rattle.terms.proofs.Trees.{exp-tree}
+use Rattle.terms.proofs.Expressions.{one-term-is, read-written}
 use Rattle.scans.specs.declared.Extent.{Extent}
 use Rattle.scans.specs.declared.Extent.the-variants.{Ends, Refused}
 use Rattle.scans.specs.declared.Part.the-variants.{Nodes, NoTerm}
@@ -65,6 +68,16 @@ small-stands b l at e n inside q = is (extent-at l at) refl q
     is : (x : Extent) → extent-at l at ≡ x → Ends e n ≡ small b x → Stands l at e n × (n ≤ b)
     is Refused r q = absurd (refused-ends (sym q))
     is (Ends x y) r q = let (p, le) = kept b x y e n (leb y b) refl q in (scan-stands l at e n inside (p ∙ sym r), le)
+
+-- a budget of all bytes is enough
+pub small-all : (l : List ℕ) (at : ℕ) → at ≤ length l → small (length l - at) (extent-at l at) ≡ extent-at l at
+small-all l at inside = is (extent-at l at) refl
+  where
+    is : (x : Extent) → extent-at l at ≡ x → small (length l - at) x ≡ x
+    is Refused q = refl
+    is (Ends e n) q =
+        let s = scan-stands l at e n inside (sym q) in
+        rw (le-leb n (length l - at) (omega (arith, s .count, nodes-at l at, nodes-inside l at, end-inside (s .good))))
 
 -- Exactly one term
 

@@ -12,7 +12,7 @@ use Rattle.terms.specs.declared.Head.the-variants.{Is}
 use Rattle.terms.specs.declared.Node.{Node}
 use Rattle.terms.specs.Reader.{end-at, GoodAt, head-at}
 use Rattle.terms.specs.Expressions.{leaf-exp, nesting, term-at}
-use Rattle.terms.proofs.Expressions.{leaf-nesting}
+use Rattle.terms.proofs.Leaves.{leaf-nesting}
 use Rattle.terms.proofs.Views.{LeafAt, node-at, one-from, OneAt, past-first, two-from, TwoAt}
 use Rattle.scans.specs.declared.Reach.{Reach}
 use Rattle.scans.specs.declared.Reach.the-variants.{End, TooDeep}

@@ -7,7 +7,7 @@ pub mod Answers
 -- nesting, by the number of subterms
 mod Depths
 -- a stack in an array
-mod Stack
+pub mod Stack
 -- terms on levels of lambdas: the law of the loop with a stack
 mod Levels
 mod Walked

@@ -1,7 +1,7 @@
 -- Scope of leaves, by the tag; and scope as an image asks it.
-use mathlib.Core.Path.{_≡_, ap₂, refl, sym, _∙_}
+use mathlib.Core.Path.{_≡_, ap, ap₂, refl, sym}
 use mathlib.Core.Bool.{_&&_, true}
-use Prim.Native.Nat.{_≤_, suc, zero, ℕ}
+use Prim.Native.Nat.{_<_, _≤_, suc, ℕ}
 use native.Mathlib.Omega.{arith}
 use borrow.Author.Tests.{lt-ltb}
 use lib.Dec.{ltb}
@@ -9,7 +9,10 @@ use Rattle.calculus.specs.Syntax.{Const, unit, num, op, Each, each-app, each-co
 use Rattle.calculus.specs.Limits.{byte-values, max-num}
 use Rattle.calculus.specs.Image.{constant-test, expression-test, Writable, WritableConst}
 use Rattle.calculus.specs.Verdict.{scoped, scoped-const}
+use Rattle.terms.specs.Forms.{tags}
 use Rattle.terms.specs.Expressions.{leaf-exp, leaves}
+use Rattle.terms.proofs.Table.{below, end-of-row, Row, _∣_}
+use Rattle.terms.proofs.Leaves.{leaf-unknown}
 
 module _ (types names lambdas arg : ℕ) where
   pub scoped-variable : (tag : ℕ) → tag ≡ 0 → ltb arg lambdas ≡ scoped types names lambdas (leaf-exp tag arg)
@@ -23,31 +26,36 @@ module _ (types names lambdas arg : ℕ) where
   -- cell, exch, thread, handle
   pub scoped-op : (tag : ℕ) → 5 ≤ tag → tag ≤ 8 → ltb arg types ≡ scoped types names lambdas (leaf-exp tag arg)
   unfolding scoped scoped-const leaf-exp leaves
-  scoped-op zero low high = absurd (omega arith)
-  scoped-op (suc zero) low high = absurd (omega arith)
-  scoped-op (suc (suc zero)) low high = absurd (omega arith)
-  scoped-op (suc (suc (suc zero))) low high = absurd (omega arith)
-  scoped-op (suc (suc (suc (suc zero)))) low high = absurd (omega arith)
-  scoped-op (suc (suc (suc (suc (suc zero))))) low high = refl
-  scoped-op (suc (suc (suc (suc (suc (suc zero)))))) low high = refl
-  scoped-op (suc (suc (suc (suc (suc (suc (suc zero))))))) low high = refl
-  scoped-op (suc (suc (suc (suc (suc (suc (suc (suc zero)))))))) low high = refl
-  scoped-op (suc (suc (suc (suc (suc (suc (suc (suc (suc n))))))))) low high = absurd (omega arith)
+  scoped-op tag low high = below row tag (omega arith) low
+    where
+      lower : (tag : ℕ) → tag < 5 → 5 ≤ tag → ltb arg types ≡ scoped types names lambdas (leaf-exp tag arg)
+      lower tag h low = absurd (omega arith)
 
-  -- lambda, application, unit, num, and what is no tag
-  pub scoped-plain : (tag : ℕ) → (tag ≡ 0 → ⊥) → (tag ≡ 9 → ⊥) → (5 ≤ tag → tag ≤ 8 → ⊥) → true ≡ scoped types names lambdas (leaf-exp tag arg)
+      row : Row (λ tag. 5 ≤ tag → ltb arg types ≡ scoped types names lambdas (leaf-exp tag arg)) 0 9
+      row =
+          lower 0 (omega arith)
+          ∣ lower 1 (omega arith)
+          ∣ lower 2 (omega arith)
+          ∣ lower 3 (omega arith)
+          ∣ lower 4 (omega arith)
+          ∣ (λ low. refl)
+          ∣ (λ low. refl)
+          ∣ (λ low. refl)
+          ∣ (λ low. refl)
+          ∣ end-of-row
+
+  -- lambda, application, unit, num
+  pub scoped-plain : (tag : ℕ) → (tag ≡ 0 → ⊥) → tag < 5 → true ≡ scoped types names lambdas (leaf-exp tag arg)
   unfolding scoped scoped-const leaf-exp leaves
-  scoped-plain zero not-0 not-9 not-op = absurd (not-0 refl)
-  scoped-plain (suc zero) not-0 not-9 not-op = refl
-  scoped-plain (suc (suc zero)) not-0 not-9 not-op = refl
-  scoped-plain (suc (suc (suc zero))) not-0 not-9 not-op = refl
-  scoped-plain (suc (suc (suc (suc zero)))) not-0 not-9 not-op = refl
-  scoped-plain (suc (suc (suc (suc (suc zero))))) not-0 not-9 not-op = absurd (not-op (omega arith) (omega arith))
-  scoped-plain (suc (suc (suc (suc (suc (suc zero)))))) not-0 not-9 not-op = absurd (not-op (omega arith) (omega arith))
-  scoped-plain (suc (suc (suc (suc (suc (suc (suc zero))))))) not-0 not-9 not-op = absurd (not-op (omega arith) (omega arith))
-  scoped-plain (suc (suc (suc (suc (suc (suc (suc (suc zero)))))))) not-0 not-9 not-op = absurd (not-op (omega arith) (omega arith))
-  scoped-plain (suc (suc (suc (suc (suc (suc (suc (suc (suc zero))))))))) not-0 not-9 not-op = absurd (not-9 refl)
-  scoped-plain (suc (suc (suc (suc (suc (suc (suc (suc (suc (suc n)))))))))) not-0 not-9 not-op = refl
+  scoped-plain tag not-0 high = below row tag high not-0
+    where
+      row : Row (λ tag. (tag ≡ 0 → ⊥) → true ≡ scoped types names lambdas (leaf-exp tag arg)) 0 5
+      row = (λ not-0. absurd (not-0 refl)) ∣ (λ not-0. refl) ∣ (λ not-0. refl) ∣ (λ not-0. refl) ∣ (λ not-0. refl) ∣ end-of-row
+
+  -- what is no tag
+  pub scoped-unknown : (tag : ℕ) → tags ≤ tag → true ≡ scoped types names lambdas (leaf-exp tag arg)
+  unfolding scoped scoped-const
+  scoped-unknown tag h = sym (ap (scoped types names lambdas) (leaf-unknown tag arg h))
 
 -- an image asks no more than this of an expression that can be written: document 01, "variables are bound inside them, names are below m, nums at
 -- most 1000, type bytes free"

@@ -43,39 +43,6 @@ pub fn max_nodes() -> usize
     Extent::MAX_NODES
 }
 
-pub fn scan(s: &[u8], at: usize) -> Extent
-    requires { ⌜ at ≤ length (now s) ⌝ }
-    ensures { λ r. ⌜ r ≡ extent-at (now (s .entry)) at ⌝ }
-{
-    let mut here = at;
-    let mut nodes: usize = 0;
-    let mut pending: usize = 1;
-    while 0 < pending {
-        let Head::Is(node) = terms::head_at(s, here) else {
-            return Extent::Refused;
-        };
-        let size = node.size;
-        let subterms = node.subterms;
-        here += size;
-        nodes += 1;
-        pending = pending - 1 + (subterms as usize);
-    }
-    Extent::Ends(here, nodes)
-}
-
-// Document 01, cause 5: whether a part is exactly one term.
-pub fn scan_part(s: &[u8]) -> Part
-    ensures { λ r. ⌜ r ≡ part-of (now (s .entry)) ⌝ }
-{
-    let Extent::Ends(end, nodes) = scan(s, 0) else {
-        return Part::NoTerm;
-    };
-    if end == s.len() {
-        return Part::Nodes(nodes);
-    }
-    Part::NoTerm
-}
-
 // One answer for what is no term and for what has too many nodes, so that the scan stops at the budget.
 pub fn scan_small(s: &[u8], at: usize, budget: usize) -> Extent
     requires { ⌜ at ≤ length (now s) ⌝ }
@@ -98,6 +65,27 @@ pub fn scan_small(s: &[u8], at: usize, budget: usize) -> Extent
         pending = pending - 1 + (subterms as usize);
     }
     Extent::Ends(here, nodes)
+}
+
+// No term has more nodes than bytes, so the budget is all of them.
+pub fn scan(s: &[u8], at: usize) -> Extent
+    requires { ⌜ at ≤ length (now s) ⌝ }
+    ensures { λ r. ⌜ r ≡ extent-at (now (s .entry)) at ⌝ }
+{
+    scan_small(s, at, s.len() - at)
+}
+
+// Document 01, cause 5: whether a part is exactly one term.
+pub fn scan_part(s: &[u8]) -> Part
+    ensures { λ r. ⌜ r ≡ part-of (now (s .entry)) ⌝ }
+{
+    let Extent::Ends(end, nodes) = scan(s, 0) else {
+        return Part::NoTerm;
+    };
+    if end == s.len() {
+        return Part::Nodes(nodes);
+    }
+    Part::NoTerm
 }
 
 // A walk by recursion that goes at most `left` deep: what falls is `left`.

@@ -11,12 +11,13 @@ use Rattle.calculus.specs.Limits.{max-entries}
 use Rattle.calculus.specs.Syntax.{at}
 use Rattle.calculus.specs.Table as calculus
 use Rattle.calculus.specs.Theory.Lists.{at-past}
+use Rattle.recipe.specs.File.{entry-length}
 use Rattle.table.specs.declared.Entry.{Entry}
 use Rattle.table.specs.Entries.{table-of}
 use Rattle.table.specs.Filled.{unused, as-entry, by-value, as-table, filled}
 
 -- the number of entries that the bytes say, and entry i of them
-pub length-table-of : (l : List ℕ) → length (table-of l) ≡ length l / 3
+pub length-table-of : (l : List ℕ) → length (table-of l) ≡ length l / entry-length
 unfolding table-of
 length-table-of [] = refl
 length-table-of (a ∷ []) = refl
@@ -26,7 +27,7 @@ length-table-of (a ∷ b ∷ c ∷ l) = let h = length-table-of l in omega arith
 abbrev blank : calculus.Entry
 blank = calculus.entry 0 0 0
 
-pub table-of-at : (l : List ℕ) (i j : ℕ) → j ≡ 3 * i → i < length l / 3 →
+pub table-of-at : (l : List ℕ) (i j : ℕ) → j ≡ 3 * i → i < length l / entry-length →
     getD (table-of l) i blank ≡ calculus.entry (getD l j 0) (getD l (j + 1) 0) (getD l (j + 2) 0)
 unfolding table-of
 table-of-at [] i j e h = absurd (omega arith)
@@ -79,6 +80,9 @@ unfolding as-table filled
 as-table-filled T count e =
     let n : length (map by-value T) ≡ count = length-map T by-value ∙ sym e in
     rw (take-at (map by-value T) (replicate (max-entries - length T) unused) count n) (there-and-back T)
+
+pub read-table-is : (l : List ℕ) → as-table (filled (table-of l)) (length l / entry-length) ≡ table-of l
+read-table-is l = as-table-filled (table-of l) (length l / entry-length) (sym (length-table-of l))
 
 at-getD : {A : Type 0} (l : List A) (i : ℕ) (d : A) → i < length l → at l i ≡ some (getD l i d)
 at-getD [] i d h = absurd (omega arith)

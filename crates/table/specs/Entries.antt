@@ -3,7 +3,7 @@ use mathlib.Core.Bool.{Bool, cond, not}
 use mathlib.Core.List.{List, [], _∷_}
 use Prim.Native.Nat.{ℕ}
 use Rattle.calculus.specs.Table.{entry, Table, table-test}
-use Rattle.recipe.specs.File.{table-part, part, cause-1, cause-2, cause-3}
+use Rattle.recipe.specs.File.{table-bytes, cause-1, cause-2, cause-3}
 
 -- the entries that the bytes of a table say; bytes that make no whole entry say none
 unfoldable pub table-of : List ℕ → Table
@@ -14,7 +14,7 @@ table-of (kind ∷ p ∷ q ∷ l) = entry kind p q ∷ table-of l
 
 -- the type table of a file
 unfoldable pub type-table : List ℕ → Table
-type-table s = table-of (part s table-part)
+type-table s = table-of (table-bytes s)
 
 -- document 01, cause 4: "a type entry breaks its rule"
 unfoldable pub cause-4 : List ℕ → Bool

@@ -7,6 +7,7 @@ use Rattle.calculus.specs.Limits.{max-entries}
 use Rattle.calculus.specs.Table as calculus
 use Rattle.table.specs.declared.Entry.{Entry}
 
+-- what stands behind the entries of a table
 abbrev pub unused : Entry
 unused = record { kind = 0; p = 0; q = 0 }
 
@@ -14,6 +15,7 @@ unused = record { kind = 0; p = 0; q = 0 }
 abbrev pub as-entry : Entry → calculus.Entry
 as-entry x = calculus.entry (x .kind) (x .p) (x .q)
 
+-- and the other way
 abbrev pub by-value : calculus.Entry → Entry
 by-value x = record { kind = x .kind; p = x .p; q = x .q }
 
@@ -21,7 +23,7 @@ by-value x = record { kind = x .kind; p = x .p; q = x .q }
 unfoldable pub as-table : List Entry → ℕ → calculus.Table
 as-table a count = map as-entry (take count a)
 
--- a table as an array
+-- a table as an array of 256 entries, if it has no more
 unfoldable pub filled : calculus.Table → List Entry
 filled T = map by-value T ++ replicate (max-entries - length T) unused
 

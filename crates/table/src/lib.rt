@@ -5,12 +5,12 @@ ghost use Prim.Native.Nat.{_+_, _<_, _≤_, _/_};
 ghost use lib.ListN.{length, getD, drop};
 ghost use Rattle.calculus.specs.Limits.{min-entries, max-entries};
 ghost use Rattle.calculus.specs.Table.{entry, entry-test, entries-test, same-entry, new-to, distinct-test, table-test};
+ghost use Rattle.recipe.specs.File.{entry-length};
 ghost use Rattle.recipe.specs.Laid.{Between, Laid};
-ghost use Rattle.table.specs.Entries.{table-of, type-table, cause-4, table-refusal};
+ghost use Rattle.table.specs.Entries.{table-of, type-table, table-refusal};
 ghost use Rattle.table.specs.Filled.{unused, as-entry, as-table, filled, first-three};
 use recipe::ENTRY_LENGTH;
 use recipe::Recipe;
-use recipe::TABLE_PART;
 
 // An entry of the type table.
 pub struct Entry {
@@ -19,16 +19,38 @@ pub struct Entry {
     pub q: u8,
 }
 
+// An entry that is not used.
+const UNUSED: Entry = Entry {
+    kind: 0,
+    p: 0,
+    q: 0,
+};
+
+// The first three entries of every table.
+const UNIT: Entry = Entry {
+    kind: 0,
+    p: 0,
+    q: 0,
+};
+
+const NUM: Entry = Entry {
+    kind: 1,
+    p: 0,
+    q: 0,
+};
+
+const CELL_OF_NUM: Entry = Entry {
+    kind: 2,
+    p: 1,
+    q: 0,
+};
+
 // The entries that the bytes of a table say; unused ones are of kind 0.
 pub fn read_table(bytes: &[u8]) -> [Entry; Recipe::MAX_ENTRIES]
-    requires { ⌜ length (now bytes) / 3 ≤ max-entries ⌝ }
+    requires { ⌜ length (now bytes) / entry-length ≤ max-entries ⌝ }
     ensures { λ r. ⌜ r ≡ filled (table-of (now (bytes .entry))) ⌝ }
 {
-    let mut table = [Entry {
-        kind: 0,
-        p: 0,
-        q: 0,
-    }; Recipe::MAX_ENTRIES];
+    let mut table = [UNUSED; Recipe::MAX_ENTRIES];
     let count = bytes.len() / ENTRY_LENGTH;
     let mut i = 0;
     while i < count {
@@ -122,34 +144,13 @@ fn entries_differ(table: [Entry; Recipe::MAX_ENTRIES], count: usize) -> bool
 fn first_stand(table: [Entry; Recipe::MAX_ENTRIES]) -> bool
     ensures { λ r. ⌜ r ≡ first-three table ⌝ }
 {
-    if !is_same(
-        table[0],
-        Entry {
-            kind: 0,
-            p: 0,
-            q: 0,
-        },
-    ) {
+    if !is_same(table[0], UNIT) {
         return false;
     }
-    if !is_same(
-        table[1],
-        Entry {
-            kind: 1,
-            p: 0,
-            q: 0,
-        },
-    ) {
+    if !is_same(table[1], NUM) {
         return false;
     }
-    is_same(
-        table[2],
-        Entry {
-            kind: 2,
-            p: 1,
-            q: 0,
-        },
-    )
+    is_same(table[2], CELL_OF_NUM)
 }
 
 // The table keeps its rules.
@@ -171,7 +172,7 @@ pub fn table_in(recipe: &[u8]) -> [Entry; Recipe::MAX_ENTRIES]
     requires { ⌜ Laid (now recipe) ⌝ }
     ensures { λ r. ⌜ r ≡ filled (type-table (now (recipe .entry))) ⌝ }
 {
-    let bytes = recipe::part(recipe, TABLE_PART);
+    let bytes = recipe::table_bytes(recipe);
     read_table(bytes)
 }
 
@@ -180,7 +181,7 @@ pub fn entry_count(recipe: &[u8]) -> usize
     requires { ⌜ Laid (now recipe) ⌝ }
     ensures { λ r. ⌜ r ≡ length (type-table (now (recipe .entry))) ⌝ }
 {
-    let bytes = recipe::part(recipe, TABLE_PART);
+    let bytes = recipe::table_bytes(recipe);
     bytes.len() / ENTRY_LENGTH
 }
 

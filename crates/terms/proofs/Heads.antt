@@ -9,25 +9,26 @@ use borrow.Author.Tests.{ltb-true, leb-true, lt-ltb, le-ltb, le-leb, lt-leb, eq-
 use lib.Dec.{leb, ltb, leb→le}
 use lib.ListN.{length, getD, drop, length-append}
 use lib.Seq.{drop-at}
+use Rattle.calculus.specs.Bytes.{Bytes}
 use Rattle.calculus.specs.Limits.{max-num}
 use Rattle.terms.specs.declared.Form.{Form}
 use Rattle.terms.specs.declared.Head.the-variants.{Is, Bad}
 use Rattle.terms.specs.declared.Node.{Node}
-use Rattle.terms.specs.Numbers.{Bytes, little-endian, value-of}
+use Rattle.terms.specs.Numbers.{little-endian, value-of}
 use Rattle.terms.specs.Forms.{form, form-of, forms, in-range, num-tag, operand-of, subterms-of, tags}
 use Rattle.terms.specs.Tree.{head-bytes, InTable}
 use Rattle.terms.specs.Reader.{head-of, head-stands, pick-head, front-operand, front-node}
-use Rattle.terms.proofs.Table.{at}
+use Rattle.terms.proofs.Table.{every-at}
 use Rattle.terms.proofs.Numbers.{length-little-endian, value-bytes, value-fits, bytes-value}
 
 -- the table's rules: at most two subterms, and at most two bytes after the tag
 pub subterms-at-most : (tag : ℕ) → subterms-of tag ≤ 2
 unfolding form-of forms
-subterms-at-most tag = leb→le (subterms-of tag) 2 (at (λ (f : Form). leb (f .subterms) 2) forms (form 0 0) tt tt tag)
+subterms-at-most tag = leb→le (subterms-of tag) 2 (every-at (λ (f : Form). leb (f .subterms) 2) forms (form 0 0) tt tt tag)
 
 pub operand-at-most : (tag : ℕ) → operand-of tag ≤ 2
 unfolding form-of forms
-operand-at-most tag = leb→le (operand-of tag) 2 (at (λ (f : Form). leb (f .operand) 2) forms (form 0 0) tt tt tag)
+operand-at-most tag = leb→le (operand-of tag) 2 (every-at (λ (f : Form). leb (f .operand) 2) forms (form 0 0) tt tt tag)
 
 -- what `head-of` says where it finds a node
 pub record Heads (l : List ℕ) (h : Node) : Type 0 where

@@ -1,6 +1,6 @@
 -- Laws and theorems on terms in bytes.
 
--- a rule of a table, by one computed test
+-- rules of a table
 pub mod Table
 -- numbers of several bytes
 pub mod Numbers
@@ -14,5 +14,13 @@ pub mod Terms
 pub mod Fronts
 -- a term at a position, seen through the node there
 pub mod Views
--- expressions and their bytes
+-- leaves by their tag
+pub mod Leaves
+-- nodes, nesting and bytes of a term
+pub mod Sizes
+-- an expression and the tree that it is written as
+pub mod Trees
+-- expressions and their bytes: the theorems
 pub mod Expressions
+-- terms of the bay cases, computed
+mod Cases

@@ -5,7 +5,8 @@ use Prim.Native.Nat.{ℕ, zero, suc, _+_, _*_, _/_, _%_, _^_, _<_, _≤_}
 use native.Mathlib.Nat.{pow-suc, one-le-pow, zero-lt-suc, le-of-suc-le-suc, not-suc-le-zero}
 use native.Mathlib.Omega.{arith}
 use lib.ListN.{length, getD, drop}
-use Rattle.terms.specs.Numbers.{Bytes, little-endian, value-of}
+use Rattle.calculus.specs.Bytes.{Bytes}
+use Rattle.terms.specs.Numbers.{little-endian, value-of}
 
 pub length-little-endian : (k n : ℕ) → length (little-endian k n) ≡ k
 unfolding little-endian

@@ -1,34 +1,43 @@
--- A rule of a table, proved at all of its entries by one test that antt computes. It holds at each index, also past the end, where the
--- default stands.
-use mathlib.Core.Path.{_≡_, refl}
+-- Rules of a table, proved at all of its entries at once.
+use mathlib.Core.Path.{_≡_, subst}
 use mathlib.Core.Bool.{Bool, _&&_, false, true}
 use mathlib.Core.List.{List, [], _∷_}
-use Prim.Native.Nat.{ℕ, zero, suc, _<_}
-use native.Mathlib.Nat.{le-of-suc-le-suc, not-suc-le-zero}
+use Prim.Native.Nat.{_+_, _<_, suc, zero, ℕ}
+use native.Mathlib.Nat.{zero-add}
+use native.Mathlib.Omega.{arith}
 use lib.Dec.{T}
-use lib.ListN.{length, getD}
+use lib.ListN.{getD}
 
-pub both-left : (a b : Bool) → T (a && b) → T a
+-- by one test that antt computes. It holds at each index, also past the end, where the default stands.
+both-left : (a b : Bool) → T (a && b) → T a
 both-left true b t = tt
 both-left false b t = t
 
-pub both-right : (a b : Bool) → T (a && b) → T b
+both-right : (a b : Bool) → T (a && b) → T b
 both-right true b t = t
 both-right false b t = absurd t
 
-module _ {A : Type 0} (f : A → Bool) where
+module _ {A : Type 0} (test : A → Bool) where
   -- the test passes at each entry
   abbrev pub every : List A → Bool
   every [] = true
-  every (x ∷ xs) = f x && every xs
+  every (x ∷ xs) = test x && every xs
 
-  pub at : (xs : List A) (d : A) → T (every xs) → T (f d) → (k : ℕ) → T (f (getD xs k d))
-  at [] d t td k = td
-  at (x ∷ xs) d t td zero = both-left (f x) (every xs) t
-  at (x ∷ xs) d t td (suc k) = at xs d (both-right (f x) (every xs) t) td k
+  pub every-at : (xs : List A) (d : A) → T (every xs) → T (test d) → (k : ℕ) → T (test (getD xs k d))
+  every-at [] d t td k = td
+  every-at (x ∷ xs) d t td zero = both-left (test x) (every xs) t
+  every-at (x ∷ xs) d t td (suc k) = every-at xs d (both-right (test x) (every xs) t) td k
 
--- an entry of the table does not depend on the default
-pub entry : {A : Type 0} (xs : List A) (d e : A) (k : ℕ) → k < length xs → getD xs k d ≡ getD xs k e
-entry [] d e k h = absurd (not-suc-le-zero h)
-entry (x ∷ xs) d e zero h = refl
-entry (x ∷ xs) d e (suc k) h = entry xs d e k (le-of-suc-le-suc h)
+infixr 20 _∣_
+-- by a row of proofs, one for each of the n numbers from k on
+pub data Row (P : ℕ → Type 0) : ℕ → ℕ → Type 0 where
+  end-of-row : {k : ℕ} → Row P k zero
+  _∣_ : {k n : ℕ} → P k → Row P (suc k) n → Row P k (suc n)
+
+row-at : {P : ℕ → Type 0} {k n : ℕ} → Row P k n → (i : ℕ) → i < n → P (k + i)
+row-at end-of-row i h = absurd (omega arith)
+row-at {P} {k} (p ∣ r) zero h = let e : k ≡ k + zero = omega arith in subst P e p
+row-at {P} {k} (p ∣ r) (suc i) h = let e : suc k + i ≡ k + suc i = omega arith in subst P e (row-at r i (omega arith))
+
+pub below : {P : ℕ → Type 0} {n : ℕ} → Row P 0 n → (i : ℕ) → i < n → P i
+below {P} r i h = subst P (zero-add i) (row-at r i h)

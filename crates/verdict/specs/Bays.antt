@@ -9,21 +9,18 @@ use Rattle.calculus.specs.Limits.{max-nesting, max-recipe-nodes}
 use Rattle.calculus.specs.Image.{nodes}
 use Rattle.terms.specs.Reader.{one-term, read-term}
 use Rattle.terms.specs.Expressions.{nesting, term-at}
-use Rattle.recipe.specs.File.{bays, part, term-part}
+use Rattle.recipe.specs.File.{bays, term-bytes}
 
--- the part of a bay, and the expression that it says
-unfoldable pub bay-part : List ℕ → ℕ → List ℕ
-bay-part s bay = part s (term-part bay)
-
+-- the expression that a bay's part says
 unfoldable pub bay-term : List ℕ → ℕ → Exp
-bay-term s bay = term-at (bay-part s bay) 0
+bay-term s bay = term-at (term-bytes s bay) 0
 
 unfoldable pub bay-terms : List ℕ → List Exp
 bay-terms s = tabulate (bays s) (bay-term s)
 
 -- document 01, cause 5: "a part is not exactly one term"
 unfoldable pub cause-5 : List ℕ → Bool
-cause-5 s = not (each-below (bays s) (λ bay. one-term (read-term (bay-part s bay))))
+cause-5 s = not (each-below (bays s) (λ bay. one-term (read-term (term-bytes s bay))))
 
 -- document 01, cause 6: "nesting or nodes above the limit", "1,024 nodes over all terms"
 unfoldable pub cause-6 : List ℕ → Bool

@@ -14,13 +14,13 @@ use Rattle.calculus.specs.Image.{nodes-all}
 use Rattle.calculus.specs.Table.{Table, TableRule, type-at}
 use Rattle.calculus.specs.Recipe.{setting-types}
 use Rattle.terms.specs.Expressions.{bytes, Fits, nesting}
-use Rattle.recipe.specs.File.{bays, part, table-part, term-part}
+use Rattle.recipe.specs.File.{bays, table-bytes, term-bytes}
 use Rattle.recipe.specs.Laid.{Laid}
 
 -- document 01, "entries of three bytes: kind, p, q"
-unfoldable pub table-bytes : Table → List ℕ
-table-bytes [] = []
-table-bytes (x ∷ T) = x .kind ∷ x .p ∷ x .q ∷ table-bytes T
+unfoldable pub entry-bytes : Table → List ℕ
+entry-bytes [] = []
+entry-bytes (x ∷ T) = x .kind ∷ x .p ∷ x .q ∷ entry-bytes T
 
 -- the paper: a bay's term has a derivation by Figs. 8 and 9, with document 01's handle type, narrowing and a many type
 abbrev pub Derived : Table → ℕ → Exp → Type 0
@@ -30,11 +30,11 @@ pub record Recipe (s : List ℕ) (T : Table) (es : List Exp) : Type 0 where
   -- causes 1 to 3: the layout and its limits
   pub laid : Laid s
   -- cause 4: the first part is the table, and it keeps its rule
-  pub table : part s table-part ≡ table-bytes T
+  pub table : table-bytes s ≡ entry-bytes T
   pub table-rule : TableRule T
   -- cause 5: each other part is the bytes of an expression that the node forms can write
   pub count : length es ≡ bays s
-  pub terms : (bay : ℕ) (e : Exp) → at es bay ≡ some e → (part s (term-part bay) ≡ bytes e) × Fits e
+  pub terms : (bay : ℕ) (e : Exp) → at es bay ≡ some e → (term-bytes s bay ≡ bytes e) × Fits e
   -- cause 6: nesting, and nodes over all terms
   pub shallow : (bay : ℕ) (e : Exp) → at es bay ≡ some e → nesting e ≤ max-nesting
   pub few-nodes : nodes-all (map thread-of es) ≤ max-recipe-nodes

@@ -16,7 +16,7 @@ use Rattle.calculus.specs.Theory.Tests.{clash}
 use Rattle.calculus.specs.Theory.Lists.{set-cases, append-cases}
 use Rattle.calculus.specs.Theory.Replies.{after-keeps, run-keeps}
 
-each-substitute : {Q : Allowed} (depth : ℕ) {v e : Exp} → Each Q v → Each Q e → Each Q (substitute depth v e)
+pub each-substitute : {Q : Allowed} (depth : ℕ) {v e : Exp} → Each Q v → Each Q e → Each Q (substitute depth v e)
 unfolding substitute
 each-substitute {Q} depth {v} w (each-var {i = i} a) = go (eqb i depth)
   where

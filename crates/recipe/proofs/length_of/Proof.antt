@@ -1,8 +1,9 @@
 -- `recipe::length_of` meets its contract.
 use mathlib.Core.Path.{_∙_, ap}
 use Prim.Native.Nat.{_+_, ℕ}
-use Rattle.recipe.specs.File.{word, length-of}
+use Rattle.recipe.specs.File.{length-of}
 use borrow.Author.Needs.{needs}
+use Rattle.calculus.specs.Bytes.{word}
 use Rattle.recipe.proofs.length_of.Statement.{statement}
 use Rattle.recipe.proofs.length_of.Tie as tie
 

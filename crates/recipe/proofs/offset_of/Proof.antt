@@ -1,8 +1,9 @@
 -- `recipe::offset_of` meets its contract.
 use mathlib.Core.Path.{_∙_, ap}
 use Prim.Native.Nat.{ℕ}
-use Rattle.recipe.specs.File.{word, offset-of}
+use Rattle.recipe.specs.File.{offset-of}
 use borrow.Author.Needs.{needs}
+use Rattle.calculus.specs.Bytes.{word}
 use Rattle.recipe.proofs.offset_of.Statement.{statement}
 use Rattle.recipe.proofs.offset_of.Tie as tie
 

@@ -1,6 +1,6 @@
 -- `recipe::word_at` meets its contract.
-use Rattle.recipe.specs.File.{word}
 use borrow.Author.Needs.{needs}
+use Rattle.calculus.specs.Bytes.{word}
 use Rattle.recipe.proofs.word_at.Statement.{statement}
 use Rattle.recipe.proofs.word_at.Tie as tie
 

@@ -1,4 +1,5 @@
--- `scans::scan_small` meets its contract: as `scan`, with the nodes within the budget.
+-- `scans::scan_small` meets its contract. The loop's invariant: reading the terms still to come from here on gives the answer (proofs/Many.antt), and
+-- the nodes read are within the budget. The measure is what is still unread.
 use mathlib.Core.Path.{_≡_, ap, sym, _∙_}
 use Prim.Native.Nat.{_-_, _≤_, zero-le}
 use native.Mathlib.Omega.{arith}

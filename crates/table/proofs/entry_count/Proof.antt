@@ -7,11 +7,11 @@ use borrow.Author.Needs.{needs}
 use Rattle.table.proofs.entry_count.Statement.{statement}
 use Rattle.table.proofs.entry_count.Tie as tie
 
-part-requires : tie.Need-part-requires
-part-requires c κs = search needs
+table-bytes-requires : tie.Need-table-bytes-requires
+table-bytes-requires c κs = search needs
 
 returns : tie.Need-returns
-returns c = omega (arith, length-table (c .before .before .pre), ap length (c .part .ensures))
+returns c = omega (arith, length-table (c .before .before .pre), ap length (c .table-bytes .ensures))
 
 pub entry-count-spec : {M : Type 1} → statement M
-entry-count-spec = tie.close (tie.spec part-requires returns)
+entry-count-spec = tie.close (tie.spec table-bytes-requires returns)

@@ -11,15 +11,15 @@ use borrow.Author.Needs.{needs}
 use Rattle.table.proofs.table_in.Statement.{statement}
 use Rattle.table.proofs.table_in.Tie as tie
 
-part-requires : tie.Need-part-requires
-part-requires c κs = search needs
+table-bytes-requires : tie.Need-table-bytes-requires
+table-bytes-requires c κs = search needs
 
 read-table-requires : tie.Need-read-table-requires
-read-table-requires c κs = omega (arith, count-fits (c .before .before .pre), ap length (c .part .ensures))
+read-table-requires c κs = omega (arith, count-fits (c .before .before .pre), ap length (c .table-bytes .ensures))
 
 returns : tie.Need-returns
 unfolding type-table
-returns c = c .read-table .ensures ∙ ap (λ (l : List ℕ). filled (table-of l)) (c .before .part .ensures)
+returns c = c .read-table .ensures ∙ ap (λ (l : List ℕ). filled (table-of l)) (c .before .table-bytes .ensures)
 
 pub table-in-spec : {M : Type 1} → statement M
-table-in-spec = tie.close (tie.spec part-requires read-table-requires returns)
+table-in-spec = tie.close (tie.spec table-bytes-requires read-table-requires returns)

@@ -5,10 +5,11 @@ use mathlib.Core.Logic.{_↔_}
 use mathlib.Core.Bool.{Bool, cond, false, not, true, false≢true}
 use mathlib.Core.Option.{some}
 use mathlib.Core.List.{List, [], _∷_}
-use Prim.Native.Nat.{_<_, _≤_, suc, zero, ℕ}
+use Prim.Native.Nat.{_+_, _<_, _≤_, suc, zero, ℕ}
 use native.Mathlib.Omega.{arith}
 use lib.Dec.{leb, ltb}
 use lib.ListN.{getD, length}
+use Rattle.calculus.specs.Bytes.{Bytes}
 use Rattle.calculus.specs.Lists.{tabulate, each-below, sum-below}
 use Rattle.calculus.specs.Types.{many, LinType, multiplicity}
 use Rattle.calculus.specs.Syntax.{Exp, at}
@@ -23,18 +24,17 @@ use Rattle.calculus.specs.Theory.Lists.{at-bound, at-below}
 use Rattle.calculus.specs.Theory.Tabulate.{length-tabulate, tabulate-at, tabulate-parts, tabulate-is, each-below-sound, each-below-complete, nodes-tabulate}
 use Rattle.calculus.specs.Theory.TableTest.{table-test-iff}
 use Rattle.calculus.specs.Theory.Verdict.{accepted-iff, verdict-iff, verdict-derived-iff}
-use Rattle.terms.specs.Numbers.{Bytes}
 use Rattle.terms.specs.Reader.{one-term, read-term}
 use Rattle.terms.specs.Expressions.{bytes, Fits, nesting}
 use Rattle.terms.proofs.Expressions.{one-term-sound, one-term-complete, term-of-bytes}
-use Rattle.recipe.specs.File.{bays, part, table-part, term-part, cause-1, cause-2, cause-3}
+use Rattle.recipe.specs.File.{bays, first-term, table-bytes, term-bytes, cause-1, cause-2, cause-3}
 use Rattle.recipe.specs.Laid.{Laid}
-use Rattle.recipe.proofs.LaidOut.{or-parts, or-false, laid-iff, length-part}
+use Rattle.recipe.proofs.LaidOut.{or-parts, or-false, laid-iff, length-table-bytes, bays-between}
 use Rattle.table.specs.Entries.{table-of, type-table, cause-4}
-use Rattle.verdict.specs.Bays.{bay-part, bay-term, bay-terms, cause-5, cause-6}
+use Rattle.verdict.specs.Bays.{bay-term, bay-terms, cause-5, cause-6}
 use Rattle.verdict.specs.Verdict.{refusal, number-in, bay-type, bay-types}
-use Rattle.verdict.specs.Recipe.{table-bytes, Recipe}
-use Rattle.verdict.specs.Theory.Bays.{part-bytes, table-bytes-of, table-of-bytes}
+use Rattle.verdict.specs.Recipe.{entry-bytes, Recipe}
+use Rattle.verdict.specs.Theory.Bays.{part-bytes, entry-bytes-of, table-of-entries}
 
 -- the lowest number is 0 where no cause fits
 none-fits : (a : Bool) (k n : ℕ) → ¬ (k ≡ 0) → cond a k n ≡ 0 → (a ≡ false) × (n ≡ 0)
@@ -78,31 +78,31 @@ module _ (s : List ℕ) (b : Bytes s) (n : NoCause s) where
   unfolding cause-4
   table-stands = table-test-iff (type-table s) .0 (not-false (table-test (type-table s)) (n .not-4))
 
-  says-table : part s table-part ≡ table-bytes (type-table s)
+  says-table : table-bytes s ≡ entry-bytes (type-table s)
   unfolding type-table
   says-table =
       let (t, e, f) = laid-out .entries in
-      sym (table-bytes-of t (part s table-part) (length-part (record { laid = laid-out; below = omega (arith, laid-out .has-parts .low) }) ∙ e))
+      sym (entry-bytes-of t (table-bytes s) (length-table-bytes laid-out ∙ e))
 
-  bay-is-term : (bay : ℕ) → bay < bays s → (bay-part s bay ≡ bytes (bay-term s bay)) × Fits (bay-term s bay)
-  unfolding cause-5 bay-term bay-part
-  bay-is-term bay l = one-term-sound (bay-part s bay) (part-bytes s (term-part bay) b)
-      (each-below-sound (bays s) (λ k. one-term (read-term (bay-part s k))) (not-false _ (n .not-5)) bay l)
+  bay-is-term : (bay : ℕ) → bay < bays s → (term-bytes s bay ≡ bytes (bay-term s bay)) × Fits (bay-term s bay)
+  unfolding cause-5 bay-term term-bytes
+  bay-is-term bay l = one-term-sound (term-bytes s bay) (part-bytes s (first-term + bay) b)
+      (each-below-sound (bays s) (λ k. one-term (read-term (term-bytes s k))) (not-false _ (n .not-5)) bay l)
 
   bay-limits : (each-below (bays s) (λ k. leb (nesting (bay-term s k)) max-nesting) ≡ true) × (ltb max-recipe-nodes (sum-below (bays s) (λ k. nodes (bay-term s k))) ≡ false)
   unfolding cause-6
   bay-limits = let (p, q) = or-parts _ _ (n .not-6) in (not-false _ p, q)
 
   says : Recipe s (type-table s) (bay-terms s)
-  unfolding bay-terms bay-part
+  unfolding bay-terms term-bytes
   says = record {
     laid = laid-out;
     table = says-table;
     table-rule = table-stands;
     count = length-tabulate (bays s) (bay-term s);
-    terms = λ bay e h. let (l, q) = tabulate-parts (bays s) (bay-term s) bay e h in rw q (bay-is-term bay l);
+    terms = λ bay e h. let (l, q) = tabulate-parts (bays s) (bay-term s) bay h in rw q (bay-is-term bay l);
     shallow = λ bay e h.
-        let (l, q) = tabulate-parts (bays s) (bay-term s) bay e h in
+        let (l, q) = tabulate-parts (bays s) (bay-term s) bay h in
         rw q (leb-sound _ _ (each-below-sound (bays s) (λ k. leb (nesting (bay-term s k)) max-nesting) (bay-limits .0) bay l));
     few-nodes = rw (nodes-tabulate (bays s) (bay-term s)) (ltb-false _ _ (bay-limits .1));
     derived = verdict-derived-iff table-stands (bay-terms s) .0 (n .not-7-to-11);
@@ -112,10 +112,10 @@ module _ (s : List ℕ) (b : Bytes s) (n : NoCause s) where
 module _ {s : List ℕ} {T : Table} {es : List Exp} (r : Recipe s T es) where
   pub table-is : type-table s ≡ T
   unfolding type-table
-  table-is = ap table-of (r .table) ∙ table-of-bytes T
+  table-is = ap table-of (r .table) ∙ table-of-entries T
 
   bay-of : (bay : ℕ) (e : Exp) → at es bay ≡ some e → bay-term s bay ≡ e
-  unfolding bay-term bay-part
+  unfolding bay-term term-bytes
   bay-of bay e h = let (p, f) = r .terms bay e h in rw p (term-of-bytes e f)
 
   pub terms-are : bay-terms s ≡ es
@@ -125,8 +125,8 @@ module _ {s : List ℕ} {T : Table} {es : List Exp} (r : Recipe s T es) where
   bay-there : (bay : ℕ) → bay < bays s → (e : Exp) × (at es bay ≡ some e)
   bay-there bay l = at-below es bay (omega (arith, r .count))
 
-  each-one-term : each-below (bays s) (λ k. one-term (read-term (bay-part s k))) ≡ true
-  unfolding bay-part
+  each-one-term : each-below (bays s) (λ k. one-term (read-term (term-bytes s k))) ≡ true
+  unfolding term-bytes
   each-one-term = each-below-complete (bays s) _ λ bay l.
       let (e, h) = bay-there bay l in let (p, f) = r .terms bay e h in rw p (one-term-complete e f)
 
@@ -151,8 +151,7 @@ module _ {s : List ℕ} {T : Table} {es : List Exp} (r : Recipe s T es) where
   }
 
   few-bays : bays s ≤ max-bays
-  unfolding bays
-  few-bays = omega (arith, r .laid .has-parts .high)
+  few-bays = bays-between (r .laid) .high
 
   -- causes 4 to 11 as the calculus has them, so what it says of runs holds of this recipe's
   pub admitted : Admitted T es

@@ -4,12 +4,12 @@ use mathlib.Core.List.{List, [], _∷_}
 use Prim.Native.Nat.{_*_, suc, zero, ℕ}
 use native.Mathlib.Omega.{arith}
 use lib.ListN.{drop, length}
+use Rattle.calculus.specs.Bytes.{Bytes}
 use Rattle.calculus.specs.Table.{Table, entry}
-use Rattle.terms.specs.Numbers.{Bytes}
 use Rattle.terms.proofs.Terms.{bytes-drop, bytes-take}
 use Rattle.recipe.specs.File.{part, offset-of, length-of}
 use Rattle.table.specs.Entries.{table-of}
-use Rattle.verdict.specs.Recipe.{table-bytes}
+use Rattle.verdict.specs.Recipe.{entry-bytes}
 
 -- parts of a list of bytes are lists of bytes
 pub part-bytes : (s : List ℕ) (i : ℕ) → Bytes s → Bytes (part s i)
@@ -17,15 +17,15 @@ unfolding part
 part-bytes s i b = bytes-take (length-of s i) (drop (offset-of s i) s) (bytes-drop (offset-of s i) s b)
 
 -- the table: its bytes, and back
-pub table-bytes-of : (n : ℕ) (l : List ℕ) → length l ≡ 3 * n → table-bytes (table-of l) ≡ l
-unfolding table-bytes table-of
-table-bytes-of n [] e = refl
-table-bytes-of n (kind ∷ []) e = absurd (omega arith)
-table-bytes-of n (kind ∷ p ∷ []) e = absurd (omega arith)
-table-bytes-of zero (kind ∷ p ∷ q ∷ l) e = absurd (omega arith)
-table-bytes-of (suc n) (kind ∷ p ∷ q ∷ l) e = ap (λ r. kind ∷ p ∷ q ∷ r) (table-bytes-of n l (omega arith))
+pub entry-bytes-of : (n : ℕ) (l : List ℕ) → length l ≡ 3 * n → entry-bytes (table-of l) ≡ l
+unfolding entry-bytes table-of
+entry-bytes-of n [] e = refl
+entry-bytes-of n (kind ∷ []) e = absurd (omega arith)
+entry-bytes-of n (kind ∷ p ∷ []) e = absurd (omega arith)
+entry-bytes-of zero (kind ∷ p ∷ q ∷ l) e = absurd (omega arith)
+entry-bytes-of (suc n) (kind ∷ p ∷ q ∷ l) e = ap (λ r. kind ∷ p ∷ q ∷ r) (entry-bytes-of n l (omega arith))
 
-pub table-of-bytes : (T : Table) → table-of (table-bytes T) ≡ T
-unfolding table-bytes table-of
-table-of-bytes [] = refl
-table-of-bytes (x ∷ T) = ap (λ r. entry (x .kind) (x .p) (x .q) ∷ r) (table-of-bytes T)
+pub table-of-entries : (T : Table) → table-of (entry-bytes T) ≡ T
+unfolding entry-bytes table-of
+table-of-entries [] = refl
+table-of-entries (x ∷ T) = ap (λ r. entry (x .kind) (x .p) (x .q) ∷ r) (table-of-entries T)

@@ -1,0 +1,6 @@
+-- The theorems about images.
+
+-- a component in bytes, and back
+pub mod Components
+-- a slice stands exactly when it is the image of a configuration that keeps its rules, and of one only
+pub mod Exactly

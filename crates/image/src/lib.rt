@@ -1,0 +1,1 @@
+// Images: configurations in bytes. The definitions and theorems stand in specs/.

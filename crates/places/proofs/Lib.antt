@@ -1,0 +1,20 @@
+-- Laws of contexts in bytes, and of the search.
+
+-- an expression in a context: its bytes, its size, its nodes, and where it stands
+pub mod Contexts
+-- a test of leaves, by one test of the list of all
+pub mod Leaves
+-- the place of an application, by its function and its argument
+pub mod Applications
+-- what the node at the front of a term says of it
+pub mod Nodes
+-- what exch is applied to
+pub mod Exchanges
+-- the search at a position
+pub mod Search
+-- what a loop that looks for the end of a term knows
+pub mod Ends
+-- what an answer of the search says of the expression, and where the two values stand
+pub mod Meetings
+-- the place of document 01's cases, by computing it
+pub mod Cases
