@@ -7,7 +7,8 @@ use borrow.Author.Tests.{eq-eqb, ne-eqb}
 use lib.ListN.{getD, length}
 use Rattle.calculus.specs.Limits.{min-file-length, max-file-length, min-parts, max-parts}
 use Rattle.recipe.specs.File.{edition, opening, parts, table-part, pair-at, length-of, outside, cause-1, opens, edition-known, cause-2, pairs-test, table-length-test, cause-3, layout-refusal}
-use Rattle.recipe.proofs.LaidOut.{between, pairs-cut}
+use Rattle.recipe.proofs.Chains.{pairs-cut}
+use Rattle.recipe.proofs.LaidOut.{between}
 
 -- cause 2
 module _ (s : List ℕ) where

@@ -3,15 +3,16 @@ use mathlib.Core.Path.{_∙_, _≡_, ap, refl, sym}
 use mathlib.Core.Logic.{_↔_}
 use mathlib.Core.Bool.{Bool, _||_, cond, false, false≢true, not, true}
 use mathlib.Core.List.{List, [], _∷_}
-use Prim.Native.Nat.{_%_, _*_, _+_, _-_, _/_, _<_, _≤_, suc, zero, ℕ}
+use Prim.Native.Nat.{_%_, _*_, _-_, _/_, _≤_, ℕ}
 use native.Mathlib.Omega.{arith}
-use borrow.Author.Tests.{eq-eqb, eqb-true, eqb-false, le-ltb, ltb-false, ne-eqb, not-false, not-true}
+use borrow.Author.Tests.{eq-eqb, eqb-true, le-ltb, ltb-false, not-false, not-true}
 use lib.Dec.{eqb, ltb}
-use lib.ListN.{getD, length, length-drop, length-take, take}
-use Rattle.calculus.specs.Limits.{min-file-length, max-file-length, min-parts, max-parts, max-bays, min-entries, max-entries}
+use lib.ListN.{getD, length, take}
+use Rattle.calculus.specs.Limits.{min-file-length, max-file-length, min-parts, max-parts, min-entries, max-entries}
 use Rattle.calculus.specs.Theory.Tests.{and-true, and-parts}
-use Rattle.recipe.specs.File.{opening, edition, parts, table-part, first-term, bays, pair-at, offset-of, length-of, part, table-bytes, outside, cause-1, opens, edition-known, cause-2, pairs-test, entry-length, table-length-test, cause-3, layout-refusal}
-use Rattle.recipe.specs.Laid.{Between, Laid, HasPart, HasBay}
+use Rattle.recipe.specs.File.{opening, edition, parts, table-part, pair-at, length-of, outside, cause-1, opens, edition-known, cause-2, pairs-test, entry-length, table-length-test, cause-3, layout-refusal}
+use Rattle.recipe.specs.Laid.{Between, Laid}
+use Rattle.recipe.proofs.Chains.{chain-sound, chain-complete, chain-first, chain-next, chain-last, chain-some, chain}
 
 -- tests
 pub or-parts : (a b : Bool) → (a || b) ≡ false → (a ≡ false) × (b ≡ false)
@@ -48,86 +49,6 @@ opens-complete (a ∷ b ∷ s) e =
     let p : a ≡ 0x4C = cc in
     let q : b ≡ 0x46 = cc in
     and-true (eq-eqb a 0x4C p) (eq-eqb b 0x46 q)
-
--- the pairs, as a proposition that goes by the number of pairs
-abbrev pub Chain : List ℕ → ℕ → ℕ → ℕ → Type 0
-Chain s zero i at = at ≡ length s
-Chain s (suc k) i at = (offset-of s i ≡ at) × (0 < length-of s i) × Chain s k (i + 1) (at + length-of s i)
-
-chain-sound : (s : List ℕ) (k i at : ℕ) → pairs-test s k i at ≡ true → Chain s k i at
-unfolding pairs-test
-chain-sound s zero i at e = eqb-true at (length s) e
-chain-sound s (suc k) i at e =
-    let (a, f) = and-parts (eqb (offset-of s i) at) _ e in
-    let (b, c) = and-parts (not (eqb (length-of s i) 0)) (pairs-test s k (i + 1) (at + length-of s i)) f in
-    let z = eqb-false (length-of s i) 0 (not-true (eqb (length-of s i) 0) b) in
-    (eqb-true (offset-of s i) at a, omega arith, chain-sound s k (i + 1) (at + length-of s i) c)
-
-chain-complete : (s : List ℕ) (k i at : ℕ) → Chain s k i at → pairs-test s k i at ≡ true
-unfolding pairs-test
-chain-complete s zero i at c = eq-eqb at (length s) c
-chain-complete s (suc k) i at (a, b, c) =
-    and-true (eq-eqb (offset-of s i) at a)
-    (and-true (ap not (ne-eqb (length-of s i) 0 (λ e. omega arith))) (chain-complete s k (i + 1) (at + length-of s i) c))
-
--- the chain from pair i + m on
-chain-at : (s : List ℕ) (m k i at j l : ℕ) → k ≡ m + l → j ≡ i + m → Chain s k i at → (at′ : ℕ) × Chain s l j at′
-chain-at s zero k i at j l p q c = let e : l ≡ k = omega arith in let f : j ≡ i = omega arith in (at, rw (e, f) c)
-chain-at s (suc m) zero i at j l p q c = absurd (omega arith)
-chain-at s (suc m) (suc k) i at j l p q (a, b, c) = chain-at s m k (i + 1) (at + length-of s i) j l (omega arith) (omega arith) c
-
--- the parts still to come lie between here and the end of the file
-chain-room : (s : List ℕ) (k i at : ℕ) → Chain s k i at → at + k ≤ length s
-chain-room s zero i at c = omega arith
-chain-room s (suc k) i at (a, b, c) = omega (arith, chain-room s k (i + 1) (at + length-of s i) c)
-
--- a file that ends before a part is to begin
-pub pairs-cut : (s : List ℕ) (k i at : ℕ) → length s < at → pairs-test s k i at ≡ false
-pairs-cut s k i at h = go (pairs-test s k i at) refl
-  where
-    go : (t : Bool) → pairs-test s k i at ≡ t → t ≡ false
-    go true e = absurd (omega (arith, chain-room s k i at (chain-sound s k i at e)))
-    go false e = refl
-
-module _ (s : List ℕ) (c : Chain s (parts s) 0 (pair-at (parts s))) where
-  pub chain-first : 0 < parts s → offset-of s 0 ≡ pair-at (parts s)
-  chain-first h = go (parts s) h (pair-at (parts s)) c
-    where
-      go : (k : ℕ) → 0 < k → (at : ℕ) → Chain s k 0 at → offset-of s 0 ≡ at
-      go zero h at c = absurd (omega arith)
-      go (suc k) h at c = c .0
-
-  pub chain-next : (i : ℕ) → i + 1 < parts s → offset-of s (i + 1) ≡ offset-of s i + length-of s i
-  chain-next i h =
-      let (at, d) = chain-at s i (parts s) 0 (pair-at (parts s)) i (suc (suc (parts s - (i + 2)))) (omega arith) (omega arith) c in
-      omega (arith, d .0, d .2 .0)
-
-  pub chain-last : (i : ℕ) → i + 1 ≡ parts s → offset-of s i + length-of s i ≡ length s
-  chain-last i h =
-      let (at, d) = chain-at s i (parts s) 0 (pair-at (parts s)) i (suc zero) (omega arith) (omega arith) c in
-      omega (arith, d .0, d .2)
-
-  pub chain-some : (i : ℕ) → i < parts s → 0 < length-of s i
-  chain-some i h =
-      let (at, d) = chain-at s i (parts s) 0 (pair-at (parts s)) i (suc (parts s - (i + 1))) (omega arith) (omega arith) c in
-      d .1
-
-  pub chain-inside : (i : ℕ) → i < parts s → offset-of s i + length-of s i ≤ length s
-  chain-inside i h =
-      let (at, d) = chain-at s i (parts s) 0 (pair-at (parts s)) i (suc (parts s - (i + 1))) (omega arith) (omega arith) c in
-      omega (arith, d .0, chain-room s (parts s - (i + 1)) (i + 1) (at + length-of s i) (d .2))
-
-chain-of : (s : List ℕ) → Laid s → (k i at : ℕ) → i + k ≡ parts s → (0 < k → offset-of s i ≡ at) → (k ≡ 0 → at ≡ length s) → Chain s k i at
-chain-of s l zero i at e f g = g refl
-chain-of s l (suc k) i at e f g =
-    let o = f (omega arith) in (
-      o,
-      l .some-length i (omega arith),
-      chain-of s l k (i + 1) (at + length-of s i) (omega arith) (λ h. omega (arith, l .next i (omega arith))) (λ h. omega (arith, l .last i (omega arith))),
-    )
-
-pub chain : (s : List ℕ) → Laid s → Chain s (parts s) 0 (pair-at (parts s))
-chain s l = chain-of s l (parts s) 0 (pair-at (parts s)) (omega arith) (λ h. l .first) (λ h. absurd (omega (arith, l .has-parts .low)))
 
 -- the table's length
 entries-sound : (n : ℕ) → table-length-test n ≡ true → (t : ℕ) × (n ≡ entry-length * t) × Between min-entries max-entries t
@@ -198,42 +119,3 @@ no-layout-cause s e = go (cause-1 s) (cause-2 s) (cause-3 s) e
 
 pub laid-where : (s : List ℕ) (r : ℕ) → r ≡ layout-refusal s → r ≡ 0 → Laid s
 laid-where s r e z = let (a, b, c) = no-layout-cause s (sym e ∙ z) in laid s a b c
-
--- what readers of a file that is laid out use: the pairs stand in it, and each part
-pub pairs-inside : {s : List ℕ} → Laid s → pair-at (parts s) ≤ length s
-pairs-inside {s} l = omega (arith, chain-room s (parts s) 0 (pair-at (parts s)) (chain s l))
-
-pub part-inside : {s : List ℕ} {i : ℕ} → HasPart s i → offset-of s i + length-of s i ≤ length s
-part-inside {s} {i} h = chain-inside s (chain s (h .laid)) i (h .below)
-
-pub length-part : {s : List ℕ} {i : ℕ} → HasPart s i → length (part s i) ≡ length-of s i
-unfolding part
-length-part {s} {i} h = let w = part-inside h in simp (length-take, length-drop) (omega arith)
-
--- the table and the terms are parts
-pub table-is-part : {s : List ℕ} → Laid s → HasPart s table-part
-table-is-part l = record { laid = l; below = omega (arith, l .has-parts .low) }
-
-pub length-table-bytes : {s : List ℕ} → Laid s → length (table-bytes s) ≡ length-of s table-part
-unfolding table-bytes
-length-table-bytes l = length-part (table-is-part l)
-
-pub term-is-part : {s : List ℕ} {bay : ℕ} → HasBay s bay → HasPart s (first-term + bay)
-unfolding bays
-term-is-part h = record { laid = h .laid; below = omega (arith, h .below) }
-
--- "2 to 17 parts", so 1 to 16 bays
-pub bays-between : {s : List ℕ} → Laid s → Between 1 max-bays (bays s)
-unfolding bays
-bays-between l = record { low = omega (arith, l .has-parts .low); high = omega (arith, l .has-parts .high) }
-
--- "sorted by offset"
-sorted-by : (s : List ℕ) → Laid s → (i k : ℕ) → i + suc k < parts s → offset-of s i < offset-of s (i + suc k)
-sorted-by s l i zero h = let e : i + 1 ≡ i + suc zero = omega arith in rw (← e) (omega (arith, l .next i (omega arith), l .some-length i (omega arith)))
-sorted-by s l i (suc k) h =
-    let e : i + suc k + 1 ≡ i + suc (suc k) = omega arith in
-    let ih = sorted-by s l i k (omega arith) in
-    rw (← e) (omega (arith, l .next (i + suc k) (omega arith)))
-
-pub sorted : {s : List ℕ} → Laid s → (i j : ℕ) → i < j → j < parts s → offset-of s i < offset-of s j
-sorted {s} l i j h b = let e : i + suc (j - (i + 1)) ≡ j = omega arith in rw e at (sorted-by s l i (j - (i + 1)) (omega arith))

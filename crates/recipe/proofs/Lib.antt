@@ -1,3 +1,7 @@
+-- the pairs, one after the other
+mod Chains
+-- what a reader of a laid out file uses
+pub mod Inside
 -- causes 1 to 3 and the layout
 pub mod LaidOut
 -- the causes by their tests

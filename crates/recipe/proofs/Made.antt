@@ -9,7 +9,7 @@ use Rattle.calculus.specs.Bytes.{two-bytes, word}
 use Rattle.recipe.specs.File.{edition, parts, table-part, pair-at, offset-of, length-of, part}
 use Rattle.recipe.specs.Laid.{Laid}
 use Rattle.recipe.specs.Whole.{pairs-of, joined, file-of, parts-from, all-parts, NoneEmpty, Makes}
-use Rattle.recipe.proofs.LaidOut.{Chain, chain-first, chain-next, chain-last, chain-some, chain-inside}
+use Rattle.recipe.proofs.Chains.{Chain, chain-first, chain-next, chain-last, chain-some, chain-inside}
 
 -- the number whose bytes stand at j
 word-read : (s : List ℕ) (j n : ℕ) (l : List ℕ) → drop j s ≡ two-bytes n ++ l → word s j ≡ n

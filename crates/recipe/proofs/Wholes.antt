@@ -10,7 +10,8 @@ use Rattle.calculus.specs.Bytes.{Bytes, two-bytes, word}
 use Rattle.recipe.specs.File.{opening, edition, parts, pair-at, offset-of, length-of, part}
 use Rattle.recipe.specs.Laid.{Laid}
 use Rattle.recipe.specs.Whole.{pairs-of, joined, file-of, parts-from, all-parts}
-use Rattle.recipe.proofs.LaidOut.{Chain, chain, pairs-inside, length-part}
+use Rattle.recipe.proofs.Chains.{Chain, chain}
+use Rattle.recipe.proofs.Inside.{pairs-inside, length-part}
 
 length-parts : (s : List ℕ) (k i : ℕ) → length (parts-from s k i) ≡ k
 unfolding parts-from

@@ -68,7 +68,7 @@ unfoldable pub cause-2 : List ℕ → Bool
 cause-2 s = not (opens s) || (not (edition-known s) || outside min-parts max-parts (parts s))
 
 -- document 01, "each next one where the former ends, the last ends with the file. No length is zero": k pairs, of which i is the first, and its part is to
--- begin at `at`. Since parts go on from 4 + 4n to the end of the file, a file that is shorter fails (proofs.LaidOut, `pairs-cut`).
+-- begin at `at`. Since parts go on from 4 + 4n to the end of the file, a file that is shorter fails (proofs.Chains, `pairs-cut`).
 unfoldable pub pairs-test : List ℕ → ℕ → ℕ → ℕ → Bool
 pairs-test s zero i at = eqb at (length s)
 pairs-test s (suc k) i at = eqb (offset-of s i) at && (not (eqb (length-of s i) 0) && pairs-test s k (i + 1) (at + length-of s i))

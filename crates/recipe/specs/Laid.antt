@@ -23,7 +23,7 @@ pub record Laid (s : List ℕ) : Type 0 where
   pub has-parts : Between min-parts max-parts (parts s)
   -- "The first part begins at 4 + 4n"
   pub first : offset-of s 0 ≡ pair-at (parts s)
-  -- "each next one where the former ends"
+  -- "each next one where the former ends"; so the pairs are "sorted by offset" (proofs.Inside, `sorted`)
   pub next : (i : ℕ) → i + 1 < parts s → offset-of s (i + 1) ≡ offset-of s i + length-of s i
   -- "the last ends with the file"
   pub last : (i : ℕ) → i + 1 ≡ parts s → offset-of s i + length-of s i ≡ length s

@@ -10,6 +10,7 @@ mod Depths
 pub mod Stack
 -- terms on levels of lambdas: the law of the loop with a stack
 mod Levels
+-- what that loop knows
 mod Walked
 -- scope of leaves, and scope as an image asks it
 pub mod Scopes

@@ -11,7 +11,8 @@ use Rattle.calculus.specs.Table.{TableRule, table-test}
 use Rattle.calculus.specs.Theory.TableTest.{table-test-iff}
 use Rattle.recipe.specs.File.{entry-length, table-bytes, cause-1, cause-2, cause-3, layout-refusal}
 use Rattle.recipe.specs.Laid.{Between, Laid}
-use Rattle.recipe.proofs.LaidOut.{laid, no-cause-1, no-cause-2, no-cause-3, no-layout-cause, length-table-bytes}
+use Rattle.recipe.proofs.LaidOut.{laid, no-cause-1, no-cause-2, no-cause-3, no-layout-cause}
+use Rattle.recipe.proofs.Inside.{length-table-bytes}
 use Rattle.table.specs.declared.Entry.{Entry}
 use Rattle.table.specs.Entries.{type-table, cause-4, table-refusal}
 use Rattle.table.specs.Filled.{as-table, filled}

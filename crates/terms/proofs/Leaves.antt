@@ -7,7 +7,7 @@ use native.Mathlib.Omega.{arith}
 use borrow.Author.Tests.{leb-true}
 use lib.Dec.{T, eqb, eqb→eq, leb}
 use lib.ListN.{getD, length}
-use Rattle.calculus.specs.Syntax.{Const, unit, num, op, cell, exch, thread, handle, const, each-const, each-name, each-var, Exp}
+use Rattle.calculus.specs.Syntax.{Const, unit, num, op, cell, exch, thread, handle, const, name, each-const, each-name, each-var, Exp}
 use Rattle.calculus.specs.Names.{count}
 use Rattle.calculus.specs.Limits.{byte-values, max-num}
 use Rattle.calculus.specs.Image.{nodes, WritableConst}
@@ -73,6 +73,9 @@ pub const-fits : {c : Const} → WritableConst c → Fits (const c)
 unfolding count
 const-fits w = record { writable = each-const w; names = λ k le. refl }
 
+name-fits : (k : ℕ) → k < byte-values → Fits (name k)
+name-fits k h = record { writable = each-name; names = λ j le. count-other j k (omega arith) }
+
 small-num : (n : ℕ) → in-range num-tag n ≡ true → n ≤ max-num
 small-num n e = leb-true n max-num (sym (or-false (leb n max-num)) ∙ e)
 
@@ -80,9 +83,6 @@ pub leaf-fits : (tag arg : ℕ) → InTable tag arg 0 → Fits (leaf-exp tag arg
 unfolding leaf-exp leaves form-of forms count
 leaf-fits tag arg w = below row tag (w .known) w
   where
-    other : (k : ℕ) → arg < byte-values → byte-values ≤ k → ¬ (arg ≡ k)
-    other k h le = omega arith
-
     row : Row (λ tag. InTable tag arg 0 → Fits (leaf-exp tag arg)) 0 tags
     row =
         (λ w. record { writable = each-var (w .fits); names = λ k le. refl }) ∣
@@ -94,7 +94,7 @@ leaf-fits tag arg w = below row tag (w .known) w
         (λ w. const-fits {c = op exch arg} (w .fits)) ∣
         (λ w. const-fits {c = op thread arg} (w .fits)) ∣
         (λ w. const-fits {c = op handle arg} (w .fits)) ∣
-        (λ w. record { writable = each-name; names = λ k le. count-other k arg (other k (w .fits) le) }) ∣
+        (λ w. name-fits arg (w .fits)) ∣
         end-of-row
 
 -- the node with one subterm is the lambda

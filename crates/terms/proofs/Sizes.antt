@@ -33,4 +33,4 @@ length-bytes (var i) = refl
 length-bytes (name k) = refl
 length-bytes (const c) = const-length c
 length-bytes (lam t e) = omega (arith, length-bytes e)
-length-bytes (app f a) = omega (arith, length-append (bytes f) (bytes a), length-bytes f, length-bytes a)
+length-bytes (app f a) = simp (length-append, length-bytes f, length-bytes a) (omega arith)

@@ -58,7 +58,7 @@ fits-name {k} f = go (ltb k byte-values) refl
   where
     go : (b : Bool) → ltb k byte-values ≡ b → k < byte-values
     go true e = ltb-true k byte-values e
-    go false e = absurd (clash (sym (f .names k (ltb-false k byte-values e)) ∙ count-same k))
+    go false e = absurd (clash (sym (f .names k (omega (arith, ltb-false k byte-values e))) ∙ count-same k))
 
 fits-const : {c : Const} → Fits (const c) → WritableConst c
 fits-const f = elim (f .writable) [ each-const h ↦ h ]

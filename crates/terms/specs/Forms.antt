@@ -29,9 +29,9 @@ operand-of tag = form-of tag .operand
 abbrev pub subterms-of : ℕ → ℕ
 subterms-of tag = form-of tag .subterms
 
--- document 01, "constants 0 to 1000": a num is in range, and any other operand
 abbrev pub num-tag : ℕ
 num-tag = 4
 
+-- document 01, "constants 0 to 1000": a num is in range, and so is every operand of another node
 abbrev pub in-range : ℕ → ℕ → Bool
 in-range tag arg = leb arg max-num || not (eqb tag num-tag)

@@ -2,7 +2,7 @@
 use native.Mathlib.Nat.{add-sub-cancel-left}
 use native.Mathlib.Omega.{arith}
 use Rattle.recipe.specs.File.{part}
-use Rattle.recipe.proofs.LaidOut.{pairs-inside, part-inside}
+use Rattle.recipe.proofs.Inside.{pairs-inside, part-inside}
 use borrow.Author.Needs.{needs}
 use Rattle.recipe.proofs.part.Statement.{statement}
 use Rattle.recipe.proofs.part.Tie as tie

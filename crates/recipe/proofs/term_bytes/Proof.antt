@@ -1,7 +1,7 @@
 -- `recipe::term_bytes` meets its contract.
 use native.Mathlib.Omega.{arith}
 use Rattle.recipe.specs.File.{term-bytes}
-use Rattle.recipe.proofs.LaidOut.{bays-between, term-is-part}
+use Rattle.recipe.proofs.Inside.{bays-between, term-is-part}
 use borrow.Author.Needs.{needs}
 use Rattle.recipe.proofs.term_bytes.Statement.{statement}
 use Rattle.recipe.proofs.term_bytes.Tie as tie

@@ -31,7 +31,9 @@ loop-holds : tie.Need-loop-holds Inv-loop μ-loop
 loop-holds c = (seen-start _ _ (c .before .pre), zero-le)
 
 returns : tie.Need-returns Inv-loop μ-loop
-returns c = small-over _ (c .before .before .loop .inv .0) (c .before .loop-test .taken) (c .if1 .taken)
+returns c =
+    let p = c .before .before in
+    small-over (p .before .before .args .budget) (p .loop .inv .0) (c .before .loop-test .taken) (omega arith)
 
 head-at-requires : tie.Need-head-at-requires Inv-loop μ-loop
 head-at-requires c κs = c .before .before .loop .inv .0 .inside

@@ -111,7 +111,7 @@ loop-again-2 c =
 returns-4 : tie.Need-returns-4 Inv-loop μ-loop
 returns-4 c =
     let n = c .before .before .before in
-    walked-no-type (loop n .loop .inv) (some n) (is-head n) (c .before .if5 .taken) (c .if6 .taken)
+    walked-no-type (loop n .loop .inv) (some n) (is-head n) (c .before .if5 .taken) (omega arith)
 
 sub-outer : tie.Need-sub-outer Inv-loop μ-loop
 sub-outer c = omega (arith, some (c .before .before .before))
@@ -131,7 +131,7 @@ loop-less-3 c = let n = c .before .before .before in omega (arith, node n .insid
 loop-again-3 : tie.Need-loop-again-3 Inv-loop μ-loop
 loop-again-3 c =
     let n = c .before .before .before in
-    walked-lambda (loop n .loop .inv) (some n) (is-head n) (c .before .if5 .taken) (c .if6 .left)
+    walked-lambda (loop n .loop .inv) (some n) (is-head n) (c .before .if5 .taken) (omega arith)
 
 add-pending : tie.Need-add-pending Inv-loop μ-loop
 add-pending c = omega (arith, walked-few (loop (c .before .before) .loop .inv))

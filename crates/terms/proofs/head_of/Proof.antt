@@ -21,7 +21,7 @@ shared-slice-read-tag : tie.Need-shared-slice-read-tag
 shared-slice-read-tag c = search needs
 
 returns-2 : tie.Need-returns-2
-returns-2 c = head-unknown (c .before .before .before .before .args .s .now) (omega arith) (c .if2 .taken)
+returns-2 c = head-unknown (c .before .before .before .before .args .s .now) (omega arith) (omega arith)
 
 form-of-requires : tie.Need-form-of-requires
 form-of-requires c κs = search needs

@@ -26,16 +26,16 @@ shared-slice-read-result-2 : tie.Need-shared-slice-read-result-2
 shared-slice-read-result-2 c = search needs
 
 cast-result-2 : tie.Need-cast-result-2
-cast-result-2 c = omega (arith, c .shared-slice-known2 .given 1)
+cast-result-2 c = omega (arith, c .shared-slice-known2 .given 1, c .shared-slice-known2 .given 2)
 
 shared-slice-read-result-3 : tie.Need-shared-slice-read-result-3
 shared-slice-read-result-3 c = search needs
 
 cast-result-3 : tie.Need-cast-result-3
-cast-result-3 c = omega (arith, c .shared-slice-known3 .given 2)
+cast-result-3 c = omega (arith, c .shared-slice-known3 .given 1, c .shared-slice-known3 .given 2)
 
 mul-result : tie.Need-mul-result
-mul-result c = omega (arith, c .shared-slice-known3 .given 2)
+mul-result c = omega (arith, c .shared-slice-known3 .given 1, c .shared-slice-known3 .given 2)
 
 add-result : tie.Need-add-result
 add-result c = omega (arith, c .shared-slice-known3 .given 1, c .shared-slice-known3 .given 2)

@@ -29,7 +29,8 @@ use Rattle.terms.specs.Expressions.{bytes, Fits, nesting}
 use Rattle.terms.proofs.Expressions.{one-term-sound, one-term-complete, term-of-bytes}
 use Rattle.recipe.specs.File.{bays, first-term, table-bytes, term-bytes, cause-1, cause-2, cause-3}
 use Rattle.recipe.specs.Laid.{Laid}
-use Rattle.recipe.proofs.LaidOut.{or-parts, or-false, laid-iff, length-table-bytes, bays-between}
+use Rattle.recipe.proofs.LaidOut.{or-parts, or-false, laid-iff}
+use Rattle.recipe.proofs.Inside.{length-table-bytes, bays-between}
 use Rattle.table.specs.Entries.{table-of, type-table, cause-4}
 use Rattle.verdict.specs.Bays.{bay-term, bay-terms, cause-5, cause-6}
 use Rattle.verdict.specs.Verdict.{refusal, number-in, bay-type, bay-types}

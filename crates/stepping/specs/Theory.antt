@@ -1,0 +1,4 @@
+-- The theorems about a step on bytes.
+
+-- a rule answers exactly when Fig. 5 has that move and its outcome fits, and the image is that outcome's
+pub mod Exactly
