@@ -5,6 +5,7 @@ use terms::Head;
 use terms::Node;
 ghost use mathlib.Core.Path.{_≡_};
 ghost use mathlib.Core.Option.{some};
+ghost use mathlib.Core.List.{[]};
 ghost use Prim.Native.Nat.{_≤_};
 ghost use Rattle.calculus.specs.Limits.{max-entries};
 ghost use Rattle.calculus.specs.Verdict.{is-function-kind, is-many, lambda-number, result-number};
@@ -155,4 +156,12 @@ pub fn type_at(
         return Typed::Nothing;
     };
     applied_type(entry_of(table, count, function as usize), argument, end)
+}
+
+// The type of a part that is one term.
+pub fn type_of(table: [Entry; Recipe::MAX_ENTRIES], count: usize, s: &[u8]) -> Typed
+    requires { ⌜ Ready (now s) 0 count 0 ⌝ }
+    ensures { λ r. ⌜ r ≡ type-at (as-table table count) [] (now (s .entry)) 0 ⌝ }
+{
+    type_at(table, count, s, 0, [0u8; Recipe::MAX_NESTING], 0)
 }

@@ -15,7 +15,10 @@ abbrev Left : ℕ → tie.After-entry-of4 → Type 0
 Left n l =
     let a = l .before .before .before .before .before .before .before .args in
     let T = as-table (a .table) (a .count) in
-    Asks (is-handle-type T (a .t)) (drop n (handle-type-list T (l .before .before .before .before .before .before .entry-of .result) (l .before .before .before .before .entry-of2 .result) (l .before .before .entry-of3 .result) (l .entry-of4 .result)))
+    let w = l .before .before .before .before .before .before .entry-of .result in
+    let o = l .before .before .before .before .entry-of2 .result in
+    let i = l .before .before .entry-of3 .result in
+    Asks (is-handle-type T (a .t)) (drop n (handle-type-list T w o i (l .entry-of4 .result)))
 
 tests : (l : tie.After-entry-of4) → Left 0 l
 tests l =

@@ -43,7 +43,20 @@ abbrev below : ℕ → In 1 kinds.ps
 below t = and 1 kinds.ps (falls 1 kinds.ps _<_ μ t) reads.Pre
 
 abbrev calls : ℕ → lts.Claims
-calls t = (head-at-reads.Asked, head-at-reads.Learnt, leaf-type-reads.Asked, leaf-type-reads.Learnt, entry-of-reads.Asked, entry-of-reads.Learnt, below t, reads.Post, lambda-type-reads.Asked, lambda-type-reads.Learnt, applied-type-reads.Asked, applied-type-reads.Learnt)
+calls t = (
+  head-at-reads.Asked,
+  head-at-reads.Learnt,
+  leaf-type-reads.Asked,
+  leaf-type-reads.Learnt,
+  entry-of-reads.Asked,
+  entry-of-reads.Learnt,
+  below t,
+  reads.Post,
+  lambda-type-reads.Asked,
+  lambda-type-reads.Learnt,
+  applied-type-reads.Asked,
+  applied-type-reads.Learnt,
+)
 
 module _ (t : ℕ) where
   -- where the head is a node: the arguments, the node, and what is known of them
