@@ -1,0 +1,4 @@
+-- Document 01, "Bay cases": the proved ones.
+
+-- rows of one table: what check answers
+pub mod Cases

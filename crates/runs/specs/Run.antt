@@ -1,0 +1,104 @@
+-- Document 01, "A run", in bytes: "an accepted recipe, its load into a buffer that is long enough, and a list of steps, none or many"; and the third demand, one
+-- claim about all of the list. The answers are those of `outcome-of` and `out-after` (crate stepping), which the contract of step cites.
+use mathlib.Core.Path.{_≡_}
+use mathlib.Core.Logic.{_↔_}
+use mathlib.Core.Option.{some}
+use mathlib.Core.List.{List, [], _∷_, _++_}
+use Prim.Native.Nat.{ℕ, _<_, _≤_}
+use lib.ListN.{length, take}
+use Rattle.calculus.specs.Types.{LinType}
+use Rattle.calculus.specs.Syntax.{Exp, name, thread-of, open-for, at}
+use Rattle.calculus.specs.Typing.{TypeNumbers}
+use Rattle.calculus.specs.NewTypes.{function-at, new-types}
+use Rattle.calculus.specs.Limits.{max-image-length}
+use Rattle.calculus.specs.Run.{State, ValuesTyped}
+use Rattle.calculus.specs.Table.{type-at}
+use Rattle.calculus.specs.Recipe.{start}
+use Rattle.image.specs.Configuration.{config-of}
+use Rattle.stepping.specs.declared.Outcome.{Outcome}
+use Rattle.stepping.specs.declared.Outcome.the-variants.{Rule, Done, Waiting, Refused}
+use Rattle.stepping.specs.Stepping.{outcome-of, out-after}
+
+-- document 01, "Each step has any thread number and any out buffer, of any length and holding any bytes"
+pub record Call : Type 0 where
+  pub thread : ℕ
+  pub out : List ℕ
+
+-- what a step is handed: an image; beside it the types of its names, which nobody hands over: "A name's type is fixed when the name comes"
+pub record Step : Type 0 where
+  pub image : List ℕ
+  pub types : List LinType
+  pub call : Call
+
+-- what it answers
+abbrev pub answer : Step → Outcome
+answer n = outcome-of (n .image) (n .call .thread) (n .call .out)
+
+-- what it leaves: "the new image if that answered a rule, else the same image again". A rule answers the length of the image in the out buffer's first bytes.
+unfoldable pub image-left : Outcome → List ℕ → List ℕ → List ℕ
+image-left (Rule rule size) out image = take size out
+image-left Done out image = image
+image-left (Waiting y) out image = image
+image-left (Refused number) out image = image
+
+abbrev pub left : Step → List ℕ
+left n = image-left (answer n) (out-after (n .image) (n .call .thread) (n .call .out)) (n .image)
+
+-- the types of the names of the image that it leaves
+unfoldable pub types-by : Outcome → List LinType → List LinType → List LinType
+types-by (Rule rule size) new types = types ++ new
+types-by Done new types = types
+types-by (Waiting y) new types = types
+types-by (Refused number) new types = types
+
+abbrev pub types-left : TypeNumbers → Step → List LinType
+types-left τ n = types-by (answer n) (new-types τ (config-of (n .image)) (n .call .thread)) (n .types)
+
+-- "Each later one is handed what the step before it left": the steps of a list of calls, the first being handed this image with these types
+unfoldable pub steps : TypeNumbers → List ℕ → List LinType → List Call → List Step
+steps τ image types [] = []
+steps τ image types (c ∷ calls) =
+    let n : Step = record { image = image; types = types; call = c } in
+    n ∷ steps τ (left n) (types-left τ n) calls
+
+-- "A step that answers rule 5 applies the handle whose name is the function at its place"
+abbrev pub Applies : Step → ℕ → Type 0
+Applies n z = (size : ℕ) × (answer n ≡ Rule 5 size) × (function-at (config-of (n .image)) (n .call .thread) ≡ some (name z))
+
+-- "and binds the future that is this handle's companion in the image handed in"
+abbrev pub Binds : Step → ℕ → Type 0
+Binds n y = (z : ℕ) × Applies n z × (at (config-of (n .image)) z ≡ some (open-for y))
+
+-- its number is a "thread of the image handed in"
+abbrev pub IsThread : Step → Type 0
+IsThread n = (e : Exp) × (at (config-of (n .image)) (n .call .thread) ≡ some (thread-of e))
+
+-- "a rule, done, waiting or 15"
+abbrev pub Goes : Outcome → Type 0
+Goes (Rule rule size) = Unit {0}
+Goes Done = Unit {0}
+Goes (Waiting y) = Unit {0}
+Goes (Refused number) = number ≡ 15
+
+-- "each cell and finished thread has a value of its type", names so typed
+abbrev pub Typed : TypeNumbers → List ℕ → List LinType → Type 0
+Typed τ image types = ValuesTyped τ (record { names = types; config = config-of image })
+
+-- the third demand: "For every run: ..", for the calls from this image with these types
+pub record Demand (τ : TypeNumbers) (image : List ℕ) (types : List LinType) (calls : List Call) : Type 0 where
+  -- "no handle is applied in two of its steps"
+  pub one-application : (z i j : ℕ) (m n : Step) → at (steps τ image types calls) i ≡ some m → at (steps τ image types calls) j ≡ some n → Applies m z → Applies n z → i ≡ j
+  -- "and no future is bound in two"
+  pub one-binding : (y i j : ℕ) (m n : Step) → at (steps τ image types calls) i ≡ some m → at (steps τ image types calls) j ≡ some n → Binds m y → Binds n y → i ≡ j
+  -- "no step answers 13, 16 or 17"
+  pub no-13-16-17 : (i : ℕ) (n : Step) → at (steps τ image types calls) i ≡ some n →
+      (¬ (answer n ≡ Refused 13)) × (¬ (answer n ≡ Refused 16)) × (¬ (answer n ≡ Refused 17))
+  -- "a step answers 12 exactly when its out buffer is under 13,826 bytes"
+  pub twelve : (i : ℕ) (n : Step) → at (steps τ image types calls) i ≡ some n → (answer n ≡ Refused 12) ↔ (length (n .call .out) < max-image-length)
+  -- "otherwise 14 exactly when its number is no thread of the image handed in"
+  pub fourteen : (i : ℕ) (n : Step) → at (steps τ image types calls) i ≡ some n → ¬ (length (n .call .out) < max-image-length) → (answer n ≡ Refused 14) ↔ (¬ IsThread n)
+  -- "and otherwise a rule, done, waiting or 15"
+  pub otherwise : (i : ℕ) (n : Step) → at (steps τ image types calls) i ≡ some n → ¬ (length (n .call .out) < max-image-length) → IsThread n → Goes (answer n)
+  -- "after the load and after every step each cell and finished thread has a value of its type"
+  pub typed-loaded : Typed τ image types
+  pub typed-after : (i : ℕ) (n : Step) → at (steps τ image types calls) i ≡ some n → Typed τ (left n) (types-left τ n)

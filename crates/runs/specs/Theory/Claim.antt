@@ -1,0 +1,85 @@
+-- The third demand, of every run of every accepted recipe: from the calculus's claim, step by step.
+use mathlib.Core.Path.{_∙_, _≡_, ap, refl, sym}
+use mathlib.Core.Logic.{_↔_}
+use mathlib.Core.Option.{some}
+use mathlib.Core.List.{List, map}
+use Prim.Native.Nat.{_<_, ℕ}
+use lib.ListN.{length}
+use Rattle.calculus.specs.Types.{LinType}
+use Rattle.calculus.specs.Syntax.{Exp, Config, at, thread-of}
+use Rattle.calculus.specs.Typing.{TypeNumbers}
+use Rattle.calculus.specs.NewTypes.{function-at}
+use Rattle.calculus.specs.Limits.{max-image-length}
+use Rattle.calculus.specs.Run as calculus
+use Rattle.calculus.specs.Run.{State, ValuesTyped, after, reply, refuses}
+use Rattle.image.specs.Configuration.{image-of, config-of}
+use Rattle.image.specs.Theory.Exactly.{read-again}
+use Rattle.stepping.specs.declared.Outcome.the-variants.{Refused}
+use Rattle.runs.specs.Run.{Call, Step, answer, left, types-left, steps, Applies, Binds, IsThread, Goes, Typed, Demand}
+use Rattle.runs.specs.Theory.Steps.{call-of, answered-rule, answered-refused, answered-goes, answers, leaves-image, leaves-types}
+use Rattle.runs.specs.Theory.Simulates.{Kept, AllKept, kept-first, Simulates, same, simulates}
+
+-- an image says its configuration
+reads : {C : Config} → Kept C → config-of (image-of C) ≡ C
+reads {C} k = read-again C (k .keeps) (k .writable)
+
+-- what is said of a step in bytes and of the calculus's
+module _ {τ : TypeNumbers} where
+  applies : {n : Step} {m : calculus.Step} → Simulates τ n m → {z : ℕ} → Applies n z → calculus.Applies m z
+  applies (same s c k l) (size, e, f) =
+      let (C′, g) = answered-rule (reply (s .config) (call-of c)) (sym (answers τ s (k .keeps) (k .writable) c) ∙ e) in
+      (C′, g, rw (reads k) at f)
+
+  binds : {n : Step} {m : calculus.Step} → Simulates τ n m → {y : ℕ} → Binds n y → calculus.Binds m y
+  binds (same s c k l) (z, a, h) = (z, applies (same s c k l) a, rw (reads k) at h)
+
+  refused : {n : Step} {m : calculus.Step} → Simulates τ n m → (number : ℕ) → (answer n ≡ Refused number) ↔ (calculus.replied m ≡ refuses number)
+  refused (same s c k l) number =
+      let a = answers τ s (k .keeps) (k .writable) c in
+      let (there, back) = answered-refused (reply (s .config) (call-of c)) number in
+      (λ e. there (sym a ∙ e), λ e. a ∙ back e)
+
+  is-thread : {n : Step} {m : calculus.Step} → Simulates τ n m → IsThread n ↔ calculus.IsThread m
+  is-thread (same s c k l) = (λ (e, h). (e, rw (reads k) at h), λ (e, h). (e, rw (reads k) h))
+
+  buffer : {n : Step} {m : calculus.Step} → Simulates τ n m → m .call .buffer ≡ length (n .call .out)
+  buffer (same s c k l) = refl
+
+  goes : {n : Step} {m : calculus.Step} → Simulates τ n m → calculus.Goes (calculus.replied m) → Goes (answer n)
+  goes (same s c k l) g = rw (answers τ s (k .keeps) (k .writable) c) (answered-goes (reply (s .config) (call-of c)) g)
+
+  typed-left : {n : Step} {m : calculus.Step} → Simulates τ n m → ValuesTyped τ (after τ (m .before) (m .call)) → Typed τ (left n) (types-left τ n)
+  typed-left (same s c k l) v =
+      rw (leaves-image τ s (k .keeps) (k .writable) c, leaves-types τ s (k .keeps) (k .writable) c, reads l) v
+
+module _ (τ : TypeNumbers) (s : State) (kept : AllKept τ s) (claim : (run : List calculus.Call) → calculus.Demand τ s run) (calls : List Call) where
+  pub run-demand : Demand τ (image-of (s .config)) (s .names) calls
+  run-demand = record {
+    one-application = λ z i j m n p q am an.
+        let (m′, p′, u) = simulates τ s kept calls i m p in
+        let (n′, q′, v) = simulates τ s kept calls j n q in
+        claim (map call-of calls) .one-application z i j m′ n′ p′ q′ (applies u am) (applies v an);
+    one-binding = λ y i j m n p q bm bn.
+        let (m′, p′, u) = simulates τ s kept calls i m p in
+        let (n′, q′, v) = simulates τ s kept calls j n q in
+        claim (map call-of calls) .one-binding y i j m′ n′ p′ q′ (binds u bm) (binds v bn);
+    no-13-16-17 = λ i n p.
+        let (n′, p′, u) = simulates τ s kept calls i n p in
+        let (a, b, c) = claim (map call-of calls) .no-13-16-17 i n′ p′ in
+        (λ e. a (refused u 13 .0 e), λ e. b (refused u 16 .0 e), λ e. c (refused u 17 .0 e));
+    twelve = λ i n p.
+        let (n′, p′, u) = simulates τ s kept calls i n p in
+        let (there, back) = claim (map call-of calls) .twelve i n′ p′ in
+        (λ e. rw (buffer u) at (there (refused u 12 .0 e)), λ l. refused u 12 .1 (back (rw (buffer u) l)));
+    fourteen = λ i n p long.
+        let (n′, p′, u) = simulates τ s kept calls i n p in
+        let (there, back) = claim (map call-of calls) .fourteen i n′ p′ (rw (buffer u) long) in
+        (λ e t. there (refused u 14 .0 e) (is-thread u .0 t), λ no. refused u 14 .1 (back (λ t. no (is-thread u .1 t))));
+    otherwise = λ i n p long t.
+        let (n′, p′, u) = simulates τ s kept calls i n p in
+        goes u (claim (map call-of calls) .otherwise i n′ p′ (rw (buffer u) long) (is-thread u .0 t));
+    typed-loaded = rw (reads (kept-first τ s (record { thread = 0; buffer = 0 }) kept .0)) (claim (map call-of calls) .typed-loaded);
+    typed-after = λ i n p.
+        let (n′, p′, u) = simulates τ s kept calls i n p in
+        typed-left u (claim (map call-of calls) .typed-after i n′ p′);
+  }

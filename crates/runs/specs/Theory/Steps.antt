@@ -1,0 +1,88 @@
+-- A step on the image of a configuration is the calculus's step of that configuration.
+use mathlib.Core.Path.{_∙_, _≡_, ap, refl, sym}
+use mathlib.Core.Logic.{_↔_}
+use mathlib.Core.List.{List, _++_}
+use Prim.Native.Nat.{ℕ}
+use lib.ListN.{drop, length, take}
+use lib.Seq.{take-append-seam}
+use Rattle.calculus.specs.Types.{LinType}
+use Rattle.calculus.specs.Syntax.{Config, EachAll}
+use Rattle.calculus.specs.Typing.{TypeNumbers}
+use Rattle.calculus.specs.NewTypes.{new-types}
+use Rattle.calculus.specs.Image.{ImageRule, Writable}
+use Rattle.calculus.specs.Run as calculus
+use Rattle.calculus.specs.Run.{State, Reply, moved, waits, finished, refuses, leaves, reply}
+use Rattle.calculus.specs.Theory.Tests.{clash}
+use Rattle.calculus.specs.Theory.ImageTest.{image-test-iff}
+use Rattle.image.specs.Configuration.{image-of, config-of}
+use Rattle.image.specs.Theory.Exactly.{read-again, image-written}
+use Rattle.stepping.specs.declared.Outcome.{Outcome}
+use Rattle.stepping.specs.declared.Outcome.the-variants.{Rule, Refused}
+use Rattle.stepping.specs.Stepping.{step-reply, answered, written, outcome-of, out-after}
+use Rattle.runs.specs.Run.{Call, Step, answer, image-left, left, types-by, types-left, Goes}
+
+-- the calculus's call: a buffer's length is all that counts
+abbrev pub call-of : Call → calculus.Call
+call-of c = record { thread = c .thread; buffer = length (c .out) }
+
+-- what the answers say
+pub answered-rule : (q : Reply) {rule size : ℕ} → answered q ≡ Rule rule size → (C′ : Config) × (q ≡ moved rule C′)
+unfolding answered
+answered-rule (moved rule C′) e = (C′, cc)
+answered-rule (waits y) e = absurd (clash (cc))
+answered-rule finished e = absurd (clash (cc))
+answered-rule (refuses number) e = absurd (clash (cc))
+
+pub answered-refused : (q : Reply) (number : ℕ) → (answered q ≡ Refused number) ↔ (q ≡ refuses number)
+unfolding answered
+answered-refused (moved rule C′) number = (λ e. absurd (clash (cc)), λ e. absurd (clash (cc)))
+answered-refused (waits y) number = (λ e. absurd (clash (cc)), λ e. absurd (clash (cc)))
+answered-refused finished number = (λ e. absurd (clash (cc)), λ e. absurd (clash (cc)))
+answered-refused (refuses k) number = (λ e. cc, λ e. cc)
+
+pub answered-goes : (q : Reply) → calculus.Goes q → Goes (answered q)
+unfolding answered
+answered-goes (moved rule C′) g = tt
+answered-goes (waits y) g = tt
+answered-goes finished g = tt
+answered-goes (refuses number) g = g
+
+module _ (τ : TypeNumbers) (s : State) (keeps : ImageRule (s .config)) (writable : EachAll Writable (s .config)) (c : Call) where
+  abbrev handed : Step
+  handed = record { image = image-of (s .config); types = s .names; call = c }
+
+  reads : config-of (image-of (s .config)) ≡ s .config
+  reads = read-again (s .config) keeps writable
+
+  pub replies : step-reply (image-of (s .config)) (c .thread) (length (c .out)) ≡ reply (s .config) (call-of c)
+  unfolding step-reply reply
+  replies = rw (image-written (s .config) keeps writable, reads, image-test-iff (s .config) .1 keeps) refl
+
+  pub answers : answer handed ≡ answered (reply (s .config) (call-of c))
+  unfolding outcome-of
+  answers = ap answered replies
+
+  -- it leaves the image of what the calculus's step leaves
+  pub leaves-image : left handed ≡ image-of (calculus.after τ s (call-of c) .config)
+  unfolding outcome-of out-after image-left answered written leaves
+  leaves-image = ap (λ (q : Reply). image-left (answered q) (written q (c .out)) (image-of (s .config))) replies ∙ go (reply (s .config) (call-of c))
+    where
+      go : (q : Reply) → image-left (answered q) (written q (c .out)) (image-of (s .config)) ≡ image-of (leaves τ s (c .thread) q .config)
+      go (moved rule C′) = take-append-seam (image-of C′) (drop (length (image-of C′)) (c .out))
+      go (waits y) = refl
+      go finished = refl
+      go (refuses number) = refl
+
+  -- and its names have the types that the calculus gives them
+  pub leaves-types : types-left τ handed ≡ calculus.after τ s (call-of c) .names
+  unfolding outcome-of types-by answered leaves
+  leaves-types =
+      ap (λ (q : Reply). types-by (answered q) (new-types τ (config-of (image-of (s .config))) (c .thread)) (s .names)) replies
+      ∙ ap (λ (C : Config). types-by (answered (reply (s .config) (call-of c))) (new-types τ C (c .thread)) (s .names)) reads
+      ∙ go (reply (s .config) (call-of c))
+    where
+      go : (q : Reply) → types-by (answered q) (new-types τ (s .config) (c .thread)) (s .names) ≡ leaves τ s (c .thread) q .names
+      go (moved rule C′) = refl
+      go (waits y) = refl
+      go finished = refl
+      go (refuses number) = refl
