@@ -2,3 +2,5 @@
 
 -- rows of one table: what check answers
 pub mod Cases
+-- rows of one table: what load writes and steps answer
+pub mod Runs

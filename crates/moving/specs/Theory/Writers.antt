@@ -19,7 +19,7 @@ use Rattle.moving.specs.Meets.{move-of, Meets}
 use Rattle.moving.specs.Theory.Reading.{rules, below, thread-stands}
 use Rattle.moving.specs.Theory.Changes.{nodes-part}
 
-size-positive : (e : Exp) → 1 ≤ size e
+pub size-positive : (e : Exp) → 1 ≤ size e
 unfolding size const-size
 size-positive (var i) = omega arith
 size-positive (name k) = omega arith

@@ -1,0 +1,143 @@
+//! The answers of the C interface, laid out as `include/fikarehu.h` has them, and the model's
+//! answers in that form.
+
+use crate::limits::BAYS;
+use crate::load::{self, Loaded};
+use crate::plain;
+use crate::step::{self, Outcome};
+use crate::verdict::{self, Verdict};
+
+/// `struct fikarehu_verdict`
+#[repr(C)]
+#[derive(Debug, Clone, Copy, PartialEq, Eq, Default)]
+pub struct VerdictAnswer {
+    pub refusal: u32,
+    pub bays: u32,
+    pub types: [u8; BAYS],
+}
+
+/// `struct fikarehu_loaded`
+#[repr(C)]
+#[derive(Debug, Clone, Copy, PartialEq, Eq, Default)]
+pub struct LoadedAnswer {
+    pub refusal: u32,
+    pub bays: u32,
+    pub types: [u8; BAYS],
+    pub length: u64,
+}
+
+/// `struct fikarehu_stepped`
+#[repr(C)]
+#[derive(Debug, Clone, Copy, PartialEq, Eq, Default)]
+pub struct SteppedAnswer {
+    pub outcome: u32,
+    pub number: u32,
+    pub length: u64,
+}
+
+pub const DONE: u32 = 0;
+pub const RULE: u32 = 1;
+pub const WAITING: u32 = 2;
+pub const REFUSED: u32 = 3;
+
+/// The types of the bays, zeros beyond.
+fn sixteen(types: &[u8]) -> [u8; BAYS] {
+    let mut all = [0; BAYS];
+    all[..types.len()].copy_from_slice(types);
+    all
+}
+
+/// Something that checks, loads and steps as the C interface does.
+pub trait Implementation {
+    fn check(&self, recipe: &[u8]) -> VerdictAnswer;
+    /// `None` where there is no loader yet.
+    fn load(&self, recipe: &[u8], out: &mut [u8]) -> Option<LoadedAnswer>;
+    /// `None` where there is no stepper yet.
+    fn step(&self, image: &[u8], thread: u64, out: &mut [u8]) -> Option<SteppedAnswer>;
+}
+
+/// The model.
+pub struct Model;
+
+impl Implementation for Model {
+    fn check(&self, recipe: &[u8]) -> VerdictAnswer {
+        match verdict::verdict(recipe) {
+            Verdict::Refused(refusal) => VerdictAnswer {
+                refusal,
+                ..VerdictAnswer::default()
+            },
+            Verdict::Accepted(types) => VerdictAnswer {
+                refusal: 0,
+                bays: types.len() as u32,
+                types: sixteen(&types),
+            },
+        }
+    }
+
+    fn load(&self, recipe: &[u8], out: &mut [u8]) -> Option<LoadedAnswer> {
+        Some(match load::load(recipe, out) {
+            Loaded::Refused(refusal) => LoadedAnswer {
+                refusal,
+                ..LoadedAnswer::default()
+            },
+            Loaded::Accepted(types, length) => LoadedAnswer {
+                refusal: 0,
+                bays: types.len() as u32,
+                types: sixteen(&types),
+                length: length as u64,
+            },
+        })
+    }
+
+    fn step(&self, image: &[u8], thread: u64, out: &mut [u8]) -> Option<SteppedAnswer> {
+        let (outcome, number, length) = match step::step(image, thread, out) {
+            Outcome::Done => (DONE, 0, 0),
+            Outcome::Rule(rule, length) => (RULE, u32::from(rule), length as u64),
+            Outcome::Waiting(name) => (WAITING, u32::from(name), 0),
+            Outcome::Refused(number) => (REFUSED, number, 0),
+        };
+        Some(SteppedAnswer {
+            outcome,
+            number,
+            length,
+        })
+    }
+}
+
+/// The plain implementation.
+pub struct Plain;
+
+impl Implementation for Plain {
+    fn check(&self, recipe: &[u8]) -> VerdictAnswer {
+        let answer = plain::check(recipe);
+        VerdictAnswer {
+            refusal: answer.refusal,
+            bays: answer.bays,
+            types: answer.types,
+        }
+    }
+
+    fn load(&self, recipe: &[u8], out: &mut [u8]) -> Option<LoadedAnswer> {
+        let (answer, length) = plain::load(recipe, out);
+        Some(LoadedAnswer {
+            refusal: answer.refusal,
+            bays: answer.bays,
+            types: answer.types,
+            length: length as u64,
+        })
+    }
+
+    fn step(&self, image: &[u8], thread: u64, out: &mut [u8]) -> Option<SteppedAnswer> {
+        let (outcome, number, length) = match plain::step(image, thread, out) {
+            plain::Stepped::Done => (DONE, 0, 0),
+            plain::Stepped::Rule(rule, length) => (RULE, u32::from(rule), length as u64),
+            plain::Stepped::Waiting(name) => (WAITING, u32::from(name), 0),
+            plain::Stepped::Refused(number) => (REFUSED, number, 0),
+        };
+        Some(SteppedAnswer {
+            outcome,
+            number,
+            length,
+        })
+    }
+}

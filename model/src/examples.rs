@@ -1,0 +1,455 @@
+//! The example recipes: each a file of bytes and a text that says what it does.
+
+use crate::format::{hexadecimal, Recipe};
+use crate::generate::tables::GrowingTable;
+use crate::limits;
+use crate::load::{load, Loaded};
+use crate::nodes::Node;
+use crate::step::{step, Outcome};
+use crate::table::entry;
+use crate::types::{Constant, Multiplicity};
+use crate::wording::{term_in_words, type_in_words};
+use std::fmt::Write;
+
+/// An example: its name, what it does, and its recipe.
+pub struct Example {
+    pub name: &'static str,
+    pub text: &'static str,
+    pub recipe: Recipe,
+}
+
+type Term = Vec<Node>;
+
+/// Types by number, for a recipe that is written by hand.
+struct Types(GrowingTable);
+
+const UNIT: u8 = 0;
+const NUM: u8 = 1;
+const SETTING: u8 = 2;
+
+impl Types {
+    fn new() -> Types {
+        Types(GrowingTable::new(*limits::ENTRIES.end()))
+    }
+
+    fn many(&mut self, p: u8, q: u8) -> u8 {
+        let made = self.0.function(Multiplicity::Many, p, q);
+        made.expect("an example has few types")
+    }
+
+    fn once(&mut self, p: u8, q: u8) -> u8 {
+        let made = self.0.function(Multiplicity::Once, p, q);
+        made.expect("an example has few types")
+    }
+
+    fn cell(&mut self, contents: u8) -> u8 {
+        self.0.cell(contents).expect("an example has few types")
+    }
+
+    fn recipe(self, terms: Vec<Term>) -> Recipe {
+        let entries = self.0.into_entries();
+        Recipe { entries, terms }
+    }
+}
+
+fn apply(function: Term, argument: Term) -> Term {
+    [vec![Node::Application], function, argument].concat()
+}
+
+fn lambda(whole: u8, body: Term) -> Term {
+    [vec![Node::Lambda(whole)], body].concat()
+}
+
+fn variable(index: u8) -> Term {
+    vec![Node::Variable(index)]
+}
+
+fn num(value: u16) -> Term {
+    vec![Node::Num(value)]
+}
+
+fn unit() -> Term {
+    vec![Node::Unit]
+}
+
+fn setting(bay: u8) -> Term {
+    vec![Node::Name(bay)]
+}
+
+fn constant(c: Constant, whole: u8) -> Term {
+    vec![Node::Constant(c, whole)]
+}
+
+/// The number of the exch constant's type for the settings.
+fn setting_exch(types: &mut Types) -> u8 {
+    let rest = types.many(NUM, NUM);
+    types.many(SETTING, rest)
+}
+
+/// exch (setting of the bay) value
+fn set(exch: u8, bay: u8, value: u16) -> Term {
+    apply(
+        apply(constant(Constant::Exch, exch), setting(bay)),
+        num(value),
+    )
+}
+
+/// Every example, in the order of the folder's list.
+pub fn all() -> Vec<Example> {
+    let mut examples = vec![
+        one_bay(),
+        one_vent(),
+        nine_bays(),
+        mutex(),
+        recursion(),
+        waiting(),
+        waiting_for_ever(),
+        bound_to_itself(),
+    ];
+    examples.extend(refused());
+    examples
+}
+
+fn example(name: &'static str, text: &'static str, recipe: Recipe) -> Example {
+    Example { name, text, recipe }
+}
+
+fn one_bay() -> Example {
+    let text = "Case A: the smallest recipe. One bay, whose thread is unit from the start.";
+    example("one-bay", text, Types::new().recipe(vec![unit()]))
+}
+
+fn one_vent() -> Example {
+    let text =
+        "Case B: one step opens the vent of bay 0 to 25.0 percent; the thread then holds the \
+                former opening.";
+    let mut types = Types::new();
+    let exch = setting_exch(&mut types);
+    example("one-vent", text, types.recipe(vec![set(exch, 0, 250)]))
+}
+
+fn nine_bays() -> Example {
+    let text = "Nine bays, each of which opens its own vent: bay 0 to 10.0 percent, bay 8 to 90.0 \
+                percent.";
+    let mut types = Types::new();
+    let exch = setting_exch(&mut types);
+    let terms = (0..9).map(|bay| set(exch, bay, 100 * (u16::from(bay) + 1)));
+    let terms = terms.collect();
+    example("nine-bays", text, types.recipe(terms))
+}
+
+fn mutex() -> Example {
+    let text = "Mutual exclusion, section 5 of the paper. A cell holds the future of whoever came \
+                last; who comes applies the former one's future and so waits until that one has \
+                bound its handle. Two threads set the vent of bay 0 under the same mutex.";
+    let mut types = Types::new();
+    let exch_setting = setting_exch(&mut types);
+    let pass = types.many(UNIT, UNIT);
+    let region = types.many(UNIT, NUM);
+    let whole_mutex = types.many(region, NUM);
+    let made = mutex_term(&mut types, pass, whole_mutex);
+    let under = |value| apply(variable(1), lambda(region, set(exch_setting, 0, value)));
+    let spawned_body = types.many(NUM, NUM);
+    let thread = types.many(spawned_body, NUM);
+    let spawn = apply(
+        constant(Constant::Thread, thread),
+        lambda(spawned_body, under(250)),
+    );
+    let both = apply(lambda(spawned_body, under(500)), spawn);
+    let with_mutex = types.many(whole_mutex, NUM);
+    let cell_of_pass = types.cell(pass);
+    let with_cell = types.many(cell_of_pass, NUM);
+    let new_cell = types.many(pass, cell_of_pass);
+    let first = apply(
+        constant(Constant::Cell, new_cell),
+        lambda(pass, variable(0)),
+    );
+    let body = apply(lambda(with_mutex, both), made);
+    let term = apply(lambda(with_cell, body), first);
+    example("mutex", text, types.recipe(vec![term]))
+}
+
+/// λa. handle (λx. λbind. (exch r x) unit; let v = a unit in bind (λy.y); v), r being variable 0
+/// where it stands.
+fn mutex_term(types: &mut Types, pass: u8, whole_mutex: u8) -> Term {
+    let bind = types.once(pass, UNIT);
+    let then = types.once(UNIT, NUM);
+    let keep = types.many(UNIT, NUM);
+    let with_value = types.once(NUM, NUM);
+    let with_bind = types.many(bind, NUM);
+    let with_future = types.many(pass, with_bind);
+    let handle = types.many(with_future, NUM);
+    let cell = types.cell(pass);
+    let exchanged = types.many(pass, pass);
+    let exch = types.many(cell, exchanged);
+    // under r, a, x, bind: r is 3, a is 2, x is 1, bind is 0
+    let former = apply(
+        apply(constant(Constant::Exch, exch), variable(3)),
+        variable(1),
+    );
+    let wait = apply(former, unit());
+    // after the wait a is 3; with v bound too, bind is 2 and, one lambda further, v is 1
+    let release = apply(variable(2), lambda(pass, variable(0)));
+    let finish = apply(lambda(keep, variable(1)), release);
+    let work = apply(lambda(with_value, finish), apply(variable(3), unit()));
+    let body = apply(lambda(then, work), wait);
+    let handled = lambda(with_future, lambda(with_bind, body));
+    lambda(
+        whole_mutex,
+        apply(constant(Constant::Handle, handle), handled),
+    )
+}
+
+fn recursion() -> Example {
+    let text =
+        "Recursion through thread, section 2.3 of the paper: a thread holds a function that \
+                calls the thread's own future. Bay 0 calls it, and rules 3 and 1 follow each other \
+                for ever.";
+    let mut types = Types::new();
+    let function = types.many(UNIT, UNIT);
+    let body = types.many(function, function);
+    let thread = types.many(body, function);
+    let calls_itself = lambda(function, apply(variable(1), variable(0)));
+    let made = apply(
+        constant(Constant::Thread, thread),
+        lambda(body, calls_itself),
+    );
+    example("recursion", text, types.recipe(vec![apply(made, unit())]))
+}
+
+/// The type of handle for a future that is a function from unit to unit, and those inside it.
+struct HandleTypes {
+    function: u8,
+    with_bind: u8,
+    with_future: u8,
+    handle: u8,
+}
+
+fn handle_types(types: &mut Types) -> HandleTypes {
+    let function = types.many(UNIT, UNIT);
+    let bind = types.once(function, UNIT);
+    let with_bind = types.many(bind, UNIT);
+    let with_future = types.many(function, with_bind);
+    HandleTypes {
+        function,
+        with_bind,
+        with_future,
+        handle: types.many(with_future, UNIT),
+    }
+}
+
+/// handle (λx. λbind. body)
+fn handled(t: &HandleTypes, body: Term) -> Term {
+    let function = lambda(t.with_future, lambda(t.with_bind, body));
+    apply(constant(Constant::Handle, t.handle), function)
+}
+
+fn waiting() -> Example {
+    let text = "A thread that waits: the new thread applies a future that is not bound yet and \
+                answers waiting, until bay 0 binds the future by its handle.";
+    let mut types = Types::new();
+    let t = handle_types(&mut types);
+    let spawned = types.many(UNIT, UNIT);
+    let thread = types.many(spawned, UNIT);
+    let then = types.once(UNIT, UNIT);
+    let needs = lambda(spawned, apply(variable(2), unit()));
+    let spawn = apply(constant(Constant::Thread, thread), needs);
+    let bind = apply(variable(2), lambda(t.function, variable(0)));
+    let pause = apply(lambda(t.function, variable(0)), unit());
+    let later = apply(lambda(then, bind), pause);
+    let term = handled(&t, apply(lambda(then, later), spawn));
+    example("waiting", text, types.recipe(vec![term]))
+}
+
+fn waiting_for_ever() -> Example {
+    let text =
+        "A thread that waits for ever: it needs the future before it gets to the handle that \
+                would bind it. That is no fault; every step of it answers waiting.";
+    let mut types = Types::new();
+    let t = handle_types(&mut types);
+    let then = types.once(UNIT, UNIT);
+    let bind = apply(variable(1), lambda(t.function, variable(0)));
+    let term = handled(&t, apply(lambda(then, bind), apply(variable(1), unit())));
+    example("waiting-for-ever", text, types.recipe(vec![term]))
+}
+
+fn bound_to_itself() -> Example {
+    let text =
+        "Case C: a future bound to itself. It is bound; its thread is done and holds its own \
+                name.";
+    let mut types = Types::new();
+    let bind = types.once(NUM, UNIT);
+    let with_bind = types.many(bind, UNIT);
+    let with_future = types.many(NUM, with_bind);
+    let handle = types.many(with_future, UNIT);
+    let body = apply(variable(0), variable(1));
+    let function = lambda(with_future, lambda(with_bind, body));
+    let term = apply(constant(Constant::Handle, handle), function);
+    example("bound-to-itself", text, types.recipe(vec![term]))
+}
+
+/// One recipe for each refusal from 4 to 11.
+fn refused() -> Vec<Example> {
+    vec![
+        refused_4(),
+        refused_5(),
+        refused_6(),
+        refused_7(),
+        refused_8(),
+        refused_9(),
+        refused_10(),
+        refused_11(),
+    ]
+}
+
+fn refused_4() -> Example {
+    let text = "Refused 4: a type entry breaks its rule. Entries 2 and 3 are equal.";
+    let mut recipe = Types::new().recipe(vec![unit()]);
+    recipe.entries.push(entry(2, 1, 0));
+    example("refused-4", text, recipe)
+}
+
+fn refused_5() -> Example {
+    let text = "Refused 5: a part is not exactly one term. The num is 1001.";
+    example("refused-5", text, Types::new().recipe(vec![num(1_001)]))
+}
+
+fn refused_6() -> Example {
+    let text = "Refused 6: nesting above the limit. The innermost variable stands at nesting 101.";
+    let mut types = Types::new();
+    let identity = types.many(UNIT, UNIT);
+    let mut term = unit();
+    for _ in 0..limits::NESTING - 1 {
+        term = apply(lambda(identity, variable(0)), term);
+    }
+    example("refused-6", text, types.recipe(vec![term]))
+}
+
+fn refused_7() -> Example {
+    let text = "Refused 7: a name not below b. A recipe of one bay names the setting of bay 1.";
+    example("refused-7", text, Types::new().recipe(vec![setting(1)]))
+}
+
+fn refused_8() -> Example {
+    let text = "Refused 8: the narrowing is broken. The contents of the new cell would be usable \
+                once.";
+    let mut types = Types::new();
+    let once = types.once(NUM, UNIT);
+    let cell = types.cell(once);
+    let whole = types.many(once, cell);
+    example(
+        "refused-8",
+        text,
+        types.recipe(vec![constant(Constant::Cell, whole)]),
+    )
+}
+
+fn refused_9() -> Example {
+    let text = "Refused 9: application of a non-function. Unit is applied to unit.";
+    example(
+        "refused-9",
+        text,
+        Types::new().recipe(vec![apply(unit(), unit())]),
+    )
+}
+
+fn refused_10() -> Example {
+    let text = "Refused 10: a once-variable free under a many-lambda. The inner lambda could run \
+                twice, and then the handle would be applied twice.";
+    let mut types = Types::new();
+    let once = types.once(NUM, UNIT);
+    let inner = types.many(NUM, UNIT);
+    let outer = types.many(once, inner);
+    let body = lambda(inner, apply(variable(1), variable(0)));
+    example("refused-10", text, types.recipe(vec![lambda(outer, body)]))
+}
+
+fn refused_11() -> Example {
+    let text = "Refused 11: a bay's type has multiplicity once.";
+    let mut types = Types::new();
+    let once = types.once(NUM, UNIT);
+    example("refused-11", text, types.recipe(vec![lambda(once, unit())]))
+}
+
+/// How many rules the text of an example follows.
+const RULES_TOLD: usize = 40;
+
+impl Example {
+    pub fn file(&self) -> Vec<u8> {
+        self.recipe.write()
+    }
+
+    /// The text beside the file: what it does, its types and terms, its verdict, how it runs.
+    pub fn description(&self) -> String {
+        let mut text = format!("# {}\n\n{}\n\n", self.name, self.text);
+        text += &self.types_and_terms();
+        text += &self.verdict_and_run();
+        text
+    }
+
+    fn types_and_terms(&self) -> String {
+        let mut text = "Types, by number:\n\n".to_owned();
+        for number in 0..self.recipe.entries.len() {
+            let words = type_in_words(&self.recipe.entries, number as u8);
+            writeln!(text, "- {number}: {words}").expect("a text takes more");
+        }
+        text += "\nTerms, a lambda or constant with its type number in brackets:\n\n";
+        for (bay, term) in self.recipe.terms.iter().enumerate() {
+            writeln!(text, "- bay {bay}: `{}`", term_in_words(term)).expect("a text takes more");
+        }
+        text
+    }
+
+    fn verdict_and_run(&self) -> String {
+        let mut out = vec![0; limits::IMAGE_BYTES];
+        let (types, length) = match load(&self.file(), &mut out) {
+            Loaded::Refused(number) => return format!("\nVerdict: {number}.\n"),
+            Loaded::Accepted(types, length) => (types, length),
+        };
+        let image = out[..length].to_vec();
+        let types: Vec<String> = types.iter().map(u8::to_string).collect();
+        let mut text = format!("\nVerdict: 0, bay types {}.\n", types.join(", "));
+        write!(
+            text,
+            "\nStarting image:\n\n```\n{}\n```\n",
+            hexadecimal(&image)
+        )
+        .expect("a text");
+        text += "\nThreads stepped in turn, lowest number first:\n\n";
+        text + &told_run(image)
+    }
+}
+
+/// The answers of steps round by round, until no thread moves or enough is told.
+fn told_run(mut image: Vec<u8>) -> String {
+    let mut text = String::new();
+    let mut out = vec![0; limits::IMAGE_BYTES];
+    let mut rules = 0;
+    loop {
+        let before = rules;
+        let names = u64::from(image[0]);
+        for thread in 0..names {
+            let told = match step(&image, thread, &mut out) {
+                Outcome::Refused(14) => continue,
+                Outcome::Rule(rule, length) => {
+                    image = out[..length].to_vec();
+                    rules += 1;
+                    format!("rule {rule}")
+                }
+                Outcome::Done => "done".to_owned(),
+                Outcome::Waiting(name) => format!("waiting for name {name}"),
+                Outcome::Refused(number) => format!("refused {number}"),
+            };
+            writeln!(text, "- thread {thread}: {told}").expect("a text takes more");
+        }
+        if rules == before || rules >= RULES_TOLD {
+            let end = if rules == before {
+                "No thread moves."
+            } else {
+                "And so on."
+            };
+            let image = hexadecimal(&image);
+            return format!("{text}\n{end} The image is then:\n\n```\n{image}\n```\n");
+        }
+    }
+}

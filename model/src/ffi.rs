@@ -1,0 +1,79 @@
+//! The C interface of the proved library, as `include/fikarehu.h` declares it, and safe calls.
+
+use crate::answers::{Implementation, LoadedAnswer, SteppedAnswer, VerdictAnswer};
+
+extern "C" {
+    fn fikarehu_check(recipe: *const u8, recipe_len: usize) -> VerdictAnswer;
+    #[cfg(feature = "load")]
+    fn fikarehu_load(
+        recipe: *const u8,
+        recipe_len: usize,
+        out: *mut u8,
+        out_len: usize,
+    ) -> LoadedAnswer;
+    #[cfg(feature = "step")]
+    fn fikarehu_step(
+        image: *const u8,
+        image_len: usize,
+        thread: u64,
+        out: *mut u8,
+        out_len: usize,
+    ) -> SteppedAnswer;
+}
+
+/// The verdict on a recipe.
+pub fn check(recipe: &[u8]) -> VerdictAnswer {
+    // SAFETY: the pointer and the length are those of a slice that is lent meanwhile.
+    unsafe { fikarehu_check(recipe.as_ptr(), recipe.len()) }
+}
+
+/// The starting image of a recipe.
+#[cfg(feature = "load")]
+pub fn load(recipe: &[u8], out: &mut [u8]) -> LoadedAnswer {
+    // SAFETY: two slices that are lent meanwhile; the second is lent alone, so they do not overlap.
+    unsafe { fikarehu_load(recipe.as_ptr(), recipe.len(), out.as_mut_ptr(), out.len()) }
+}
+
+/// A step of one thread.
+#[cfg(feature = "step")]
+pub fn step(image: &[u8], thread: u64, out: &mut [u8]) -> SteppedAnswer {
+    // SAFETY: two slices that are lent meanwhile; the second is lent alone, so they do not overlap.
+    unsafe {
+        fikarehu_step(
+            image.as_ptr(),
+            image.len(),
+            thread,
+            out.as_mut_ptr(),
+            out.len(),
+        )
+    }
+}
+
+/// The proved library.
+pub struct Library;
+
+impl Implementation for Library {
+    fn check(&self, recipe: &[u8]) -> VerdictAnswer {
+        check(recipe)
+    }
+
+    #[cfg(feature = "load")]
+    fn load(&self, recipe: &[u8], out: &mut [u8]) -> Option<LoadedAnswer> {
+        Some(load(recipe, out))
+    }
+
+    #[cfg(not(feature = "load"))]
+    fn load(&self, _: &[u8], _: &mut [u8]) -> Option<LoadedAnswer> {
+        None
+    }
+
+    #[cfg(feature = "step")]
+    fn step(&self, image: &[u8], thread: u64, out: &mut [u8]) -> Option<SteppedAnswer> {
+        Some(step(image, thread, out))
+    }
+
+    #[cfg(not(feature = "step"))]
+    fn step(&self, _: &[u8], _: u64, _: &mut [u8]) -> Option<SteppedAnswer> {
+        None
+    }
+}

@@ -1,0 +1,114 @@
+//! Document 01, "The recipe file": opening bytes, pairs, parts; and writing a file.
+
+use crate::limits;
+use crate::nodes::{write_term, Node};
+use crate::table::Entry;
+
+/// The first two bytes, the edition, and n from 2 to 17.
+pub fn opening_is_sound(file: &[u8]) -> bool {
+    let n = usize::from(file[3]);
+    file[..2] == limits::OPENING && file[2] == limits::EDITION && limits::PARTS.contains(&n)
+}
+
+/// A pair: the offset and the length of a part.
+#[derive(Debug, Clone, Copy, PartialEq, Eq)]
+pub struct Pair {
+    pub offset: usize,
+    pub length: usize,
+}
+
+/// Where the pairs end and the first part begins.
+pub fn first_offset(n: usize) -> usize {
+    4 + 4 * n
+}
+
+/// The n pairs, or `None` when the file ends before they do.
+fn pairs(file: &[u8]) -> Option<Vec<Pair>> {
+    let n = usize::from(file[3]);
+    let bytes = file.get(4..first_offset(n))?;
+    let number = |b: &[u8]| usize::from(u16::from_le_bytes([b[0], b[1]]));
+    let pair = |b: &[u8]| Pair {
+        offset: number(&b[..2]),
+        length: number(&b[2..]),
+    };
+    Some(bytes.chunks_exact(4).map(pair).collect())
+}
+
+/// The parts, or `None` when the pairs break the layout: "The first part begins at 4 + 4n, each
+/// next one where the former ends, the last ends with the file. No length is zero."
+fn parts(file: &[u8]) -> Option<Vec<&[u8]>> {
+    let pairs = pairs(file)?;
+    let mut expected = first_offset(pairs.len());
+    let mut parts = Vec::new();
+    for pair in pairs {
+        if pair.offset != expected || pair.length == 0 {
+            return None;
+        }
+        expected += pair.length;
+        parts.push(file.get(pair.offset..expected)?);
+    }
+    (expected == file.len()).then_some(parts)
+}
+
+/// The type table's bytes and the terms' bytes, or `None` for cause 3.
+pub fn table_and_terms(file: &[u8]) -> Option<(&[u8], Vec<&[u8]>)> {
+    let parts = parts(file)?;
+    let (table, terms) = parts.split_first()?;
+    let entries = table.len() / limits::ENTRY_BYTES;
+    let whole = table.len() % limits::ENTRY_BYTES == 0;
+    (whole && limits::ENTRIES.contains(&entries)).then(|| (*table, terms.to_vec()))
+}
+
+/// A file with these parts, whatever they hold, laid out as document 01 says.
+pub fn write_parts(parts: &[Vec<u8>]) -> Vec<u8> {
+    let mut file = limits::OPENING.to_vec();
+    file.push(limits::EDITION);
+    file.push(parts.len() as u8);
+    let mut offset = first_offset(parts.len());
+    for part in parts {
+        file.extend_from_slice(&(offset as u16).to_le_bytes());
+        file.extend_from_slice(&(part.len() as u16).to_le_bytes());
+        offset += part.len();
+    }
+    for part in parts {
+        file.extend_from_slice(part);
+    }
+    file
+}
+
+/// A recipe before it is bytes: its type entries and one term for each bay.
+#[derive(Debug, Clone, PartialEq, Eq)]
+pub struct Recipe {
+    pub entries: Vec<Entry>,
+    pub terms: Vec<Vec<Node>>,
+}
+
+impl Recipe {
+    pub fn parts(&self) -> Vec<Vec<u8>> {
+        let table = self.entries.iter().flat_map(|e| e.bytes()).collect();
+        let mut parts: Vec<Vec<u8>> = vec![table];
+        parts.extend(self.terms.iter().map(|term| write_term(term)));
+        parts
+    }
+
+    pub fn write(&self) -> Vec<u8> {
+        write_parts(&self.parts())
+    }
+
+    /// "1,024 nodes over all terms"
+    pub fn nodes(&self) -> usize {
+        self.terms.iter().map(Vec::len).sum()
+    }
+}
+
+/// Two upper-case hexadecimal digits for each byte.
+pub fn hexadecimal(bytes: &[u8]) -> String {
+    bytes.iter().map(|b| format!("{b:02X}")).collect()
+}
+
+/// The bytes of a text of hexadecimal digits; anything else in it separates them.
+pub fn bytes_of_hexadecimal(text: &str) -> Vec<u8> {
+    let digits: Vec<u32> = text.chars().filter_map(|c| c.to_digit(16)).collect();
+    let byte = |pair: &[u32]| (pair[0] * 16 + pair[1]) as u8;
+    digits.chunks_exact(2).map(byte).collect()
+}

@@ -1,0 +1,11 @@
+//! Random recipes and images: well-typed recipes directed by types, what can go wrong with them,
+//! and images with and without a fault.
+
+pub mod configurations;
+pub mod growth;
+pub mod images;
+pub mod instances;
+pub mod mutants;
+pub mod recipes;
+pub mod tables;
+pub mod terms;

@@ -1,0 +1,310 @@
+//! Random configurations that keep the rules of an image, whatever their types.
+
+use crate::config::{Component, Configuration};
+use crate::draw::Draw;
+use crate::expression::Expression;
+use crate::limits;
+use crate::nodes::Node;
+use crate::reduce::{move_of, Move};
+use crate::types::Constant;
+use std::rc::Rc;
+
+/// Makes expressions over a number of names, root first.
+struct Maker<'a> {
+    draw: &'a mut Draw,
+    names: usize,
+    fuel: usize,
+    nodes: Vec<Node>,
+}
+
+const CONSTANTS: [Constant; 4] = [
+    Constant::Cell,
+    Constant::Exch,
+    Constant::Thread,
+    Constant::Handle,
+];
+
+impl Maker<'_> {
+    fn leaf(&mut self, lambdas: usize) {
+        let node = match self.draw.below(6) {
+            0 => Node::Unit,
+            1 if self.draw.one_in(3) => Node::Num(limits::NUM),
+            1 => Node::Num(self.draw.below(usize::from(limits::NUM) + 1) as u16),
+            2 => Node::Constant(self.draw.pick(&CONSTANTS), self.draw.byte()),
+            3 | 4 if lambdas > 0 => Node::Variable(self.draw.below(lambdas.min(256)) as u8),
+            _ => Node::Name(self.draw.below(self.names) as u8),
+        };
+        self.nodes.push(node);
+    }
+
+    fn any(&mut self, lambdas: usize) {
+        if self.fuel == 0 {
+            return self.leaf(lambdas);
+        }
+        self.fuel -= 1;
+        match self.draw.below(5) {
+            0 => self.leaf(lambdas),
+            1 | 2 => self.lambda(lambdas),
+            _ => {
+                self.nodes.push(Node::Application);
+                self.any(lambdas);
+                self.any(lambdas);
+            }
+        }
+    }
+
+    fn lambda(&mut self, lambdas: usize) {
+        self.nodes.push(Node::Lambda(self.draw.byte()));
+        self.any(lambdas + 1);
+    }
+
+    /// A value without free variables.
+    fn value(&mut self) {
+        match self.draw.below(6) {
+            0 | 1 => self.lambda(0),
+            2 if self.draw.one_in(2) => {
+                self.exch();
+                self.value();
+            }
+            _ => self.leaf(0),
+        }
+    }
+
+    /// exch, still without its argument.
+    fn exch(&mut self) {
+        self.nodes.push(Node::Application);
+        let exch = Node::Constant(Constant::Exch, self.draw.byte());
+        self.nodes.push(exch);
+    }
+
+    /// Two values that meet, with layers of Fig. 3's contexts around them.
+    fn meeting(&mut self, layers: usize) {
+        if layers == 0 {
+            return self.two_values();
+        }
+        self.nodes.push(Node::Application);
+        if self.draw.one_in(2) {
+            self.meeting(layers - 1);
+            self.any(0);
+        } else {
+            self.value();
+            self.meeting(layers - 1);
+        }
+    }
+
+    fn two_values(&mut self) {
+        self.nodes.push(Node::Application);
+        match self.draw.below(8) {
+            0 | 1 => self.lambda(0),
+            2 => {
+                let constant = self.draw.pick(&CONSTANTS);
+                self.nodes.push(Node::Constant(constant, self.draw.byte()));
+            }
+            3 | 4 => self
+                .nodes
+                .push(Node::Name(self.draw.below(self.names) as u8)),
+            5 | 6 => {
+                self.exch();
+                self.leaf(0);
+            }
+            _ => self.value(),
+        }
+        self.value();
+    }
+}
+
+fn thread_nodes(draw: &mut Draw, names: usize, fuel: usize) -> Vec<Node> {
+    let layers = draw.pick(&[0, 0, 0, 1, 2, 5]);
+    let form = draw.below(5);
+    let nodes = Vec::new();
+    let mut maker = Maker {
+        draw,
+        names,
+        fuel,
+        nodes,
+    };
+    match form {
+        0 => maker.value(),
+        1 => maker.any(0),
+        _ => maker.meeting(layers),
+    }
+    maker.nodes
+}
+
+fn value_nodes(draw: &mut Draw, names: usize, fuel: usize) -> Vec<Node> {
+    let nodes = Vec::new();
+    let mut maker = Maker {
+        draw,
+        names,
+        fuel,
+        nodes,
+    };
+    maker.value();
+    maker.nodes
+}
+
+fn tree(nodes: &[Node]) -> Rc<Expression> {
+    Rc::new(Expression::of_nodes(nodes))
+}
+
+fn some_thread(draw: &mut Draw, names: usize, fuel: usize) -> Component {
+    Component::Thread(tree(&thread_nodes(draw, names, fuel)))
+}
+
+/// A configuration of that many names; expressions of about `fuel` nodes each.
+pub fn configuration_of(draw: &mut Draw, names: usize, fuel: usize) -> Configuration {
+    let mut components = Vec::new();
+    for _ in 0..names {
+        let component = match draw.below(8) {
+            0 | 1 => Component::Cell(tree(&value_nodes(draw, names, fuel))),
+            2 => Component::UsedHandle,
+            3 | 4 => Component::Future,
+            _ => some_thread(draw, names, fuel),
+        };
+        components.push(component);
+    }
+    give_handles(draw, &mut components);
+    Configuration { components }
+}
+
+/// Every future gets one open handle, in place of another component; a last one is given up.
+fn give_handles(draw: &mut Draw, components: &mut [Component]) {
+    let names = components.len();
+    let mut futures: Vec<usize> = Vec::new();
+    let mut others: Vec<usize> = Vec::new();
+    for (name, component) in components.iter().enumerate() {
+        match component {
+            Component::Future => futures.push(name),
+            _ => others.push(name),
+        }
+    }
+    for future in futures {
+        if others.is_empty() {
+            components[future] = some_thread(draw, names, 3);
+            continue;
+        }
+        let handle = others.swap_remove(draw.below(others.len()));
+        components[handle] = Component::OpenHandle(future as u8);
+    }
+}
+
+/// Small ones, larger ones, and now and then many names.
+pub fn configuration(draw: &mut Draw) -> Configuration {
+    let names = match draw.below(20) {
+        0 => 0,
+        1 => draw.between(200, 256),
+        2..=5 => draw.between(6, 30),
+        _ => draw.between(1, 6),
+    };
+    let fuel = if names > 30 {
+        4
+    } else {
+        draw.pick(&[3, 8, 40])
+    };
+    configuration_of(draw, names, fuel)
+}
+
+/// A configuration in which some rule's outcome has 4,094 to 4,098 nodes.
+pub fn outcome_at_limit(draw: &mut Draw) -> Configuration {
+    let names = draw.between(2, 6);
+    let mut configuration = configuration_of(draw, names, 8);
+    let first = configuration.components.first();
+    if matches!(first, Some(Component::Thread(_))) && draw.one_in(2) {
+        configuration.components[0] = Component::Thread(tree(&growing(draw)));
+    }
+    let outcomes: Vec<usize> = (0..names)
+        .filter(|name| matches!(configuration.components[*name], Component::Thread(_)))
+        .filter_map(|thread| match move_of(&configuration, thread) {
+            Move::Rule(_, next) => Some(next.nodes()),
+            _ => None,
+        })
+        .collect();
+    if outcomes.is_empty() {
+        return configuration;
+    }
+    let wanted = draw.between(limits::IMAGE_NODES - 2, limits::IMAGE_NODES + 2);
+    let filler = wanted - draw.pick(&outcomes).min(wanted - 1);
+    let expression = tree(&large(draw, names, filler));
+    configuration.components.push(Component::Thread(expression));
+    configuration
+}
+
+/// (λx. x (x .. unit)) v, with a value large enough that rule 1 adds nodes.
+fn growing(draw: &mut Draw) -> Vec<Node> {
+    let mut term = vec![Node::Application, Node::Lambda(1)];
+    for _ in 0..draw.between(2, 4) {
+        term.extend([Node::Application, Node::Variable(0)]);
+    }
+    term.push(Node::Unit);
+    term.extend(std::iter::repeat_n(Node::Lambda(2), draw.between(5, 20)));
+    term.push(Node::Unit);
+    term
+}
+
+/// A configuration near both limits: 254 to 256 names, 4,090 to 4,096 nodes.
+pub fn configuration_at_limits(draw: &mut Draw) -> Configuration {
+    let names = match draw.below(3) {
+        0 => draw.between(2, 10),
+        _ => draw.between(254, 256),
+    };
+    let mut configuration = configuration_of(draw, names, 3);
+    let wanted = match draw.below(3) {
+        0 => draw.between(2_000, 4_000),
+        _ => draw.between(4_090, 4_096),
+    };
+    grow(draw, &mut configuration, wanted);
+    configuration
+}
+
+/// Brings the nodes to that number by a large expression in one of the threads.
+fn grow(draw: &mut Draw, configuration: &mut Configuration, wanted: usize) {
+    let threads: Vec<usize> = (0..configuration.names())
+        .filter(|name| matches!(configuration.components[*name], Component::Thread(_)))
+        .collect();
+    if threads.is_empty() {
+        return;
+    }
+    let chosen = draw.pick(&threads);
+    let others = configuration.nodes()
+        - configuration.components[chosen]
+            .expression()
+            .map_or(0, |e| e.size());
+    let Some(room) = wanted.checked_sub(others).filter(|room| *room >= 1) else {
+        return;
+    };
+    let expression = tree(&large(draw, configuration.names(), room));
+    configuration.components[chosen] = Component::Thread(expression);
+}
+
+/// An expression of exactly that many nodes: a wide one, a deep one, or a copying one.
+fn large(draw: &mut Draw, names: usize, nodes: usize) -> Vec<Node> {
+    let name = Node::Name(draw.below(names) as u8);
+    let mut made = match draw.below(4) {
+        0 => vec![Node::Lambda(draw.byte()); nodes - 1],
+        1 if nodes > 8 => copying(draw, nodes),
+        2 if nodes > 8 => {
+            let function = draw.pick(&[Node::Unit, name, Node::Constant(Constant::Thread, 9)]);
+            let mut term = vec![Node::Application, function];
+            term.resize(nodes - 1, Node::Lambda(3));
+            term
+        }
+        _ => [Node::Application, name].repeat((nodes - 1) / 2),
+    };
+    while made.len() + 1 < nodes {
+        made.insert(0, Node::Lambda(0));
+    }
+    made.push(Node::Unit);
+    made
+}
+
+/// (λx. x (x (x .. unit))) v, for a larger or smaller v; its last unit is still to come.
+fn copying(draw: &mut Draw, nodes: usize) -> Vec<Node> {
+    let places = draw.pick(&[0, 1, 2, 3]).min((nodes - 6) / 2);
+    let mut term = vec![Node::Application, Node::Lambda(1)];
+    for _ in 0..places {
+        term.extend([Node::Application, Node::Variable(0)]);
+    }
+    term.push(Node::Unit);
+    term.resize(nodes - 1, Node::Lambda(2));
+    term
+}

@@ -1,0 +1,125 @@
+//! Recipes brought to a limit exactly, keeping their types: more nodes, deeper nesting.
+
+use crate::draw::Draw;
+use crate::generate::recipes::Draft;
+use crate::generate::tables::{NUM_NUMBER, SETTING_NUMBER, UNIT_NUMBER};
+use crate::limits;
+use crate::nodes::{standings, Node};
+use crate::types::{Constant, Multiplicity};
+
+/// The types that growth needs.
+struct Steps {
+    unit_to_unit: u8,
+    num_to_num: u8,
+    num_to_unit: u8,
+    exch: u8,
+}
+
+impl Steps {
+    fn new(draft: &mut Draft) -> Option<Steps> {
+        let many = Multiplicity::Many;
+        let table = &mut draft.table;
+        let num_to_num = table.function(many, NUM_NUMBER, NUM_NUMBER)?;
+        Some(Steps {
+            unit_to_unit: table.function(many, UNIT_NUMBER, UNIT_NUMBER)?,
+            num_to_num,
+            num_to_unit: table.function(many, NUM_NUMBER, UNIT_NUMBER)?,
+            exch: table.function(many, SETTING_NUMBER, num_to_num)?,
+        })
+    }
+
+    /// The leaf under an identity: three nodes more.
+    fn identity(&self, leaf: Node) -> [Node; 4] {
+        let whole = match leaf {
+            Node::Unit => self.unit_to_unit,
+            _ => self.num_to_num,
+        };
+        [
+            Node::Application,
+            Node::Lambda(whole),
+            Node::Variable(0),
+            leaf,
+        ]
+    }
+
+    /// The leaf, or for unit a function that forgets a num: three nodes more.
+    fn three_more(&self, draw: &mut Draw, leaf: Node) -> Vec<Node> {
+        if leaf == Node::Unit && draw.one_in(2) {
+            let function = Node::Lambda(self.num_to_unit);
+            return vec![Node::Application, function, Node::Unit, Node::Num(7)];
+        }
+        self.identity(leaf).to_vec()
+    }
+
+    /// A num exchanged with a setting: four nodes more.
+    fn four_more(&self, leaf: Node) -> Vec<Node> {
+        let exch = Node::Constant(Constant::Exch, self.exch);
+        vec![
+            Node::Application,
+            Node::Application,
+            exch,
+            Node::Name(0),
+            leaf,
+        ]
+    }
+}
+
+/// The places of units and nums (or nums alone) that are not too deep to grow.
+fn leaves(draft: &Draft, only_nums: bool) -> Vec<(usize, usize)> {
+    let mut places = Vec::new();
+    for (bay, term) in draft.terms.iter().enumerate() {
+        let standing = standings(term);
+        for (at, (node, here)) in term.iter().zip(standing).enumerate() {
+            let wanted = matches!(node, Node::Num(_)) || (*node == Node::Unit && !only_nums);
+            if wanted && here.nesting + 2 <= limits::NESTING {
+                places.push((bay, at));
+            }
+        }
+    }
+    places
+}
+
+/// Grows to that many nodes exactly; `None` when it cannot be met.
+pub fn grow_to_nodes(draft: &mut Draft, draw: &mut Draw, wanted: usize) -> Option<()> {
+    let steps = Steps::new(draft)?;
+    let missing = wanted.checked_sub(draft.nodes())?;
+    let fours = missing % 3;
+    let threes = missing.checked_sub(4 * fours)? / 3;
+    for grown in 0..threes + fours {
+        let by_four = grown >= threes;
+        let places = leaves(draft, by_four);
+        if places.is_empty() {
+            return None;
+        }
+        let (bay, at) = draw.pick(&places);
+        let leaf = draft.terms[bay][at];
+        let more = if by_four {
+            steps.four_more(leaf)
+        } else {
+            steps.three_more(draw, leaf)
+        };
+        draft.terms[bay].splice(at..=at, more);
+    }
+    Some(())
+}
+
+/// Nests identities until the deepest node has that nesting.
+pub fn grow_to_nesting(draft: &mut Draft, draw: &mut Draw, wanted: usize) -> Option<()> {
+    let steps = Steps::new(draft)?;
+    let places = leaves(draft, false);
+    if places.is_empty() {
+        return None;
+    }
+    let (bay, at) = draw.pick(&places);
+    let leaf = draft.terms[bay][at];
+    let nesting = standings(&draft.terms[bay])[at].nesting;
+    let times = wanted.checked_sub(nesting + 1)?;
+    let mut nested = vec![leaf];
+    for _ in 0..times {
+        let mut around = steps.identity(leaf)[..3].to_vec();
+        around.append(&mut nested);
+        nested = around;
+    }
+    draft.terms[bay].splice(at..=at, nested);
+    Some(())
+}

@@ -1,0 +1,140 @@
+//! Random images: sound ones, ones at the limits, and damaged ones; and what a step is called with.
+
+use crate::draw::Draw;
+use crate::generate::configurations::{configuration, configuration_at_limits, outcome_at_limit};
+use crate::image::write_image;
+use crate::limits;
+
+/// A slice to step: mostly an image, sometimes a damaged one.
+pub fn image(draw: &mut Draw) -> Vec<u8> {
+    let mut made = match draw.below(14) {
+        0 => write_image(&configuration_at_limits(draw)),
+        1 => write_image(&outcome_at_limit(draw)),
+        _ => write_image(&configuration(draw)),
+    };
+    if draw.one_in(3) {
+        for _ in 0..draw.pick(&[1, 1, 2, 4]) {
+            damage(&mut made, draw);
+        }
+    }
+    made
+}
+
+fn damage(image: &mut Vec<u8>, draw: &mut Draw) {
+    if image.is_empty() {
+        return;
+    }
+    let at = draw.below(image.len());
+    match draw.below(13) {
+        10 => raise_a_num(image),
+        11 | 12 => open_a_used_handle(image, draw),
+        0 => image[at] = draw.byte(),
+        1 => image[at] ^= 1 << draw.below(8),
+        2 => image[at] = image[at].wrapping_add(1),
+        3 => image[at] = image[at].wrapping_sub(1),
+        4 => image.truncate(at),
+        5 => image.push(draw.below(10) as u8),
+        6 => damage_head(image, draw),
+        7 => damage_head(image, draw),
+        8 => image[at] = draw.below(11) as u8,
+        _ => lengthen(image, draw),
+    }
+}
+
+/// The first num 1000 becomes 1001.
+fn raise_a_num(image: &mut [u8]) {
+    let found = image.windows(3).position(|bytes| bytes == [4, 0xE8, 3]);
+    if let Some(at) = found {
+        image[at + 1] += 1;
+    }
+}
+
+/// A used handle becomes an open one, of a future that has a handle or of any name.
+fn open_a_used_handle(image: &mut [u8], draw: &mut Draw) {
+    let used = names_of_kind(image, 4);
+    let futures = names_of_kind(image, 5);
+    if used.is_empty() {
+        return;
+    }
+    let handle = draw.pick(&used) as usize;
+    let companion = if futures.is_empty() || draw.one_in(3) {
+        draw.byte() % image[0].max(1)
+    } else {
+        draw.pick(&futures) as u8
+    };
+    let head = limits::COUNT_BYTES + limits::HEAD_BYTES * handle;
+    image[head..head + 2].copy_from_slice(&[3, companion]);
+}
+
+/// A field of a head changed a little: kind, companion, offset or length.
+fn damage_head(image: &mut [u8], draw: &mut Draw) {
+    let names = usize::from(image[0]).max(1);
+    let name = draw.below(names);
+    let field = draw.below(limits::HEAD_BYTES);
+    let at = limits::COUNT_BYTES + limits::HEAD_BYTES * name + field;
+    let value = draw.below(6) as u8;
+    if let Some(byte) = image.get_mut(at) {
+        *byte = match draw.below(3) {
+            0 => value,
+            1 => byte.wrapping_add(1),
+            _ => byte.wrapping_sub(1),
+        };
+    }
+}
+
+/// Bytes beyond the end, also past the longest image, the last length told of them.
+fn lengthen(image: &mut Vec<u8>, draw: &mut Draw) {
+    let more = draw.pick(&[1, 2, 300, 4_096, 13_826, 16_000]);
+    let filler = draw.pick(&[2, 3, 1]);
+    image.resize(image.len() + more, filler);
+    let names = usize::from(image[0]) + 256 * usize::from(image[1]);
+    let last = limits::COUNT_BYTES + limits::HEAD_BYTES * names;
+    if names > 0 && last <= image.len() && draw.one_in(2) {
+        let old = u16::from_le_bytes([image[last - 2], image[last - 1]]);
+        let new = old.wrapping_add(more as u16).to_le_bytes();
+        image[last - 2..last].copy_from_slice(&new);
+    }
+}
+
+/// The names that the heads of a slice give that kind, as far as there are heads.
+fn names_of_kind(image: &[u8], wanted: u8) -> Vec<u64> {
+    let count = image.get(..limits::COUNT_BYTES).unwrap_or(&[0, 0]);
+    let names = usize::from(u16::from_le_bytes([count[0], count[1]]));
+    let heads = image.get(limits::COUNT_BYTES..).unwrap_or(&[]);
+    let heads = heads.chunks_exact(limits::HEAD_BYTES).take(names);
+    let kinds = heads.map(|head| head[0]);
+    (0..)
+        .zip(kinds)
+        .filter(|(_, kind)| *kind == wanted)
+        .map(|(name, _)| name)
+        .collect()
+}
+
+/// A number to step: mostly a thread's, sometimes of no thread, also a huge one.
+pub fn thread_number(draw: &mut Draw, image: &[u8]) -> u64 {
+    let names = u64::from(image.first().copied().unwrap_or(0));
+    let below = draw.below(names as usize + 1) as u64;
+    let threads = names_of_kind(image, 1);
+    match draw.below(30) {
+        0 => names,
+        1 => below + 256,
+        2 => below + 65_536,
+        3 => below + (1 << 32),
+        4 => u64::MAX - below,
+        5 => u64::from(draw.byte()),
+        _ if threads.is_empty() => below,
+        _ => draw.pick(&threads),
+    }
+}
+
+/// The length of an out buffer: mostly just enough.
+pub fn out_length(draw: &mut Draw) -> usize {
+    match draw.below(24) {
+        0 => 0,
+        1 => limits::IMAGE_BYTES - 1,
+        2 => limits::IMAGE_BYTES + 1,
+        3 => draw.below(limits::IMAGE_BYTES),
+        4 => limits::IMAGE_BYTES + draw.below(5_000),
+        _ => limits::IMAGE_BYTES,
+    }
+}

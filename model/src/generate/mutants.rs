@@ -1,0 +1,320 @@
+//! Recipes with faults: in the terms and the table with the layout kept, and in the bytes.
+
+use crate::draw::Draw;
+use crate::format::{write_parts, Recipe};
+use crate::generate::recipes::well_typed;
+use crate::limits;
+use crate::nodes::{end_of_term, Node};
+use crate::table::{entry, Entry};
+use crate::types::Constant;
+
+/// A recipe changed in one to four places, its layout kept.
+pub fn of_recipe(draw: &mut Draw, make: fn(&mut Draw) -> Recipe) -> Vec<u8> {
+    let mut recipe = make(draw);
+    for _ in 0..draw.pick(&[1, 1, 1, 2, 4]) {
+        change(&mut recipe, draw);
+    }
+    let mut parts = recipe.parts();
+    if draw.one_in(6) {
+        change_part(&mut parts, draw);
+    }
+    write_parts(&parts)
+}
+
+/// A file changed in one to four of its bytes or fields.
+pub fn of_bytes(draw: &mut Draw, make: fn(&mut Draw) -> Recipe) -> Vec<u8> {
+    let mut file = make(draw).write();
+    for _ in 0..draw.pick(&[1, 1, 1, 2, 4]) {
+        damage(&mut file, draw);
+    }
+    file
+}
+
+fn change(recipe: &mut Recipe, draw: &mut Draw) {
+    match draw.below(12) {
+        0 => change_entry(recipe, draw),
+        1..=3 => change_operand(recipe, draw),
+        10 | 11 => give_near_type(recipe, draw),
+        4 => exchange_constant(recipe, draw),
+        5 => exchange_subterm(recipe, draw),
+        6 => drop_node(recipe, draw),
+        7 => wrap(recipe, draw),
+        8 => replace_leaf(recipe, draw),
+        _ => change_bays(recipe, draw),
+    }
+}
+
+fn change_entry(recipe: &mut Recipe, draw: &mut Draw) {
+    let count = recipe.entries.len();
+    let at = draw.below(count);
+    let other = recipe.entries[draw.below(count)];
+    let target = &mut recipe.entries[at];
+    match draw.below(8) {
+        0 => target.kind = draw.pick(&[0, 1, 2, 3, 4, 5, 255]),
+        1 => target.p = draw.byte(),
+        2 => target.q = draw.byte(),
+        3 => target.kind = target.kind.wrapping_add(1),
+        4 => *target = other,
+        5 => target.p = at as u8,
+        6 => recipe.entries.push(any_entry(draw)),
+        _ => {
+            recipe.entries.remove(at);
+        }
+    }
+}
+
+fn any_entry(draw: &mut Draw) -> Entry {
+    entry(draw.below(6) as u8, draw.byte() % 8, draw.byte() % 8)
+}
+
+/// Some node of some bay that the test picks out.
+fn some_node(recipe: &Recipe, draw: &mut Draw, wanted: fn(Node) -> bool) -> Option<(usize, usize)> {
+    let bay = draw.below(recipe.terms.len());
+    let nodes = recipe.terms[bay].iter().enumerate();
+    let places: Vec<usize> = nodes
+        .filter(|(_, n)| wanted(**n))
+        .map(|(at, _)| at)
+        .collect();
+    (!places.is_empty()).then(|| (bay, draw.pick(&places)))
+}
+
+/// Another index, type number, name or value.
+fn change_operand(recipe: &mut Recipe, draw: &mut Draw) {
+    let has_operand = |n: Node| !matches!(n, Node::Application | Node::Unit);
+    let Some((bay, at)) = some_node(recipe, draw, has_operand) else {
+        return;
+    };
+    let types = recipe.entries.len();
+    let bays = recipe.terms.len();
+    let number = match draw.below(6) {
+        0 => types as u8,
+        1 => draw.byte(),
+        _ => draw.below(types) as u8,
+    };
+    let node = &mut recipe.terms[bay][at];
+    match node {
+        Node::Variable(index) => *index = nearby(*index, draw),
+        Node::Lambda(t) | Node::Constant(_, t) => *t = number,
+        Node::Name(k) => *k = draw.below(bays + 2) as u8,
+        Node::Num(value) => *value = draw.pick(&[0, 999, 1000, 1001, 1024, 65_535]),
+        Node::Application | Node::Unit => {}
+    }
+}
+
+/// A lambda or constant gets a type that differs from its own in one place.
+fn give_near_type(recipe: &mut Recipe, draw: &mut Draw) {
+    let Some((bay, at)) = some_node(recipe, draw, |n| n.type_number().is_some()) else {
+        return;
+    };
+    let number = recipe.terms[bay][at].type_number().unwrap_or(0);
+    let levels = draw.below(4);
+    let near = near_type(recipe, draw, number, levels);
+    if let Node::Lambda(t) | Node::Constant(_, t) = &mut recipe.terms[bay][at] {
+        *t = near;
+    }
+}
+
+/// The number of a type that differs from that one in one place, so many levels down.
+pub fn near_type(recipe: &mut Recipe, draw: &mut Draw, number: u8, levels: usize) -> u8 {
+    let Some(mut near) = recipe.entries.get(usize::from(number)).copied() else {
+        return number;
+    };
+    let other = draw.below(recipe.entries.len()) as u8;
+    let first = draw.one_in(2) || near.kind < 3;
+    if near.kind < 2 {
+        return other;
+    }
+    match (levels > 0, first) {
+        (true, true) => near.p = near_type(recipe, draw, near.p, levels - 1),
+        (true, false) => near.q = near_type(recipe, draw, near.q, levels - 1),
+        (false, _) => match draw.below(4) {
+            0 => near = entry(2, near.p, 0),
+            1 => near.p = other,
+            2 if near.kind >= 3 => near.q = other,
+            _ => near.kind = if near.kind == 4 { 3 } else { 4 },
+        },
+    }
+    number_of(recipe, near)
+}
+
+/// The number of that entry, added if it is new and finds room.
+fn number_of(recipe: &mut Recipe, wanted: Entry) -> u8 {
+    let found = recipe.entries.iter().position(|e| *e == wanted);
+    let number = found.unwrap_or_else(|| {
+        recipe.entries.push(wanted);
+        recipe.entries.len() - 1
+    });
+    u8::try_from(number).unwrap_or(0)
+}
+
+fn nearby(index: u8, draw: &mut Draw) -> u8 {
+    match draw.below(5) {
+        0 | 1 => index.wrapping_add(1),
+        2 | 3 => index.wrapping_sub(1),
+        _ => draw.byte(),
+    }
+}
+
+fn exchange_constant(recipe: &mut Recipe, draw: &mut Draw) {
+    let is_constant = |n: Node| matches!(n, Node::Constant(_, _));
+    let all = [
+        Constant::Cell,
+        Constant::Exch,
+        Constant::Thread,
+        Constant::Handle,
+    ];
+    if let Some((bay, at)) = some_node(recipe, draw, is_constant) {
+        if let Node::Constant(c, _) = &mut recipe.terms[bay][at] {
+            *c = draw.pick(&all);
+        }
+    }
+}
+
+/// A subterm stands where another stood.
+fn exchange_subterm(recipe: &mut Recipe, draw: &mut Draw) {
+    let (Some((from, start)), Some((to, at))) = (
+        some_node(recipe, draw, |_| true),
+        some_node(recipe, draw, |_| true),
+    ) else {
+        return;
+    };
+    let end = end_of_term(&recipe.terms[from], start);
+    let copied = recipe.terms[from][start..end].to_vec();
+    let end = end_of_term(&recipe.terms[to], at);
+    recipe.terms[to].splice(at..end, copied);
+}
+
+/// A lambda gives way to its body, an application to its function or its argument.
+fn drop_node(recipe: &mut Recipe, draw: &mut Draw) {
+    let Some((bay, at)) = some_node(recipe, draw, |n| n.subterms() > 0) else {
+        return;
+    };
+    let term = &mut recipe.terms[bay];
+    if term[at].subterms() == 2 {
+        let middle = end_of_term(term, at + 1);
+        let end = end_of_term(term, middle);
+        if draw.one_in(2) {
+            term.drain(middle..end);
+        } else {
+            term.drain(at + 1..middle);
+        }
+    }
+    term.remove(at);
+}
+
+/// A lambda around a subterm, or a subterm applied to another.
+fn wrap(recipe: &mut Recipe, draw: &mut Draw) {
+    let Some((bay, at)) = some_node(recipe, draw, |_| true) else {
+        return;
+    };
+    let number = draw.below(recipe.entries.len()) as u8;
+    let around = match draw.below(3) {
+        0 => vec![Node::Lambda(number)],
+        1 => vec![Node::Application, Node::Unit],
+        _ => vec![Node::Application, Node::Lambda(number), Node::Variable(0)],
+    };
+    recipe.terms[bay].splice(at..at, around);
+}
+
+fn replace_leaf(recipe: &mut Recipe, draw: &mut Draw) {
+    let Some((bay, at)) = some_node(recipe, draw, |n| n.subterms() == 0) else {
+        return;
+    };
+    let number = draw.below(recipe.entries.len()) as u8;
+    recipe.terms[bay][at] = match draw.below(5) {
+        0 => Node::Unit,
+        1 => Node::Num(5),
+        2 => Node::Name(0),
+        3 => Node::Variable(draw.below(3) as u8),
+        _ => Node::Constant(Constant::Thread, number),
+    };
+}
+
+/// A bay more or less, down to none and up to one too many.
+fn change_bays(recipe: &mut Recipe, draw: &mut Draw) {
+    let some = recipe.terms[draw.below(recipe.terms.len())].clone();
+    match draw.below(4) {
+        0 if recipe.terms.len() > 1 => {
+            recipe.terms.pop();
+        }
+        1 => recipe.terms.resize(limits::BAYS, some),
+        2 if draw.one_in(3) => recipe.terms.resize(limits::BAYS + 1, vec![Node::Unit]),
+        _ => recipe.terms.push(some),
+    }
+}
+
+/// A part with other bytes, the pairs telling the truth about it.
+fn change_part(parts: &mut [Vec<u8>], draw: &mut Draw) {
+    let at = draw.below(parts.len());
+    let part = &mut parts[at];
+    let byte = draw.below(part.len().max(1));
+    match draw.below(5) {
+        0 => part.truncate(byte),
+        1 => part.push(draw.byte()),
+        2 if byte < part.len() => part[byte] = draw.pick(&[2, 10, 11, 255]),
+        3 => part.insert(byte.min(part.len()), draw.below(11) as u8),
+        _ => part.extend([3; 3]),
+    }
+}
+
+fn damage(file: &mut Vec<u8>, draw: &mut Draw) {
+    if file.is_empty() {
+        return;
+    }
+    let at = draw.below(file.len());
+    match draw.below(12) {
+        0 => file[at] ^= 1 << draw.below(8),
+        1 => file[at] = draw.byte(),
+        2 => file[at] = draw.below(11) as u8,
+        3 => file.truncate(at),
+        4 => file.extend((0..draw.between(1, 9)).map(|_| 3)),
+        5 => file.insert(at, draw.below(11) as u8),
+        6 => {
+            file.remove(at);
+        }
+        7 => file.swap(0, at),
+        8 => damage_at(file, draw, 0, 4),
+        9 => damage_at(file, draw, 4, 12),
+        10 => damage_at(file, draw, 12, 40),
+        _ => resize(file, draw),
+    }
+}
+
+/// A byte between two positions made one more or less, or anything.
+fn damage_at(file: &mut [u8], draw: &mut Draw, from: usize, to: usize) {
+    let at = draw.between(from, to - 1);
+    if let Some(byte) = file.get_mut(at) {
+        *byte = match draw.below(3) {
+            0 => byte.wrapping_add(1),
+            1 => byte.wrapping_sub(1),
+            _ => draw.byte(),
+        };
+    }
+}
+
+/// A file of a length near the limits.
+fn resize(file: &mut Vec<u8>, draw: &mut Draw) {
+    let lengths = [0, 1, 3, 4, 11, 12, 13, 20, 8_191, 8_192, 8_193, 9_000];
+    file.resize(draw.pick(&lengths), 3);
+}
+
+/// A file of about 8,192 bytes whose last part opens thousands of nodes, whole or cut.
+pub fn giant(draw: &mut Draw) -> Vec<u8> {
+    let mut parts = well_typed(draw).parts();
+    parts.truncate(draw.between(1, 3).min(parts.len()));
+    let length = draw.pick(&[8_190, 8_191, 8_192, 8_193, 4_000, 3_000]);
+    let fixed = 4 + 4 * (parts.len() + 1) + parts.iter().map(Vec::len).sum::<usize>();
+    let room = length.max(fixed + 3) - fixed;
+    let many = draw.pick(&[room / 2, room / 2, room, 0]);
+    let mut part = match draw.below(3) {
+        0 => [vec![2; many], vec![3; room - many]].concat(),
+        1 => [2, 3].repeat(room / 2),
+        _ => [1, 3].repeat(room / 2),
+    };
+    part.resize(room, 3);
+    if draw.one_in(4) {
+        part[room - 1] = draw.pick(&[10, 200, 4]);
+    }
+    parts.push(part);
+    write_parts(&parts)
+}

@@ -1,0 +1,142 @@
+//! A type table that grows as terms need types.
+
+use crate::draw::Draw;
+use crate::limits;
+use crate::table::{entry, Entry, CELL, FIRST_ENTRIES, MANY, ONCE};
+use crate::types::Multiplicity;
+use std::collections::HashMap;
+
+pub const UNIT_NUMBER: u8 = 0;
+pub const NUM_NUMBER: u8 = 1;
+pub const SETTING_NUMBER: u8 = 2;
+
+/// The entries so far, each type once.
+#[derive(Debug, Clone)]
+pub struct GrowingTable {
+    entries: Vec<Entry>,
+    numbers: HashMap<Entry, u8>,
+    most: usize,
+}
+
+impl GrowingTable {
+    /// Entries 0 to 2, and room for `most` entries in all.
+    pub fn new(most: usize) -> GrowingTable {
+        let mut table = GrowingTable {
+            entries: Vec::new(),
+            numbers: HashMap::new(),
+            most: most.min(*limits::ENTRIES.end()),
+        };
+        for first in FIRST_ENTRIES {
+            table.number_of(first);
+        }
+        table
+    }
+
+    pub fn entries(&self) -> &[Entry] {
+        &self.entries
+    }
+
+    pub fn into_entries(self) -> Vec<Entry> {
+        self.entries
+    }
+
+    pub fn len(&self) -> usize {
+        self.entries.len()
+    }
+
+    pub fn is_empty(&self) -> bool {
+        self.entries.is_empty()
+    }
+
+    /// The number of a type, new or not; `None` when a new one finds no room.
+    fn number_of(&mut self, wanted: Entry) -> Option<u8> {
+        if let Some(number) = self.numbers.get(&wanted) {
+            return Some(*number);
+        }
+        if self.entries.len() >= self.most.max(3) {
+            return None;
+        }
+        let number = u8::try_from(self.entries.len()).ok()?;
+        self.entries.push(wanted);
+        self.numbers.insert(wanted, number);
+        Some(number)
+    }
+
+    pub fn get(&self, number: u8) -> Entry {
+        self.entries[usize::from(number)]
+    }
+
+    pub fn is_once(&self, number: u8) -> bool {
+        self.get(number).kind == ONCE
+    }
+
+    /// Multiplicity, parameter and result of a function type.
+    pub fn function_parts(&self, number: u8) -> Option<(Multiplicity, u8, u8)> {
+        let e = self.get(number);
+        match e.kind {
+            ONCE => Some((Multiplicity::Once, e.p, e.q)),
+            MANY => Some((Multiplicity::Many, e.p, e.q)),
+            _ => None,
+        }
+    }
+
+    /// The contents of a cell type.
+    pub fn contents(&self, number: u8) -> Option<u8> {
+        let e = self.get(number);
+        (e.kind == CELL).then_some(e.p)
+    }
+
+    pub fn cell(&mut self, contents: u8) -> Option<u8> {
+        self.number_of(entry(CELL, contents, 0))
+    }
+
+    pub fn function(&mut self, multiplicity: Multiplicity, p: u8, q: u8) -> Option<u8> {
+        let kind = match multiplicity {
+            Multiplicity::Once => ONCE,
+            Multiplicity::Many => MANY,
+        };
+        self.number_of(entry(kind, p, q))
+    }
+
+    /// A new type over the types so far, if there is room and it is new.
+    pub fn add_any(&mut self, draw: &mut Draw) -> Option<u8> {
+        let p = self.any(draw);
+        let q = self.any(draw);
+        let wanted = match draw.below(5) {
+            0 => entry(CELL, p, 0),
+            1 | 2 => entry(ONCE, p, q),
+            _ => entry(MANY, p, q),
+        };
+        self.number_of(wanted)
+    }
+
+    /// Some type of the table, the first ones more often.
+    pub fn any(&self, draw: &mut Draw) -> u8 {
+        let bound = if draw.one_in(2) {
+            self.len().min(6)
+        } else {
+            self.len()
+        };
+        draw.below(bound) as u8
+    }
+
+    /// Some type of multiplicity many.
+    pub fn any_many(&self, draw: &mut Draw) -> u8 {
+        for _ in 0..4 {
+            let number = self.any(draw);
+            if !self.is_once(number) {
+                return number;
+            }
+        }
+        draw.below(3) as u8
+    }
+
+    /// More types, until there are that many.
+    pub fn fill(&mut self, draw: &mut Draw, wanted: usize) {
+        let mut tries = 20 * wanted;
+        while self.len() < wanted && tries > 0 {
+            self.add_any(draw);
+            tries -= 1;
+        }
+    }
+}

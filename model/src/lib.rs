@@ -1,0 +1,30 @@
+//! An independent model of document 01: recipes, verdicts, images and steps, straight from the
+//! document and from the figures of the paper on the concurrent lambda calculus with futures.
+//! It is written to be read and to be compared with the proved library, not to be fast.
+
+pub mod answers;
+pub mod command;
+pub mod comparison;
+pub mod config;
+pub mod context;
+pub mod draw;
+pub mod examples;
+pub mod expression;
+#[cfg(feature = "library")]
+pub mod ffi;
+pub mod format;
+pub mod generate;
+pub mod guard;
+pub mod image;
+pub mod limits;
+pub mod load;
+pub mod nodes;
+pub mod plain;
+pub mod reduce;
+pub mod run;
+pub mod step;
+pub mod table;
+pub mod types;
+pub mod typing;
+pub mod verdict;
+pub mod wording;

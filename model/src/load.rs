@@ -1,0 +1,47 @@
+//! Document 01, "Loading": the starting image of an accepted recipe.
+
+use crate::config::{Component, Configuration};
+use crate::expression::Expression;
+use crate::image::write_image;
+use crate::limits;
+use crate::nodes::Node;
+use crate::verdict::{read_recipe, verdict, Verdict};
+use std::rc::Rc;
+
+/// The answer of a load: each bay's type number and the image's length, or the refusal.
+#[derive(Debug, Clone, PartialEq, Eq)]
+pub enum Loaded {
+    Accepted(Vec<u8>, usize),
+    Refused(u32),
+}
+
+/// "names 0 to b − 1 to the settings and b to 2b − 1 to the bays' threads"; a setting starts at 0.
+pub fn starting_configuration(terms: &[Vec<Node>]) -> Configuration {
+    let setting = |_: &Vec<Node>| Component::Cell(Rc::new(Expression::Num(0)));
+    let thread = |term: &Vec<Node>| Component::Thread(Rc::new(Expression::of_nodes(term)));
+    let settings = terms.iter().map(setting);
+    let threads = terms.iter().map(thread);
+    Configuration {
+        components: settings.chain(threads).collect(),
+    }
+}
+
+/// The starting image of an accepted file.
+pub fn starting_image(file: &[u8]) -> Option<Vec<u8>> {
+    let (_, terms) = read_recipe(file)?;
+    Some(write_image(&starting_configuration(&terms)))
+}
+
+/// Loading: 12 first, then the verdict, then the image.
+pub fn load(file: &[u8], out: &mut [u8]) -> Loaded {
+    if out.len() < limits::IMAGE_BYTES {
+        return Loaded::Refused(12);
+    }
+    let types = match verdict(file) {
+        Verdict::Refused(number) => return Loaded::Refused(number),
+        Verdict::Accepted(types) => types,
+    };
+    let image = starting_image(file).expect("an accepted recipe has a starting image");
+    out[..image.len()].copy_from_slice(&image);
+    Loaded::Accepted(types, image.len())
+}

@@ -1,0 +1,16 @@
+//! The same answers by plain hand-written Rust on bytes, without allocation: what the proved
+//! library is measured against. Checked equal to the model.
+
+mod check;
+mod image;
+mod levels;
+mod load;
+mod place;
+mod step;
+mod term;
+mod walk;
+mod write;
+
+pub use check::{check, Answer};
+pub use load::load;
+pub use step::{step, Stepped};

@@ -1,0 +1,157 @@
+//! Causes 1 to 4 in their order, then the terms: causes 5 to 8 in one pass, 9 to 11 in another.
+
+use crate::limits;
+use crate::plain::term::scan_term;
+use crate::plain::walk::Walk;
+
+/// The answer: the refusal or 0, the number of bays, and each bay's type number.
+#[derive(Debug, Clone, Copy, PartialEq, Eq)]
+pub struct Answer {
+    pub refusal: u32,
+    pub bays: u32,
+    pub types: [u8; limits::BAYS],
+}
+
+impl Answer {
+    pub fn refused(refusal: u32) -> Answer {
+        Answer {
+            refusal,
+            bays: 0,
+            types: [0; limits::BAYS],
+        }
+    }
+}
+
+/// The table as it stands in the file.
+#[derive(Clone, Copy)]
+pub struct PlainTable<'a> {
+    bytes: &'a [u8],
+}
+
+impl PlainTable<'_> {
+    pub fn entries(self) -> usize {
+        self.bytes.len() / limits::ENTRY_BYTES
+    }
+
+    pub fn entry(self, number: u8) -> (u8, u8, u8) {
+        let at = usize::from(number) * limits::ENTRY_BYTES;
+        (self.bytes[at], self.bytes[at + 1], self.bytes[at + 2])
+    }
+}
+
+/// The verdict on a file.
+pub fn check(file: &[u8]) -> Answer {
+    match try_check(file) {
+        Ok(answer) => answer,
+        Err(refusal) => Answer::refused(refusal),
+    }
+}
+
+fn try_check(file: &[u8]) -> Result<Answer, u32> {
+    if !limits::FILE_BYTES.contains(&file.len()) {
+        return Err(1);
+    }
+    let n = usize::from(file[3]);
+    if file[..3] != [0x4C, 0x46, 1] || !limits::PARTS.contains(&n) {
+        return Err(2);
+    }
+    check_pairs(file, n)?;
+    let table = PlainTable {
+        bytes: part(file, 0),
+    };
+    if !table_is_sound(table) {
+        return Err(4);
+    }
+    check_terms(file, n - 1, table)
+}
+
+fn number_at(file: &[u8], at: usize) -> usize {
+    usize::from(file[at]) + 256 * usize::from(file[at + 1])
+}
+
+/// The part that pair i names; the pairs are sound.
+pub fn part(file: &[u8], i: usize) -> &[u8] {
+    let offset = number_at(file, 4 + 4 * i);
+    &file[offset..offset + number_at(file, 6 + 4 * i)]
+}
+
+fn check_pairs(file: &[u8], n: usize) -> Result<(), u32> {
+    let mut expected = 4 + 4 * n;
+    if file.len() < expected {
+        return Err(3);
+    }
+    for i in 0..n {
+        let length = number_at(file, 6 + 4 * i);
+        if number_at(file, 4 + 4 * i) != expected || length == 0 {
+            return Err(3);
+        }
+        expected += length;
+    }
+    let table_length = number_at(file, 6);
+    if expected != file.len()
+        || !table_length.is_multiple_of(3)
+        || !(9..=768).contains(&table_length)
+    {
+        return Err(3);
+    }
+    Ok(())
+}
+
+fn table_is_sound(table: PlainTable) -> bool {
+    if table.bytes[..9] != [0, 0, 0, 1, 0, 0, 2, 1, 0] {
+        return false;
+    }
+    let mut keys = [0u32; 256];
+    for (own, e) in table.bytes.chunks_exact(3).enumerate() {
+        let (kind, p, q) = (e[0], usize::from(e[1]), usize::from(e[2]));
+        let kept = match kind {
+            0 | 1 => p == 0 && q == 0,
+            2 => p < own && q == 0,
+            3 | 4 => p < own && q < own,
+            _ => false,
+        };
+        if !kept {
+            return false;
+        }
+        keys[own] = u32::from_be_bytes([0, e[0], e[1], e[2]]);
+    }
+    let keys = &mut keys[..table.entries()];
+    keys.sort_unstable();
+    keys.windows(2).all(|pair| pair[0] != pair[1])
+}
+
+fn check_terms(file: &[u8], bays: usize, table: PlainTable) -> Result<Answer, u32> {
+    let mut nodes = 0;
+    let mut lowest = u32::MAX;
+    for bay in 0..bays {
+        let scanned = scan_term(part(file, 1 + bay), table, bays)?;
+        nodes += scanned.nodes;
+        lowest = lowest.min(scanned.lowest);
+    }
+    if nodes > limits::NODES {
+        return Err(6);
+    }
+    if lowest != u32::MAX {
+        return Err(lowest);
+    }
+    walk_terms(file, bays, table)
+}
+
+fn walk_terms(file: &[u8], bays: usize, table: PlainTable) -> Result<Answer, u32> {
+    let mut answer = Answer::refused(0);
+    answer.bays = bays as u32;
+    let mut misused = false;
+    let mut once = false;
+    for bay in 0..bays {
+        let mut walk = Walk::new(part(file, 1 + bay), table);
+        let found = walk.term().ok_or(9u32)?;
+        misused |= walk.misused;
+        once |= table.entry(found).0 == 3;
+        answer.types[bay] = found;
+    }
+    match (misused, once) {
+        (true, _) => Err(10),
+        (_, true) => Err(11),
+        _ => Ok(answer),
+    }
+}

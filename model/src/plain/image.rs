@@ -1,0 +1,136 @@
+//! Refusal 13 on bytes: one pass over the heads, one over each expression.
+
+use crate::limits;
+use crate::nodes::FORMS;
+use crate::plain::levels::{Levels, Passed};
+
+/// A sound image and its number of nodes.
+#[derive(Clone, Copy)]
+pub struct PlainImage<'a> {
+    pub bytes: &'a [u8],
+    pub names: usize,
+    pub nodes: usize,
+}
+
+impl<'a> PlainImage<'a> {
+    pub fn kind(self, name: usize) -> u8 {
+        self.bytes[head(name)]
+    }
+
+    pub fn companion(self, name: usize) -> u8 {
+        self.bytes[head(name) + 1]
+    }
+
+    pub fn offset(self, name: usize) -> usize {
+        number_at(self.bytes, head(name) + 2)
+    }
+
+    pub fn expression(self, name: usize) -> &'a [u8] {
+        let offset = self.offset(name);
+        &self.bytes[offset..offset + number_at(self.bytes, head(name) + 4)]
+    }
+}
+
+fn head(name: usize) -> usize {
+    limits::COUNT_BYTES + limits::HEAD_BYTES * name
+}
+
+fn number_at(bytes: &[u8], at: usize) -> usize {
+    usize::from(bytes[at]) + 256 * usize::from(bytes[at + 1])
+}
+
+/// The image, if it keeps every rule and limit.
+pub fn read<'a>(levels: &mut ExpressionLevels, bytes: &'a [u8]) -> Option<PlainImage<'a>> {
+    if !(limits::COUNT_BYTES..=limits::IMAGE_BYTES).contains(&bytes.len()) {
+        return None;
+    }
+    let names = number_at(bytes, 0);
+    if names > limits::NAMES || head(names) > bytes.len() {
+        return None;
+    }
+    let mut image = PlainImage {
+        bytes,
+        names,
+        nodes: 0,
+    };
+    check_heads(image)?;
+    for name in 0..names {
+        if image.kind(name) <= 2 {
+            image.nodes += scan(levels, image.expression(name), names)?;
+        }
+        if image.kind(name) == 2 && !crate::plain::place::is_value(image.expression(name)) {
+            return None;
+        }
+    }
+    (image.nodes <= limits::IMAGE_NODES).then_some(image)
+}
+
+/// Kinds, companions, offsets and lengths; each future has exactly one open handle.
+fn check_heads(image: PlainImage) -> Option<()> {
+    let mut end = head(image.names);
+    let mut handles = [0u16; limits::NAMES];
+    for name in 0..image.names {
+        let length = number_at(image.bytes, head(name) + 4);
+        let (kind, companion) = (image.kind(name), image.companion(name));
+        let sound = match kind {
+            1 | 2 => companion == 0,
+            3 => length == 0 && usize::from(companion) < image.names,
+            4 | 5 => length == 0 && companion == 0,
+            _ => false,
+        };
+        if !sound || image.offset(name) != end {
+            return None;
+        }
+        if kind == 3 {
+            handles[usize::from(companion)] += 1;
+        }
+        end += length;
+    }
+    let matched = |name: usize| handles[name] == u16::from(image.kind(name) == 5);
+    (end == image.bytes.len() && (0..image.names).all(matched)).then_some(())
+}
+
+/// The levels of a walk over an expression.
+pub type ExpressionLevels = Levels<{ limits::IMAGE_NODES }>;
+
+/// The nodes of bytes that are exactly one term, with its variables bound and names below m.
+fn scan(levels: &mut ExpressionLevels, bytes: &[u8], names: usize) -> Option<usize> {
+    levels.begin();
+    let mut at = 0;
+    let mut nodes = 0;
+    loop {
+        let tag = *bytes.get(at)?;
+        let form = FORMS.get(usize::from(tag))?;
+        let after = bytes.get(at + 1..at + 1 + form.after)?;
+        nodes += 1;
+        let sound = match tag {
+            0 => usize::from(after[0]) < levels.lambdas(),
+            4 => u16::from_le_bytes([after[0], after[1]]) <= limits::NUM,
+            9 => usize::from(after[0]) < names,
+            _ => true,
+        };
+        if !sound || nodes > limits::IMAGE_NODES {
+            return None;
+        }
+        at += 1 + form.after;
+        match levels.pass(tag, form.subterms) {
+            Passed::More => {}
+            Passed::Ended => return (at == bytes.len()).then_some(nodes),
+            Passed::TooDeep => return None,
+        }
+    }
+}
+
+/// The number of nodes of one sound term, and where it ends.
+pub fn measure(bytes: &[u8], start: usize) -> (usize, usize) {
+    let mut at = start;
+    let mut nodes = 0;
+    let mut pending = 1;
+    while pending > 0 {
+        let form = &FORMS[usize::from(bytes[at])];
+        pending = pending - 1 + form.subterms;
+        at += 1 + form.after;
+        nodes += 1;
+    }
+    (nodes, at)
+}

@@ -1,0 +1,31 @@
+//! Loading: the check, then the starting image, each term copied byte for byte.
+
+use crate::limits;
+use crate::plain::check::{check, part, Answer};
+
+/// The verdict, and the length of the image written (0 on a refusal).
+pub fn load(file: &[u8], out: &mut [u8]) -> (Answer, usize) {
+    if out.len() < limits::IMAGE_BYTES {
+        return (Answer::refused(12), 0);
+    }
+    let answer = check(file);
+    if answer.refusal != 0 {
+        return (answer, 0);
+    }
+    let bays = answer.bays as usize;
+    let mut end = limits::COUNT_BYTES + limits::HEAD_BYTES * 2 * bays;
+    out[..2].copy_from_slice(&(2 * bays as u16).to_le_bytes());
+    for name in 0..2 * bays {
+        let (kind, expression) = match name.checked_sub(bays) {
+            None => (2, &[4, 0, 0][..]),
+            Some(bay) => (1, part(file, 1 + bay)),
+        };
+        let head = limits::COUNT_BYTES + limits::HEAD_BYTES * name;
+        out[head..head + 2].copy_from_slice(&[kind, 0]);
+        out[head + 2..head + 4].copy_from_slice(&(end as u16).to_le_bytes());
+        out[head + 4..head + 6].copy_from_slice(&(expression.len() as u16).to_le_bytes());
+        out[end..end + expression.len()].copy_from_slice(expression);
+        end += expression.len();
+    }
+    (answer, end)
+}

@@ -1,0 +1,201 @@
+//! The new image after a change, written in one pass; there is room for it.
+
+use crate::limits;
+use crate::nodes::FORMS;
+use crate::plain::image::{ExpressionLevels, PlainImage};
+use crate::plain::levels::Passed;
+use crate::plain::place::Place;
+
+/// A rule of Fig. 5 with what it needs beyond the place.
+#[derive(Clone, Copy)]
+pub enum Change {
+    Beta,
+    ThreadNew,
+    /// The needed name and where it stands.
+    FutureDeref {
+        at: usize,
+        name: u8,
+    },
+    HandleNew,
+    HandleBind {
+        handle: u8,
+        future: u8,
+    },
+    CellNew,
+    CellExch {
+        cell: u8,
+    },
+}
+
+impl Change {
+    pub fn rule(self) -> u8 {
+        match self {
+            Change::Beta => 1,
+            Change::ThreadNew => 2,
+            Change::FutureDeref { .. } => 3,
+            Change::HandleNew => 4,
+            Change::HandleBind { .. } => 5,
+            Change::CellNew => 6,
+            Change::CellExch { .. } => 7,
+        }
+    }
+
+    /// How many names the rule adds.
+    pub fn new_names(self) -> usize {
+        match self {
+            Change::ThreadNew | Change::CellNew => 1,
+            Change::HandleNew => 2,
+            _ => 0,
+        }
+    }
+}
+
+/// The out buffer and where the next expression goes.
+struct Writer<'a> {
+    levels: &'a mut ExpressionLevels,
+    out: &'a mut [u8],
+    end: usize,
+}
+
+impl Writer<'_> {
+    fn put(&mut self, bytes: &[u8]) {
+        self.out[self.end..self.end + bytes.len()].copy_from_slice(bytes);
+        self.end += bytes.len();
+    }
+
+    /// The head of a name whose expression has just been written from `start` on.
+    fn head(&mut self, name: usize, kind: u8, companion: u8, start: usize) {
+        let at = limits::COUNT_BYTES + limits::HEAD_BYTES * name;
+        let length = (self.end - start) as u16;
+        self.out[at..at + 2].copy_from_slice(&[kind, companion]);
+        self.out[at + 2..at + 4].copy_from_slice(&(start as u16).to_le_bytes());
+        self.out[at + 4..at + 6].copy_from_slice(&length.to_le_bytes());
+    }
+
+    /// The body with the value at each place of its lambda's variable.
+    fn substituted(&mut self, body: &[u8], value: &[u8]) {
+        self.levels.begin();
+        let mut at = 0;
+        loop {
+            let tag = body[at];
+            let form = &FORMS[usize::from(tag)];
+            let next = at + 1 + form.after;
+            if tag == 0 && usize::from(body[at + 1]) == self.levels.lambdas() {
+                self.put(value);
+            } else {
+                self.put(&body[at..next]);
+            }
+            at = next;
+            if self.levels.pass(tag, form.subterms) != Passed::More {
+                return;
+            }
+        }
+    }
+}
+
+/// Writes the image after the change; its length.
+pub fn write(
+    levels: &mut ExpressionLevels,
+    image: PlainImage,
+    thread: usize,
+    place: Place,
+    change: Change,
+    out: &mut [u8],
+) -> usize {
+    let names = image.names + change.new_names();
+    let end = limits::COUNT_BYTES + limits::HEAD_BYTES * names;
+    let mut writer = Writer { levels, out, end };
+    writer.out[..2].copy_from_slice(&(names as u16).to_le_bytes());
+    let expression = image.expression(thread);
+    let value = &expression[place.argument..place.end];
+    for name in 0..image.names {
+        let start = writer.end;
+        let (kind, companion) = if name == thread {
+            write_thread(&mut writer, image, expression, place, change);
+            (1, 0)
+        } else {
+            write_other(&mut writer, image, name, value, change)
+        };
+        writer.head(name, kind, companion, start);
+    }
+    write_new(&mut writer, image.names, value, change);
+    writer.end
+}
+
+/// The expression of the thread that steps.
+fn write_thread(
+    writer: &mut Writer,
+    image: PlainImage,
+    expression: &[u8],
+    place: Place,
+    change: Change,
+) {
+    let value = &expression[place.argument..place.end];
+    let new = image.names as u8;
+    writer.put(&expression[..place.start]);
+    match change {
+        Change::Beta => writer.substituted(&expression[place.function() + 2..], value),
+        Change::ThreadNew | Change::CellNew => writer.put(&[9, new]),
+        Change::FutureDeref { at, name } => {
+            writer.put(&expression[place.start..at]);
+            writer.put(image.expression(usize::from(name)));
+            writer.put(&expression[at + 2..place.end]);
+        }
+        Change::HandleNew => {
+            writer.put(&[2, 2]);
+            writer.put(value);
+            writer.put(&[9, new, 9, new + 1]);
+        }
+        Change::HandleBind { .. } => writer.put(&[3]),
+        Change::CellExch { cell } => writer.put(image.expression(usize::from(cell))),
+    }
+    writer.put(&expression[place.end..]);
+}
+
+/// Any other name: the future bound, the handle used, the cell exchanged, or as it was.
+fn write_other(
+    writer: &mut Writer,
+    image: PlainImage,
+    name: usize,
+    value: &[u8],
+    change: Change,
+) -> (u8, u8) {
+    match change {
+        Change::HandleBind { future, .. } if usize::from(future) == name => {
+            writer.put(value);
+            (1, 0)
+        }
+        Change::HandleBind { handle, .. } if usize::from(handle) == name => (4, 0),
+        Change::CellExch { cell } if usize::from(cell) == name => {
+            writer.put(value);
+            (2, 0)
+        }
+        _ => {
+            writer.put(image.expression(name));
+            (image.kind(name), image.companion(name))
+        }
+    }
+}
+
+/// The new names: a thread, a cell, or a future and its handle.
+fn write_new(writer: &mut Writer, first: usize, value: &[u8], change: Change) {
+    let start = writer.end;
+    let new = first as u8;
+    match change {
+        Change::ThreadNew => {
+            writer.put(&[2]);
+            writer.put(value);
+            writer.put(&[9, new]);
+            writer.head(first, 1, 0, start);
+        }
+        Change::CellNew => {
+            writer.put(value);
+            writer.head(first, 2, 0, start);
+        }
+        Change::HandleNew => {
+            writer.head(first, 5, 0, start);
+            writer.head(first + 1, 3, new, start);
+        }
+        _ => {}
+    }
+}

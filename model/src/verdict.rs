@@ -1,0 +1,220 @@
+//! Document 01's causes 1 to 11, each tried over the whole file; the lowest number wins.
+
+use crate::expression::{Expression, Variable};
+use crate::format::{opening_is_sound, table_and_terms};
+use crate::limits;
+use crate::nodes::{read_term, standings, Node};
+use crate::table::{entries_of, Table};
+use crate::types::{is_instance, Multiplicity, Type};
+use crate::typing::{derive, Environment, Subject};
+use std::rc::Rc;
+
+/// Accepted, with each bay's type number; or refused, with the number of the cause.
+#[derive(Debug, Clone, PartialEq, Eq)]
+pub enum Verdict {
+    Accepted(Vec<u8>),
+    Refused(u32),
+}
+
+impl Verdict {
+    /// 0 for accepted, else the number of the cause.
+    pub fn number(&self) -> u32 {
+        match self {
+            Verdict::Accepted(_) => 0,
+            Verdict::Refused(number) => *number,
+        }
+    }
+}
+
+/// The verdict on a file.
+pub fn verdict(file: &[u8]) -> Verdict {
+    match examine(file) {
+        Ok(types) => Verdict::Accepted(types),
+        Err(number) => Verdict::Refused(number),
+    }
+}
+
+/// The causes that ask about bytes, in their order; then those that ask about terms.
+fn examine(file: &[u8]) -> Result<Vec<u8>, u32> {
+    refuse_if(!limits::FILE_BYTES.contains(&file.len()), 1)?;
+    refuse_if(!opening_is_sound(file), 2)?;
+    let (table, terms) = table_and_terms(file).ok_or(3u32)?;
+    let table = Table::read(&entries_of(table)).ok_or(4u32)?;
+    let terms = read_terms(&terms).ok_or(5u32)?;
+    refuse_if(above_the_limits(&terms), 6)?;
+    refuse_if_any_unfit(&table, &terms)?;
+    let numbers = terms.iter().map(|term| {
+        let found = type_of(&table, &Expression::of_nodes(term));
+        found.and_then(|found| table.number_of(&found))
+    });
+    Ok(numbers
+        .map(|n| n.expect("the type of an accepted term is an entry"))
+        .collect())
+}
+
+fn refuse_if(fits: bool, number: u32) -> Result<(), u32> {
+    if fits {
+        Err(number)
+    } else {
+        Ok(())
+    }
+}
+
+/// The table and the terms of a file that causes 1 to 6 do not refuse.
+pub fn read_recipe(file: &[u8]) -> Option<(Table, Vec<Vec<Node>>)> {
+    let sound = limits::FILE_BYTES.contains(&file.len()) && opening_is_sound(file);
+    let (table, terms) = sound.then(|| table_and_terms(file))??;
+    let table = Table::read(&entries_of(table))?;
+    let terms = read_terms(&terms)?;
+    (!above_the_limits(&terms)).then_some((table, terms))
+}
+
+/// Cause 5: "a part is not exactly one term".
+fn read_terms(parts: &[&[u8]]) -> Option<Vec<Vec<Node>>> {
+    parts.iter().map(|part| read_term(part)).collect()
+}
+
+/// Cause 6: "nesting or nodes above the limit".
+fn above_the_limits(terms: &[Vec<Node>]) -> bool {
+    let nodes: usize = terms.iter().map(Vec::len).sum();
+    let too_deep = |term: &Vec<Node>| standings(term).iter().any(|s| s.nesting > limits::NESTING);
+    nodes > limits::NODES || terms.iter().any(too_deep)
+}
+
+/// Causes 7 to 11 on terms within the limits: the lowest that fits one of them.
+pub fn refuse_if_any_unfit(table: &Table, terms: &[Vec<Node>]) -> Result<(), u32> {
+    let bays = terms.len();
+    refuse_if(terms.iter().any(|t| names_nothing(table, bays, t)), 7)?;
+    refuse_if(terms.iter().any(|t| has_unfit_type(table, t)), 8)?;
+    let trees: Vec<Expression> = terms.iter().map(|t| Expression::of_nodes(t)).collect();
+    refuse_if(trees.iter().any(|e| type_of(table, e).is_none()), 9)?;
+    refuse_if(trees.iter().any(|e| misuses_once(table, e)), 10)?;
+    refuse_if(trees.iter().any(|e| is_once_at_root(table, e)), 11)
+}
+
+/// Cause 7: "index with no lambda, name not below b, type number not below t".
+fn names_nothing(table: &Table, bays: usize, term: &[Node]) -> bool {
+    let standing = standings(term);
+    term.iter().zip(standing).any(|(node, here)| match node {
+        Node::Variable(index) => usize::from(*index) >= here.lambdas,
+        Node::Name(k) => usize::from(*k) >= bays,
+        Node::Lambda(t) | Node::Constant(_, t) => table.get(*t).is_none(),
+        Node::Application | Node::Unit | Node::Num(_) => false,
+    })
+}
+
+/// Cause 8: "lambda's type no function, constant's type no instance of Fig. 8 (handle as above),
+/// narrowing broken".
+fn has_unfit_type(table: &Table, term: &[Node]) -> bool {
+    let unfit = |node: &Node| match node {
+        Node::Lambda(t) => table.get(*t).is_none_or(|whole| whole.function().is_none()),
+        Node::Constant(c, t) => table.get(*t).is_none_or(|whole| !is_instance(*c, whole)),
+        _ => false,
+    };
+    term.iter().any(unfit)
+}
+
+/// The type that a term would have if once and many did not matter: `None` where cause 9 fits,
+/// "application of a non-function, argument or body of another type".
+pub fn type_of(table: &Table, term: &Expression) -> Option<Rc<Type>> {
+    type_under(table, &mut Vec::new(), term)
+}
+
+fn type_under(
+    table: &Table,
+    scope: &mut Vec<(Variable, Rc<Type>)>,
+    e: &Expression,
+) -> Option<Rc<Type>> {
+    match e {
+        Expression::Variable(x) => {
+            let bound = scope.iter().rev().find(|(y, _)| y == x)?;
+            Some(bound.1.clone())
+        }
+        Expression::Lambda(t, x, body) => {
+            let whole = table.get(*t)?;
+            let (parameter, result) = whole.function()?;
+            scope.push((*x, parameter.clone()));
+            let body_type = type_under(table, scope, body);
+            scope.pop();
+            (body_type? == *result).then(|| whole.clone())
+        }
+        Expression::Application(function, argument) => {
+            let function = type_under(table, scope, function)?;
+            let argument = type_under(table, scope, argument)?;
+            let (parameter, result) = function.function()?;
+            (*parameter == argument).then(|| result.clone())
+        }
+        Expression::Unit => Some(Rc::new(Type::Unit)),
+        Expression::Num(_) => Some(Rc::new(Type::Num)),
+        Expression::Constant(_, t) => table.get(*t).cloned(),
+        Expression::Name(_) => Some(setting_type()),
+    }
+}
+
+/// "Each bay k has a setting: a cell of num"
+pub fn setting_type() -> Rc<Type> {
+    Rc::new(Type::Cell(Rc::new(Type::Num)))
+}
+
+/// Cause 10: "a once-variable not used exactly once, or free under a many-lambda". The lambda
+/// that binds the variable does not count as one it is free under.
+fn misuses_once(table: &Table, e: &Expression) -> bool {
+    match e {
+        Expression::Lambda(t, x, body) => {
+            let once = table.get(*t).and_then(|whole| whole.function());
+            let once = once.is_some_and(|(parameter, _)| parameter.is_once());
+            let misused = once && (uses(*x, body) != 1 || free_under_many(table, *x, body));
+            misused || misuses_once(table, body)
+        }
+        Expression::Application(e1, e2) => misuses_once(table, e1) || misuses_once(table, e2),
+        _ => false,
+    }
+}
+
+/// How often the variable stands in the term.
+fn uses(x: Variable, e: &Expression) -> usize {
+    match e {
+        Expression::Variable(y) => usize::from(*y == x),
+        Expression::Lambda(_, _, body) => uses(x, body),
+        Expression::Application(e1, e2) => uses(x, e1) + uses(x, e2),
+        _ => 0,
+    }
+}
+
+/// Whether the variable stands under some many-lambda of this body of its own lambda.
+fn free_under_many(table: &Table, x: Variable, e: &Expression) -> bool {
+    match e {
+        Expression::Lambda(t, _, body) => {
+            let many = table.get(*t).map(|whole| whole.multiplicity()) == Some(Multiplicity::Many);
+            (many && uses(x, body) > 0) || free_under_many(table, x, body)
+        }
+        Expression::Application(e1, e2) => {
+            free_under_many(table, x, e1) || free_under_many(table, x, e2)
+        }
+        _ => false,
+    }
+}
+
+/// Cause 11: "a bay's type has multiplicity once".
+fn is_once_at_root(table: &Table, e: &Expression) -> bool {
+    type_of(table, e).is_some_and(|found| found.is_once())
+}
+
+/// The environment of a recipe of that many bays: each setting a cell of num.
+pub fn settings(bays: usize) -> Environment {
+    let names = (0..bays).map(|k| u8::try_from(k).expect("at most 16 bays"));
+    names.fold(Environment::default(), |gamma, k| {
+        gamma.with(Subject::Name(k), setting_type())
+    })
+}
+
+/// The other way to the same answer: the type of each term by a derivation of Fig. 9, if every
+/// term has one and it is of multiplicity many.
+pub fn derived_types(table: &Table, terms: &[Vec<Node>]) -> Option<Vec<Rc<Type>>> {
+    let gamma = settings(terms.len());
+    let derived = terms.iter().map(|term| {
+        let found = derive(table, &gamma, &Expression::of_nodes(term))?;
+        found.is_many().then_some(found)
+    });
+    derived.collect()
+}

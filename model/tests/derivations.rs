@@ -1,0 +1,89 @@
+//! Causes 7 to 11 are absent exactly when every term has a derivation by Figs. 8 and 9 with a type
+//! of multiplicity many: on well-typed terms, on changed ones, and on terms of any nodes.
+
+use model::draw::Draw;
+use model::generate::mutants;
+use model::generate::recipes::{careless, file, well_typed};
+use model::nodes::Node;
+use model::table::{entry, Table, FIRST_ENTRIES};
+use model::types::Constant;
+use model::verdict::{derived_types, read_recipe, refuse_if_any_unfit};
+
+/// The two ways on one recipe; whether it was accepted.
+fn agree(table: &Table, terms: &[Vec<Node>]) -> bool {
+    let accepted = refuse_if_any_unfit(table, terms).is_ok();
+    let derived = derived_types(table, terms).is_some();
+    assert_eq!(accepted, derived, "{terms:?}");
+    accepted
+}
+
+#[test]
+fn on_the_corpus() {
+    let mut draw = Draw::new(7);
+    for round in 0..4_000 {
+        let made = match round % 4 {
+            0 => file(&mut draw),
+            1 => careless(&mut draw).write(),
+            _ => mutants::of_recipe(&mut draw, well_typed),
+        };
+        if let Some((table, terms)) = read_recipe(&made) {
+            agree(&table, &terms);
+        }
+    }
+}
+
+/// Any term at all, root first, over a small table.
+fn any_term(draw: &mut Draw, nodes: &mut Vec<Node>, fuel: &mut usize) {
+    let constants = [
+        Constant::Cell,
+        Constant::Exch,
+        Constant::Thread,
+        Constant::Handle,
+    ];
+    let number = draw.below(13) as u8;
+    let leaf = *fuel == 0;
+    *fuel = fuel.saturating_sub(1);
+    match draw.below(if leaf { 6 } else { 10 }) {
+        0 | 1 => nodes.push(Node::Variable(draw.pick(&[0, 0, 0, 1, 1, 2]))),
+        2 => nodes.push(Node::Unit),
+        3 => nodes.push(Node::Num(3)),
+        4 => nodes.push(Node::Name(draw.pick(&[0, 0, 0, 1]))),
+        5 => nodes.push(Node::Constant(draw.pick(&constants), number)),
+        6 | 7 => {
+            nodes.push(Node::Lambda(number));
+            any_term(draw, nodes, fuel);
+        }
+        _ => {
+            nodes.push(Node::Application);
+            any_term(draw, nodes, fuel);
+            any_term(draw, nodes, fuel);
+        }
+    }
+}
+
+#[test]
+fn on_terms_of_any_nodes() {
+    let mut entries = FIRST_ENTRIES.to_vec();
+    entries.extend([
+        entry(3, 0, 0),
+        entry(4, 0, 0),
+        entry(3, 3, 0),
+        entry(4, 3, 0),
+    ]);
+    entries.extend([
+        entry(4, 4, 0),
+        entry(4, 3, 3),
+        entry(3, 3, 3),
+        entry(4, 0, 3),
+    ]);
+    entries.push(entry(4, 1, 1));
+    let table = Table::read(&entries).expect("a sound table");
+    let mut draw = Draw::new(8);
+    let mut accepted = 0;
+    for _ in 0..300_000 {
+        let mut nodes = Vec::new();
+        any_term(&mut draw, &mut nodes, &mut 6);
+        accepted += usize::from(agree(&table, &[nodes]));
+    }
+    assert!(accepted > 1_000, "{accepted}");
+}

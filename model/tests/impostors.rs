@@ -1,0 +1,190 @@
+//! The comparison finds the impostors that document 01 names to the testers.
+
+use model::answers::{
+    Implementation, LoadedAnswer, Model, SteppedAnswer, VerdictAnswer, DONE, REFUSED, RULE, WAITING,
+};
+use model::command::on_deep_stack;
+use model::comparison::Comparison;
+use std::cell::RefCell;
+
+type Check = fn(&[u8]) -> VerdictAnswer;
+type Load = fn(&[u8], &mut [u8]) -> LoadedAnswer;
+type Step = fn(&[u8], u64, &mut [u8]) -> SteppedAnswer;
+
+/// An implementation put together from three functions.
+struct Impostor {
+    check: Check,
+    load: Load,
+    step: Step,
+}
+
+impl Implementation for Impostor {
+    fn check(&self, recipe: &[u8]) -> VerdictAnswer {
+        (self.check)(recipe)
+    }
+
+    fn load(&self, recipe: &[u8], out: &mut [u8]) -> Option<LoadedAnswer> {
+        Some((self.load)(recipe, out))
+    }
+
+    fn step(&self, image: &[u8], thread: u64, out: &mut [u8]) -> Option<SteppedAnswer> {
+        Some((self.step)(image, thread, out))
+    }
+}
+
+fn check(recipe: &[u8]) -> VerdictAnswer {
+    Model.check(recipe)
+}
+
+fn load(recipe: &[u8], out: &mut [u8]) -> LoadedAnswer {
+    Model.load(recipe, out).unwrap_or_default()
+}
+
+fn step(image: &[u8], thread: u64, out: &mut [u8]) -> SteppedAnswer {
+    Model.step(image, thread, out).unwrap_or_default()
+}
+
+const HONEST: Impostor = Impostor { check, load, step };
+
+fn is_found(impostor: &Impostor) -> bool {
+    on_deep_stack(|| {
+        let mut comparison = Comparison::new(impostor);
+        comparison.compare(9, 300).is_err()
+    })
+}
+
+#[test]
+fn the_honest_one_passes() {
+    assert!(!is_found(&HONEST));
+}
+
+#[test]
+fn a_checker_that_turns_every_recipe_away_or_passes_every_one() {
+    let away: Check = |_| VerdictAnswer {
+        refusal: 1,
+        ..VerdictAnswer::default()
+    };
+    let every: Check = |_| VerdictAnswer {
+        bays: 1,
+        ..VerdictAnswer::default()
+    };
+    for check in [away, every] {
+        assert!(is_found(&Impostor { check, ..HONEST }));
+    }
+}
+
+#[test]
+fn a_loader_that_gives_each_bay_a_thread_holding_its_own_name() {
+    let own: Load = |recipe, out| {
+        let mut answer = load(recipe, out);
+        if answer.refusal == 0 && answer.bays == 1 {
+            let image = [2, 0, 2, 0, 14, 0, 3, 0, 1, 0, 17, 0, 2, 0, 4, 0, 0, 9, 1];
+            out[..image.len()].copy_from_slice(&image);
+            answer.length = image.len() as u64;
+        }
+        answer
+    };
+    assert!(is_found(&Impostor {
+        load: own,
+        ..HONEST
+    }));
+}
+
+#[test]
+fn a_loader_that_writes_beyond_the_image_or_tells_another_length() {
+    let beyond: Load = |recipe, out| {
+        let answer = load(recipe, out);
+        if answer.refusal == 0 {
+            out[answer.length as usize] ^= 1;
+        }
+        answer
+    };
+    let longer: Load = |recipe, out| {
+        let mut answer = load(recipe, out);
+        answer.length += u64::from(answer.refusal == 0);
+        answer
+    };
+    for load in [beyond, longer] {
+        assert!(is_found(&Impostor { load, ..HONEST }));
+    }
+}
+
+#[test]
+fn a_stepper_that_copies_the_image_and_names_rule_1() {
+    let copies: Step = |image, thread, out| {
+        let mut answer = step(image, thread, out);
+        if answer.outcome == RULE {
+            out[..image.len()].copy_from_slice(image);
+            answer.number = 1;
+            answer.length = image.len() as u64;
+        }
+        answer
+    };
+    assert!(is_found(&Impostor {
+        step: copies,
+        ..HONEST
+    }));
+}
+
+thread_local! {
+    static FIRST: RefCell<Option<(SteppedAnswer, Vec<u8>)>> = const { RefCell::new(None) };
+}
+
+#[test]
+fn a_stepper_that_steps_once_and_afterwards_repeats_that_image() {
+    let repeats: Step = |image, thread, out| {
+        let answer = step(image, thread, out);
+        if answer.outcome != RULE {
+            return answer;
+        }
+        FIRST.with(|first| {
+            let mut first = first.borrow_mut();
+            let (old, bytes) =
+                first.get_or_insert_with(|| (answer, out[..answer.length as usize].to_vec()));
+            out[..bytes.len()].copy_from_slice(bytes);
+            *old
+        })
+    };
+    assert!(is_found(&Impostor {
+        step: repeats,
+        ..HONEST
+    }));
+}
+
+/// A stepper that gives this answer where a rule would go, and writes nothing.
+fn instead(image: &[u8], thread: u64, out: &mut [u8], outcome: u32, number: u32) -> SteppedAnswer {
+    let before = out.to_vec();
+    let answer = step(image, thread, out);
+    if answer.outcome != RULE {
+        return answer;
+    }
+    out.copy_from_slice(&before);
+    SteppedAnswer {
+        outcome,
+        number,
+        length: 0,
+    }
+}
+
+#[test]
+fn a_stepper_that_says_waiting_done_or_no_room_of_a_thread_that_could_go() {
+    let waiting: Step = |image, thread, out| instead(image, thread, out, WAITING, thread as u32);
+    let done: Step = |image, thread, out| instead(image, thread, out, DONE, 0);
+    let no_room: Step = |image, thread, out| instead(image, thread, out, REFUSED, 15);
+    for step in [waiting, done, no_room] {
+        assert!(is_found(&Impostor { step, ..HONEST }));
+    }
+}
+
+#[test]
+fn a_stepper_that_tells_another_length() {
+    let longer: Step = |image, thread, out| {
+        let mut answer = step(image, thread, out);
+        answer.length += u64::from(answer.outcome == RULE);
+        answer
+    };
+    assert!(is_found(&Impostor {
+        step: longer,
+        ..HONEST
+    }));
+}

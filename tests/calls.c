@@ -1,0 +1,238 @@
+/*
+ * The check called from C. Prints failures and a last line with the number of checks.
+ *
+ *   cc -std=c11 -O2 -Wall -Wextra -Werror -pthread tests/calls.c target/staticlib/libhost.a -o calls && ./calls
+ */
+#define _GNU_SOURCE
+#include "check.h"
+
+#include "../include/fikarehu.h"
+
+enum { LONGEST_FILE = 8192, SMALL_STACK = 256 * 1024, MOST_TABLE = 768 };
+
+/* Case A's table, and with it a many function from unit to unit. */
+static const uint8_t table_a[] = {0, 0, 0, 1, 0, 0, 2, 1, 0};
+static const uint8_t table_unit[] = {0, 0, 0, 1, 0, 0, 2, 1, 0, 4, 0, 0};
+/* T7 of document 01. */
+static const uint8_t table_7[] = {0, 0, 0, 1, 0, 0, 2, 1, 0, 3, 1, 0, 4, 3, 0, 4, 1, 4, 4, 5, 0};
+
+struct file {
+    uint8_t bytes[16 * LONGEST_FILE];
+    size_t length;
+};
+
+static void put_pair(struct file *file, size_t part, size_t offset, size_t length) {
+    uint8_t *pair = file->bytes + 4 + 4 * part;
+    pair[0] = (uint8_t)offset;
+    pair[1] = (uint8_t)(offset >> 8);
+    pair[2] = (uint8_t)length;
+    pair[3] = (uint8_t)(length >> 8);
+}
+
+/* A file whose every bay has the same term. */
+static void make(struct file *file, const uint8_t *table, size_t table_len, const uint8_t *term, size_t term_len,
+                 size_t bays) {
+    size_t at = 4 + 4 * (bays + 1);
+    must(at + table_len + bays * term_len <= sizeof file->bytes, "the file is too long");
+    memcpy(file->bytes, (const uint8_t[]){0x4C, 0x46, 0x01, (uint8_t)(bays + 1)}, 4);
+    put_pair(file, 0, at, table_len);
+    memcpy(file->bytes + at, table, table_len);
+    at += table_len;
+    for (size_t bay = 0; bay < bays; bay++) {
+        put_pair(file, 1 + bay, at, term_len);
+        memcpy(file->bytes + at, term, term_len);
+        at += term_len;
+    }
+    file->length = at;
+}
+
+/* The verdict on bytes placed against a page that traps. */
+static struct fikarehu_verdict check_guarded(const uint8_t *bytes, size_t length) {
+    static uint8_t *end;
+    if (end == NULL) {
+        end = end_before_trap(16 * LONGEST_FILE);
+    }
+    memcpy(end - length, bytes, length);
+    return fikarehu_check(end - length, length);
+}
+
+static int others_are_zero(const struct fikarehu_verdict *verdict) {
+    static const uint8_t zeros[16];
+    return verdict->bays == 0 && memcmp(verdict->types, zeros, 16) == 0;
+}
+
+static void expect_refusal(const char *what, const struct file *file, uint32_t refusal) {
+    struct fikarehu_verdict verdict = check_guarded(file->bytes, file->length);
+    CHECK(verdict.refusal == refusal, "%s: refusal %u, expected %u", what, verdict.refusal, refusal);
+    CHECK(others_are_zero(&verdict), "%s: a refusal with other fields than 0", what);
+}
+
+static void expect_accepted(const char *what, const struct file *file, uint32_t bays, uint8_t type) {
+    struct fikarehu_verdict verdict = check_guarded(file->bytes, file->length);
+    CHECK(verdict.refusal == 0, "%s: refusal %u, expected none", what, verdict.refusal);
+    CHECK(verdict.bays == bays, "%s: %u bays, expected %u", what, verdict.bays, bays);
+    for (uint32_t bay = 0; bay < 16; bay++) {
+        uint8_t expected = bay < bays ? type : 0;
+        CHECK(verdict.types[bay] == expected, "%s: bay %u has type %u, expected %u", what, bay, verdict.types[bay],
+              expected);
+    }
+}
+
+static struct file scratch;
+
+#define TERM(...) ((const uint8_t[]){__VA_ARGS__}), sizeof((const uint8_t[]){__VA_ARGS__})
+
+static void accepted_files(void) {
+    static const uint8_t case_a[] = {0x4C, 0x46, 1, 2, 0x0C, 0, 9, 0, 0x15, 0, 1, 0, 0, 0, 0, 1, 0, 0, 2, 1, 0, 3};
+    memcpy(scratch.bytes, case_a, sizeof case_a);
+    scratch.length = sizeof case_a;
+    expect_accepted("case A", &scratch, 1, 0);
+    make(&scratch, table_a, sizeof table_a, TERM(3), 16);
+    expect_accepted("sixteen bays", &scratch, 16, 0);
+    make(&scratch, table_a, sizeof table_a, TERM(4, 0xE8, 3), 9);
+    expect_accepted("num 1000 in nine bays", &scratch, 9, 1);
+    make(&scratch, table_7, sizeof table_7, TERM(2, 8, 6, 1, 5, 1, 4, 2, 0, 0, 0, 1), 1);
+    expect_accepted("case C", &scratch, 1, 0);
+}
+
+static void refused_files(void) {
+    make(&scratch, table_a, sizeof table_a, TERM(3), 1);
+    scratch.length = 11;
+    expect_refusal("eleven bytes", &scratch, 1);
+    make(&scratch, table_a, sizeof table_a, TERM(3), 1);
+    scratch.bytes[0] = 0x4D;
+    expect_refusal("another first byte", &scratch, 2);
+    make(&scratch, table_a, sizeof table_a, TERM(3), 1);
+    scratch.bytes[6] = 10;
+    expect_refusal("a length of ten", &scratch, 3);
+    make(&scratch, table_a, sizeof table_a, TERM(3), 1);
+    scratch.bytes[20] = 1;
+    expect_refusal("cell with a q", &scratch, 4);
+    make(&scratch, table_a, sizeof table_a, TERM(4, 0xE9, 3), 1);
+    expect_refusal("num 1001", &scratch, 5);
+    make(&scratch, table_a, sizeof table_a, TERM(0, 0), 1);
+    expect_refusal("case H", &scratch, 7);
+    make(&scratch, table_7, sizeof table_7, TERM(7, 3), 1);
+    expect_refusal("case F", &scratch, 8);
+    make(&scratch, table_a, sizeof table_a, TERM(2, 3, 3), 1);
+    expect_refusal("case G", &scratch, 9);
+    make(&scratch, table_7, sizeof table_7, TERM(1, 4, 3), 1);
+    expect_refusal("case D", &scratch, 10);
+    make(&scratch, table_7, sizeof table_7, TERM(1, 3, 3), 1);
+    expect_refusal("case E", &scratch, 11);
+}
+
+/* Identities applied to unit, of that nesting. */
+static size_t nested(uint8_t *term, size_t nesting) {
+    size_t at = 0;
+    for (size_t level = 0; level + 2 < nesting; level++) {
+        memcpy(term + at, (const uint8_t[]){2, 1, 3, 0, 0}, 5);
+        at += 5;
+    }
+    term[at] = 3;
+    return at + 1;
+}
+
+static void nesting_at_the_limit(void) {
+    uint8_t term[600];
+    make(&scratch, table_unit, sizeof table_unit, term, nested(term, 100), 1);
+    expect_accepted("nesting 100", &scratch, 1, 0);
+    make(&scratch, table_unit, sizeof table_unit, term, nested(term, 101), 1);
+    expect_refusal("nesting 101", &scratch, 6);
+    make(&scratch, table_unit, sizeof table_unit, term, nested(term, 23), 16);
+    expect_accepted("1,024 nodes", &scratch, 16, 0);
+    make(&scratch, table_unit, sizeof table_unit, term, nested(term, 24), 16);
+    expect_refusal("1,072 nodes", &scratch, 6);
+}
+
+/* A lambda under a hundred lambdas: each takes unit, and its result is the next. */
+static void lambdas_at_the_limit(void) {
+    uint8_t table[MOST_TABLE];
+    uint8_t term[2 * 99 + 1];
+    memcpy(table, table_unit, sizeof table_unit);
+    for (size_t number = 4; number < 256; number++) {
+        memcpy(table + 3 * number, (const uint8_t[]){4, 0, (uint8_t)(number - 1)}, 3);
+    }
+    for (size_t level = 0; level < 99; level++) {
+        term[2 * level] = 1;
+        term[2 * level + 1] = (uint8_t)(101 - level);
+    }
+    term[2 * 99] = 3;
+    make(&scratch, table, sizeof table, term, sizeof term, 10);
+    expect_accepted("99 lambdas in ten bays, 256 entries", &scratch, 10, 101);
+}
+
+/* A file of 8,192 bytes whose one term fills it with that byte, its last byte another one. */
+static void full_of(const char *what, uint8_t tag, uint8_t last, uint32_t refusal) {
+    static uint8_t term[LONGEST_FILE];
+    size_t length = LONGEST_FILE - 12 - sizeof table_a;
+    memset(term, tag, length);
+    term[length - 1] = last;
+    make(&scratch, table_a, sizeof table_a, term, length, 1);
+    must(scratch.length == LONGEST_FILE, "the file has 8,192 bytes");
+    expect_refusal(what, &scratch, refusal);
+}
+
+/* Half applications and half units: one term of 8,171 bytes, nested more than 4,000 deep. */
+static void balanced(void) {
+    static uint8_t term[LONGEST_FILE];
+    size_t length = LONGEST_FILE - 12 - sizeof table_a;
+    memset(term, 2, length / 2);
+    memset(term + length / 2, 3, length - length / 2);
+    make(&scratch, table_a, sizeof table_a, term, length, 1);
+    expect_refusal("applications closed by units", &scratch, 6);
+}
+
+static void worst_files(void) {
+    full_of("applications and nothing else", 2, 2, 5);
+    full_of("applications and an unknown tag", 2, 10, 5);
+    full_of("lambdas and nothing else", 1, 1, 5);
+    full_of("units", 3, 3, 5);
+    balanced();
+    nesting_at_the_limit();
+    lambdas_at_the_limit();
+}
+
+static void *worst_files_on_a_thread(void *nothing) {
+    worst_files();
+    return nothing;
+}
+
+static void no_bytes(void) {
+    struct fikarehu_verdict verdict = fikarehu_check(NULL, 0);
+    CHECK(verdict.refusal == 1, "NULL with length 0: refusal %u", verdict.refusal);
+    CHECK(others_are_zero(&verdict), "NULL with length 0: other fields than 0");
+}
+
+/* Every beginning of case C's file, and the file with one byte more, against the page that traps. */
+static void every_beginning(void) {
+    make(&scratch, table_7, sizeof table_7, TERM(2, 8, 6, 1, 5, 1, 4, 2, 0, 0, 0, 1), 1);
+    size_t whole = scratch.length;
+    for (size_t length = 0; length < whole; length++) {
+        scratch.length = length;
+        expect_refusal("a beginning of case C", &scratch, length < 12 ? 1 : 3);
+    }
+    scratch.bytes[whole] = 3;
+    scratch.length = whole + 1;
+    expect_refusal("case C and a byte", &scratch, 3);
+}
+
+/* Lengths past the limit, up to far more than two bytes can tell. */
+static void too_long(void) {
+    make(&scratch, table_a, sizeof table_a, TERM(3), 1);
+    for (size_t length = LONGEST_FILE; length <= sizeof scratch.bytes; length *= 2) {
+        scratch.length = length;
+        expect_refusal("a long file", &scratch, length == LONGEST_FILE ? 3 : 1);
+    }
+}
+
+int main(void) {
+    accepted_files();
+    refused_files();
+    no_bytes();
+    every_beginning();
+    too_long();
+    worst_files();
+    on_small_stack(SMALL_STACK, worst_files_on_a_thread, NULL);
+    return finish();
+}
