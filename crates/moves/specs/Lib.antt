@@ -2,3 +2,4 @@
 
 -- the components of the image after a step by a rule
 pub mod Moves
+pub mod Theory

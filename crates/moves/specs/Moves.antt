@@ -1,9 +1,9 @@
 -- What each rule of Fig. 5 makes of an image, in bytes: the components after the step, one for each name, and how many nodes there are then.
 use mathlib.Core.Bool.{cond}
 use mathlib.Core.List.{List, [], _∷_, _++_}
-use Prim.Native.Nat.{ℕ, suc, _+_, _-_, _*_}
+use Prim.Native.Nat.{ℕ, _+_, _-_, _*_}
 use lib.Dec.{eqb}
-use lib.ListN.{drop, getD, length, take}
+use lib.ListN.{drop, getD, take}
 use Rattle.calculus.specs.Lists.{tabulate}
 use Rattle.calculus.specs.Image.{nodes}
 use Rattle.calculus.specs.Names.{uses}

@@ -14,3 +14,5 @@ mod Handles
 mod Pairs
 -- the whole answer
 mod Answers
+-- images and broken slices, computed
+mod Cases

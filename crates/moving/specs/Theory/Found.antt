@@ -1,23 +1,27 @@
 -- What the search of a thread's expression has found is a meeting of two values in that thread.
-use mathlib.Core.Path.{_∙_, ap, sym, subst}
+use mathlib.Core.Path.{_∙_, _≡_, ap, sym, subst}
+use mathlib.Core.Bool.{true}
 use mathlib.Core.Option.{some}
 use mathlib.Core.List.{List}
 use Prim.Native.Nat.{ℕ, _<_, _≤_}
 use native.Mathlib.Decide.{decLt}
 use native.Mathlib.Omega.{arith}
 use Rattle.calculus.specs.Bytes.{Bytes}
-use Rattle.calculus.specs.Syntax.{Exp, app, Value, thread-of}
+use Rattle.calculus.specs.Syntax.{Exp, app, Value, at, thread-of}
 use Rattle.calculus.specs.Reduction.{Context, plug}
 use Rattle.calculus.specs.Names.{count, count-in}
-use Rattle.calculus.specs.Step.{step-of, step-component, step-place, place}
+use Rattle.calculus.specs.Step.{done, step-of, step-component, step-place, place}
 use Rattle.calculus.specs.Image.{size}
 use Rattle.calculus.specs.Theory.Expressions.{count-plug}
-use Rattle.terms.proofs.Expressions.{found-at}
+use Rattle.terms.specs.Expressions.{term-at}
+use Rattle.terms.proofs.Expressions.{Found, found-at}
 use Rattle.layout.specs.Slice.{names, offset-at}
 use Rattle.image.specs.Configuration.{config-of}
+use Rattle.image.specs.Stands.{image-stands}
 use Rattle.places.specs.declared.Meeting.{Meeting}
-use Rattle.places.specs.Places.{place-of}
-use Rattle.places.proofs.Meetings.{MeetingAt, meet-met, meeting-stands}
+use Rattle.places.specs.declared.Place.the-variants.{Done}
+use Rattle.places.specs.Places.{place-of, Searchable}
+use Rattle.places.proofs.Meetings.{MeetingAt, done-value, meet-met, meeting-stands}
 use Rattle.moving.specs.Meets.{Deciding, Meets}
 use Rattle.moving.specs.Theory.Reading.{rules, length-config, thread-stands}
 
@@ -65,3 +69,18 @@ name-there {s} {x} {m} {F} {f} {w} {v} M y l = elim (decLt y (names s)) [
     count-plug y F (app f v),
   ))
 ]
+
+-- a search can be asked about a thread, and where it answers that the thread is done, so does the calculus
+module _ (s : List ℕ) (b : Bytes s) (stands : image-stands s ≡ true) (x : ℕ) {e : Exp} (h : at (config-of s) x ≡ some (thread-of e)) where
+  thread-found : Found s (offset-at s x) e
+  thread-found = found-at (thread-stands s b stands x e h .term)
+
+  pub thread-searchable : Searchable s (offset-at s x)
+  thread-searchable =
+      record { good = thread-found .good; closed = rw (thread-found .term) (rules s b stands .bound x (thread-of e) h) }
+
+  pub found-done : place-of (offset-at s x) (place (term-at s (offset-at s x))) ≡ Done → step-of (config-of s) x ≡ done
+  unfolding step-of step-component step-place
+  found-done d =
+      let (w, p) = done-value (offset-at s x) e (rules s b stands .bound x (thread-of e) h) (sym (ap (λ g. place-of (offset-at s x) (place g)) (thread-found .term)) ∙ d) in
+      ap (step-component (config-of s) x) h ∙ ap (step-place (config-of s) x) p

@@ -16,6 +16,7 @@ use Rattle.terms.specs.Reader.{end-at, GoodAt}
 use Rattle.terms.specs.Expressions.{bytes, Fits, term-at, TermAt}
 use Rattle.terms.proofs.Sizes.{length-bytes}
 use Rattle.terms.proofs.Expressions.{found-at}
+use Rattle.places.specs.Places.{Searchable}
 use Rattle.layout.specs.Kinds.{thread-kind, cell-kind, open-handle-kind, used-handle-kind, future-kind}
 use Rattle.layout.specs.Encoded.{Encoded}
 use Rattle.layout.specs.Slice.{names, kind-at, companion-at, offset-at, length-at, expression-at, encoded-at, encoded-there}
@@ -40,6 +41,10 @@ pub record Expressed (s : List ℕ) (k : ℕ) (e : Exp) : Type 0 where
   pub closed : Closed 0 e
   pub few : nodes e ≤ max-nodes
 
+-- it can be searched for the place where two values meet
+pub expressed-searchable : {s : List ℕ} {k : ℕ} {e : Exp} → Expressed s k e → Searchable s (offset-at s k)
+expressed-searchable x = record { good = x .good; closed = rw (x .term) (x .closed) }
+
 -- the part of a list that is the bytes of an expression
 part-term : (s : List ℕ) (from size-of : ℕ) (e : Exp) → from ≤ length s → take size-of (drop from s) ≡ bytes e → size e ≡ size-of → Fits e → TermAt s from e
 part-term s from size-of e inside p q f = record {
@@ -51,7 +56,8 @@ part-term s from size-of e inside p q f = record {
 }
 
 module _ (s : List ℕ) (b : Bytes s) (stands : image-stands s ≡ true) where
-  rule : ImageRule (config-of s)
+  -- what an image has to keep
+  pub rule : ImageRule (config-of s)
   rule = image-test-iff (config-of s) .0 (image-tested s b stands)
 
   module _ (k : ℕ) where

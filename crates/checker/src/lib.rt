@@ -1,0 +1,79 @@
+// Checking a recipe file: each cause over the whole file before the next, and the lowest number is answered.
+ghost use mathlib.Core.Path.{_≡_};
+ghost use Rattle.calculus.specs.Table.{TableRule};
+ghost use Rattle.recipe.specs.Laid.{Laid};
+ghost use Rattle.table.specs.Entries.{type-table};
+ghost use Rattle.verdict.specs.Verdict.{refused, verdict-of};
+ghost use Rattle.bays.specs.Stages.{HasTable};
+ghost use Rattle.checker.specs.Refusals.{terms-refusal};
+use bays::Test;
+use recipe::Recipe;
+use scans::Part;
+use table::Entry;
+use verdict::Verdict;
+
+// A refusal has its number and nothing else.
+fn refused(number: u8) -> Verdict
+    ensures { λ r. ⌜ r ≡ refused number ⌝ }
+{
+    Verdict {
+        refusal: number as u32,
+        bays: 0,
+        types: [0u8; Recipe::MAX_BAYS],
+    }
+}
+
+// Causes 5 and 6: the number of the lower one that fits, or 0.
+fn terms_refusal(recipe: &[u8], table: [Entry; Recipe::MAX_ENTRIES], count: usize) -> u8
+    requires { ⌜ Laid (now recipe) × TableRule (type-table (now recipe)) × HasTable (now recipe) table count ⌝ }
+    ensures { λ r. ⌜ r ≡ terms-refusal (now (recipe .entry)) ⌝ }
+{
+    let Part::Nodes(nodes) = bays::count_nodes(recipe) else {
+        return 5;
+    };
+    if Recipe::MAX_NODES < nodes {
+        return 6;
+    }
+    if !bays::each_passes(recipe, table, count, Test::Nesting) {
+        return 6;
+    }
+    0
+}
+
+// The verdict on a recipe file: the lowest cause that fits, or the bays' types.
+pub fn check(recipe: &[u8]) -> Verdict
+    ensures { λ r. ⌜ r ≡ verdict-of (now (recipe .entry)) ⌝ }
+{
+    let file = table::table_refusal(recipe);
+    if file != 0 {
+        return refused(file);
+    }
+    let table = table::table_in(recipe);
+    let count = table::entry_count(recipe);
+    let terms = terms_refusal(recipe, table, count);
+    if terms != 0 {
+        return refused(terms);
+    }
+    if !bays::each_passes(recipe, table, count, Test::Scope) {
+        return refused(7);
+    }
+    if !bays::each_passes(recipe, table, count, Test::Annotations) {
+        return refused(8);
+    }
+    let found = bays::types_of(recipe, table, count);
+    if !found.each {
+        return refused(9);
+    }
+    if !bays::each_passes(recipe, table, count, Test::Uses) {
+        return refused(10);
+    }
+    if !found.many {
+        return refused(11);
+    }
+    let types = found.numbers;
+    Verdict {
+        refusal: 0,
+        bays: recipe::bay_count(recipe) as u32,
+        types: types,
+    }
+}
