@@ -101,7 +101,7 @@ fn put_settings(out: &mut [u8], at: usize, bays: usize) -> usize
 // Writes the starting image. The bays' terms stand one after the other at the end of the recipe, as they are to stand in the image: one copy.
 pub fn put_starting(recipe: &[u8], out: &mut [u8]) -> usize
     requires { ⌜ (refusal (now recipe) ≡ 0) × (max-image-length ≤ length (now out)) ⌝ }
-    ensures { λ r. ⌜ Wrote (now (out .entry)) 0 (starting-image (now (recipe .entry))) (now (out .exit)) r ⌝ }
+    ensures { λ r. ⌜ Wrote (now (out .entry)) 0 (starting-image (now (recipe .entry))) (now (out .exit)) r × (r ≤ max-image-length) ⌝ }
 {
     let bays = bay_count(recipe);
     let after_names = put_u16(out, 0, bays + bays);

@@ -15,7 +15,7 @@ use Rattle.layout.specs.Encoded.{expressions, head-at}
 use Rattle.layout.specs.Theory.Turns.{room-kept, heads-end}
 use Rattle.starting.specs.Starting.{setting, starting-at, starting-names}
 use Rattle.starting.specs.Theory.Parts.{terms-begin-inside}
-use Rattle.starting.specs.Theory.Image.{laid}
+use Rattle.starting.specs.Theory.Image.{laid, starting-fits}
 use Rattle.starting.proofs.Names.{few-bays, starting-room, settings-length, starting-length, starting-wrote}
 use Rattle.starting.proofs.put_starting.Statement.{statement}
 use Rattle.starting.proofs.put_starting.Tie as tie
@@ -89,9 +89,10 @@ returns c =
     let n = p .before .before .before .before in
     let e = n .before .before .before .before .before .before in
     let s = file e in
-    starting-wrote s (are-bytes e) (e .before .before .pre .0) (names-end n .1) (p .before .before .before .put-heads .ensures)
+    let w = starting-wrote s (are-bytes e) (e .before .before .pre .0) (names-end n .1) (p .before .before .before .put-heads .ensures)
     (known-as (q .before .before .before .before .put-settings .ensures) (ap (λ (k : ℕ). expressions (tabulate k (λ i. setting))) (n .before .before .before .before .before .bay-count .ensures)))
-    (known-as (c .before .before .put-part .ensures) (ap (λ (k : ℕ). take (length s - k) (drop k s)) (q .first-term .ensures)))
+    (known-as (c .before .before .put-part .ensures) (ap (λ (k : ℕ). take (length s - k) (drop k s)) (q .first-term .ensures))) in
+    (w, omega (arith, w .ends, starting-fits s (are-bytes e) (e .before .before .pre .0)))
 
 pub put-starting-spec : {M : Type 1} → statement M
 put-starting-spec =

@@ -1,0 +1,2 @@
+-- what a load answers and leaves, by the tests
+pub mod Answers
