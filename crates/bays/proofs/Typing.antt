@@ -20,7 +20,7 @@ use Rattle.typing.specs.Walk as typing
 use Rattle.verdict.specs.Bays.{bay-term}
 use Rattle.verdict.specs.Verdict.{number-in, bay-type, bay-types}
 use Rattle.bays.specs.declared.BayTypes.{BayTypes}
-use Rattle.bays.specs.Numbers.{bay-number, bay-typed, has-many, has-type, Numbered}
+use Rattle.bays.specs.Numbers.{all-typed, bay-number, bay-typed, has-many, has-type, not-typed, types-in}
 use Rattle.bays.proofs.Each.{failed, Passed, passed-all, passed-next, passed-none}
 
 -- the numbers of the first i bays; 0 for the rest
@@ -83,21 +83,29 @@ module _ (s : List ℕ) (bay : ℕ) (b : bay < bays s) where
         filled = rw (t .filled) (set-tabulate max-bays bay (number-to s bay) n ∙ tabulate-same max-bays _ _ (λ i l. one-more s bay n i k));
       }
 
-  pub typing-not : (r : BayTypes) → r .each ≡ false → Nothing ≡ bay-typed s bay → Numbered s r
-  unfolding has-type on-number bay-typed typing.type-at bay-number bay-term
-  typing-not r f e = record {
-    each = f ∙ sym (failed (bays s) (has-type s) bay b (has-type s bay) refl (rw (missing _ _ e) refl));
-    many = λ t. absurd (false≢true (sym f ∙ t));
-    numbers = λ t. absurd (false≢true (sym f ∙ t));
-  }
+  pub typing-not : Nothing ≡ bay-typed s bay → not-typed ≡ types-in s
+  unfolding types-in has-type on-number bay-typed typing.type-at bay-number bay-term
+  typing-not e = rw (failed (bays s) (has-type s) bay b (has-type s bay) refl (rw (missing _ _ e) refl)) refl
 
 pub typing-all : {s : List ℕ} {bay : ℕ} {many : Bool} {numbers : List ℕ} → Typing s bay many numbers → bays s ≤ bay
-    → Numbered s (record { each = true; many = many; numbers = numbers })
-unfolding bay-types bay-type number-to bay-number
-typing-all {s} {bay} t h =
+    → record { each = true; many = many; numbers = numbers } ≡ types-in s
+unfolding types-in bay-types bay-type number-to bay-number
+typing-all {s} {bay} {many} {numbers} t h =
     let z : bays s ≡ bay = omega (arith, t .passed .inside) in
-    record {
-      each = sym (passed-all (t .passed) h);
-      many = λ p. rw z (t .all-many);
-      numbers = λ p. t .filled ∙ ap (λ (n : ℕ). tabulate max-bays (number-to s n)) (sym z);
-    }
+    let m : many ≡ each-below (bays s) (has-many s) = rw z (t .all-many) in
+    let n : numbers ≡ bay-types s = t .filled ∙ ap (λ (k : ℕ). tabulate max-bays (number-to s k)) (sym z) in
+    rw (passed-all (t .passed) h, m, n) refl
+
+-- what the answer says of all bays
+pub record Numbered (s : List ℕ) (r : BayTypes) : Type 0 where
+  pub each : r .each ≡ each-below (bays s) (has-type s)
+  pub many : r .each ≡ true → r .many ≡ each-below (bays s) (has-many s)
+  pub numbers : r .each ≡ true → r .numbers ≡ bay-types s
+
+pub numbered : {s : List ℕ} {r : BayTypes} → r ≡ types-in s → Numbered s r
+unfolding types-in
+numbered {s} {r} e = go (each-below (bays s) (has-type s)) refl e
+  where
+    go : (b : Bool) → each-below (bays s) (has-type s) ≡ b → r ≡ cond b (all-typed s) not-typed → Numbered s r
+    go true p q = rw q (record { each = sym p; many = λ t. refl; numbers = λ t. refl })
+    go false p q = rw q (record { each = sym p; many = λ t. absurd (false≢true t); numbers = λ t. absurd (false≢true t) })

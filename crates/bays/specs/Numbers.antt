@@ -1,10 +1,11 @@
 -- Document 01, causes 9 and 11: the types of all bays.
-use mathlib.Core.Path.{_≡_}
-use mathlib.Core.Bool.{Bool, true}
+use mathlib.Core.Bool.{Bool, cond, false, true}
 use mathlib.Core.Option.{Option}
 use mathlib.Core.List.{List, []}
 use Prim.Native.Nat.{ℕ}
+use lib.ListN.{replicate}
 use Rattle.calculus.specs.Lists.{each-below}
+use Rattle.calculus.specs.Limits.{max-bays}
 use Rattle.calculus.specs.Verdict.{is-many, on-number, type-number}
 use Rattle.recipe.specs.File.{bays, term-bytes}
 use Rattle.table.specs.Entries.{type-table}
@@ -28,8 +29,12 @@ has-type s bay = on-number (bay-number s bay) (λ n. true)
 unfoldable pub has-many : List ℕ → ℕ → Bool
 has-many s bay = on-number (bay-number s bay) (is-many (type-table s))
 
--- the answer about all bays; where one has no type, nothing is said of the rest
-pub record Numbered (s : List ℕ) (r : BayTypes) : Type 0 where
-  pub each : r .each ≡ each-below (bays s) (has-type s)
-  pub many : r .each ≡ true → r .many ≡ each-below (bays s) (has-many s)
-  pub numbers : r .each ≡ true → r .numbers ≡ bay-types s
+-- the answer where each bay has a type, and where one has none
+abbrev pub all-typed : List ℕ → BayTypes
+all-typed s = record { each = true; many = each-below (bays s) (has-many s); numbers = bay-types s }
+
+abbrev pub not-typed : BayTypes
+not-typed = record { each = false; many = false; numbers = replicate max-bays 0 }
+
+unfoldable pub types-in : List ℕ → BayTypes
+types-in s = cond (each-below (bays s) (has-type s)) (all-typed s) not-typed

@@ -7,7 +7,7 @@ ghost use Rattle.recipe.specs.Laid.{Laid};
 ghost use Rattle.bays.specs.Tests.{bay-passes, each-passes};
 ghost use Rattle.bays.specs.Terms.{nodes-in};
 ghost use Rattle.bays.specs.Stages.{HasTable, Reached, Scoped};
-ghost use Rattle.bays.specs.Numbers.{bay-typed, Numbered};
+ghost use Rattle.bays.specs.Numbers.{bay-typed, types-in};
 use recipe::Recipe;
 use scans::Part;
 use table::Entry;
@@ -21,7 +21,7 @@ pub enum Test {
     Uses,
 }
 
-// The types of the bays: whether each has one, whether all are many, and their numbers.
+// The types of the bays: whether each has one, whether all are many, and their numbers; zeros where one has none.
 pub struct BayTypes {
     pub each: bool,
     pub many: bool,
@@ -108,7 +108,7 @@ fn type_of(recipe: &[u8], bay: usize, table: [Entry; Recipe::MAX_ENTRIES], count
 // Document 01, causes 9 and 11: the types of all bays.
 pub fn types_of(recipe: &[u8], table: [Entry; Recipe::MAX_ENTRIES], count: usize) -> BayTypes
     requires { ⌜ HasTable (now recipe) table count × Scoped (now recipe) ⌝ }
-    ensures { λ r. ⌜ Numbered (now (recipe .entry)) r ⌝ }
+    ensures { λ r. ⌜ r ≡ types-in (now (recipe .entry)) ⌝ }
 {
     let bays = recipe::bay_count(recipe);
     let mut numbers = [0u8; Recipe::MAX_BAYS];
@@ -118,8 +118,8 @@ pub fn types_of(recipe: &[u8], table: [Entry; Recipe::MAX_ENTRIES], count: usize
         let Typed::Has(number, _) = type_of(recipe, bay, table, count) else {
             return BayTypes {
                 each: false,
-                many: many,
-                numbers: numbers,
+                many: false,
+                numbers: [0u8; Recipe::MAX_BAYS],
             };
         };
         many = both(many, typing::is_many(table, count, number as usize));

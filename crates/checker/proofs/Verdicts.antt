@@ -24,7 +24,8 @@ use Rattle.bays.specs.declared.BayTypes.{BayTypes}
 use Rattle.bays.specs.declared.Test.the-variants.{Annotations, Nesting, Scope, Uses}
 use Rattle.bays.specs.Tests.{bay-passes, each-passes, passes}
 use Rattle.bays.specs.Stages.{HasTable, Scoped, Terms}
-use Rattle.bays.specs.Numbers.{bay-number, has-many, has-type, Numbered}
+use Rattle.bays.specs.Numbers.{bay-number, has-many, has-type}
+use Rattle.bays.proofs.Typing.{Numbered}
 use Rattle.checker.specs.Refusals.{terms-refusal}
 use Rattle.checker.proofs.Terms.{neither}
 

@@ -1,5 +1,5 @@
 -- `bays::types_of` meets its contract. The loop's invariant: the bays passed have types, and their numbers stand in the array.
-use mathlib.Core.Path.{_∙_, ap, refl, sym}
+use mathlib.Core.Path.{_∙_, ap, sym}
 use Prim.Native.Nat.{_-_}
 use native.Mathlib.Omega.{arith}
 use borrow.Author.Needs.{needs}
@@ -35,7 +35,7 @@ enum-told c = search needs
 returns : tie.Need-returns Inv-loop μ-loop
 returns c =
     let l = c .before .before .before .before in
-    typing-not _ (l .loop .bay) (omega arith) _ refl (sym (c .enum-told .given .1) ∙ c .before .before .type-of .ensures)
+    typing-not _ (l .loop .bay) (omega arith) (sym (c .enum-told .given .1) ∙ c .before .before .type-of .ensures)
 
 cast-is-many : tie.Need-cast-is-many Inv-loop μ-loop
 cast-is-many c = search needs

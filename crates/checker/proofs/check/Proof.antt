@@ -14,6 +14,7 @@ use Rattle.bays.proofs.Known.{reached-annotations, reached-scope, reached-uses}
 use Rattle.bays.specs.declared.Test.the-variants.{Annotations, Scope, Uses}
 use Rattle.bays.specs.Tests.{each-passes}
 use Rattle.bays.specs.Stages.{HasTable, Scoped}
+use Rattle.bays.proofs.Typing.{numbered}
 use Rattle.checker.proofs.Verdicts.{Admitted, admitted, all-pass, all-scoped, file-refused, filed, refused-10, refused-11, refused-7, refused-8, refused-9, table-read, terms-refused}
 use Rattle.checker.proofs.check.Statement.{statement}
 use Rattle.checker.proofs.check.Tie as tie
@@ -125,7 +126,7 @@ refused-requires-5 c κs = search needs
 returns-5 : tie.Need-returns-5
 returns-5 c =
     let l = c .before .before .before .before in
-    c .refused5 .ensures ∙ refused-9 (sixth (at-6 l)) (seventh (at-7 l)) (eighth l) (c .before .before .before .types-of .ensures) (not-true _ (c .before .if5 .taken))
+    c .refused5 .ensures ∙ refused-9 (sixth (at-6 l)) (seventh (at-7 l)) (eighth l) (numbered (c .before .before .before .types-of .ensures)) (not-true _ (c .before .if5 .taken))
 
 each-passes-requires-3 : tie.Need-each-passes-requires-3
 each-passes-requires-3 c κs = (table (second (at-6 (at-8 c))), reached-uses (all-in-scope (at-8 c)))
@@ -138,7 +139,7 @@ returns-6 c =
     let k = c .before .before .before in
     let l = at-8 k in
     c .refused6 .ensures
-    ∙ refused-10 (sixth (at-6 l)) (seventh (at-7 l)) (eighth l) (k .before .before .types-of .ensures) (not-false _ (k .if5 .left))
+    ∙ refused-10 (sixth (at-6 l)) (seventh (at-7 l)) (eighth l) (numbered (k .before .before .types-of .ensures)) (not-false _ (k .if5 .left))
     (sym (c .before .before .each-passes3 .ensures) ∙ not-true _ (c .before .if6 .taken))
 
 refused-requires-7 : tie.Need-refused-requires-7
@@ -150,7 +151,7 @@ returns-7 c =
     let k = at-9 j in
     let l = at-8 k in
     c .refused7 .ensures
-    ∙ refused-11 (sixth (at-6 l)) (seventh (at-7 l)) (eighth l) (k .before .before .types-of .ensures) (not-false _ (k .if5 .left)) (tenth j)
+    ∙ refused-11 (sixth (at-6 l)) (seventh (at-7 l)) (eighth l) (numbered (k .before .before .types-of .ensures)) (not-false _ (k .if5 .left)) (tenth j)
     (not-true _ (c .before .if7 .taken))
 
 bay-count-requires : tie.Need-bay-count-requires
@@ -164,7 +165,7 @@ returns-8 c =
     let j = c .before .before .before .before in
     let k = at-9 j in
     let l = at-8 k in
-    all-pass (sixth (at-6 l)) (seventh (at-7 l)) (eighth l) (k .before .before .types-of .ensures) (not-false _ (k .if5 .left)) (tenth j)
+    all-pass (sixth (at-6 l)) (seventh (at-7 l)) (eighth l) (numbered (k .before .before .types-of .ensures)) (not-false _ (k .if5 .left)) (tenth j)
     (not-false _ (c .before .before .if7 .left)) _ (c .bay-count .ensures)
 
 pub check-spec : {M : Type 1} → statement M

@@ -1,0 +1,4 @@
+-- Document 01, "A step": the image after a step, name by name.
+
+-- what a step makes of a name
+pub mod Changes
