@@ -28,27 +28,10 @@ use Rattle.layout.specs.Encoded.{expressions, image-bytes}
 use Rattle.layout.specs.Theory.Components.{length-image}
 use Rattle.image.specs.Configuration.{encode, image-of}
 use Rattle.image.specs.Stands.{image-stands}
+use Rattle.image.specs.Theory.Lengths.{length-image-of}
 use Rattle.image.specs.Theory.Exactly.{image-written}
 use Rattle.starting.specs.Starting.{starting-image, bay-thread, starting-at, starting-names}
 use Rattle.starting.specs.Theory.Parts.{starting-parts}
-
--- how long the image of a configuration is
-length-encoded : (c : Component) → length (encode c .expression) ≡ sum-in size c
-unfolding encode sum-in
-length-encoded (thread-of e) = length-bytes e
-length-encoded (holds e) = length-bytes e
-length-encoded (open-for y) = refl
-length-encoded used = refl
-length-encoded awaited = refl
-
-length-all : (C : Config) → length (expressions (map encode C)) ≡ sum-all size C
-unfolding expressions sum-all
-length-all [] = refl
-length-all (c ∷ C) = length-append (encode c .expression) (expressions (map encode C)) ∙ ap₂ _+_ (length-encoded c) (length-all C)
-
-pub length-image-of : (C : Config) → length (image-of C) ≡ image-length C
-unfolding image-of
-length-image-of C = length-image (map encode C) ∙ omega (arith, length-all C, length-map C encode)
 
 map-parts : {A B : Type 0} (f : A → B) (l m : List A) → map f (l ++ m) ≡ map f l ++ map f m
 map-parts f [] m = refl
