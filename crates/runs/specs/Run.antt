@@ -1,5 +1,6 @@
 -- Document 01, "A run", in bytes: "an accepted recipe, its load into a buffer that is long enough, and a list of steps, none or many"; and the third demand, one
--- claim about all of the list. The answers are those of `outcome-of` and `out-after` (crate stepping), which the contract of step cites.
+-- claim about all of the list. What is accepted and loaded is said by `verdict-of`, `loaded-of` and `out-after` of crates verdict and loader, what a step answers and
+-- leaves by `outcome-of` and `out-after` of crate stepping: the definitions that the contracts of check, load and step cite.
 use mathlib.Core.Path.{_≡_}
 use mathlib.Core.Logic.{_↔_}
 use mathlib.Core.Option.{some}
@@ -12,9 +13,14 @@ use Rattle.calculus.specs.Typing.{TypeNumbers}
 use Rattle.calculus.specs.NewTypes.{function-at, new-types}
 use Rattle.calculus.specs.Limits.{max-image-length}
 use Rattle.calculus.specs.Run.{State, ValuesTyped}
+use Rattle.calculus.specs.Bytes.{Bytes}
 use Rattle.calculus.specs.Table.{type-at}
 use Rattle.calculus.specs.Recipe.{start}
+use Rattle.table.specs.Entries.{type-table}
+use Rattle.verdict.specs.Bays.{bay-terms}
+use Rattle.verdict.specs.Verdict.{verdict-of}
 use Rattle.image.specs.Configuration.{config-of}
+use Rattle.loader.specs.Loading as load
 use Rattle.stepping.specs.declared.Outcome.{Outcome}
 use Rattle.stepping.specs.declared.Outcome.the-variants.{Rule, Done, Waiting, Refused}
 use Rattle.stepping.specs.Stepping.{outcome-of, out-after}
@@ -102,3 +108,16 @@ pub record Demand (τ : TypeNumbers) (image : List ℕ) (types : List LinType) (
   -- "after the load and after every step each cell and finished thread has a value of its type"
   pub typed-loaded : Typed τ image types
   pub typed-after : (i : ℕ) (n : Step) → at (steps τ image types calls) i ≡ some n → Typed τ (left n) (types-left τ n)
+
+-- "The first step is handed the image that the load wrote, all of it and no byte beyond": of the recipe in the file, loaded into this out buffer
+abbrev pub image-loaded : List ℕ → List ℕ → List ℕ
+image-loaded file out = take (load.loaded-of file (length out) .length) (load.out-after file out)
+
+-- the types of its names: "cell of num for a setting, the bay's type for its first thread"
+abbrev pub types-loaded : List ℕ → List LinType
+types-loaded file = start (type-table file) (bay-terms file) .names
+
+-- document 01, the third demand: "For every run", that is for every accepted recipe, every out buffer that is long enough for its load, and every list of calls
+abbrev pub ThirdDemand : Type 0
+ThirdDemand = (file : List ℕ) → Bytes file → verdict-of file .refusal ≡ 0 → (out : List ℕ) → max-image-length ≤ length out → (calls : List Call) →
+    Demand (type-at (type-table file)) (image-loaded file out) (types-loaded file) calls

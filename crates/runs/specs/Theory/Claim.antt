@@ -1,10 +1,13 @@
 -- The third demand, of every run of every accepted recipe: from the calculus's claim, step by step.
 use mathlib.Core.Path.{_∙_, _≡_, ap, refl, sym}
 use mathlib.Core.Logic.{_↔_}
+use mathlib.Core.Bool.{Bool, cond, false, true}
 use mathlib.Core.Option.{some}
 use mathlib.Core.List.{List, map}
-use Prim.Native.Nat.{_<_, ℕ}
-use lib.ListN.{length}
+use Prim.Native.Nat.{_<_, _≤_, ℕ}
+use lib.Dec.{eqb}
+use lib.ListN.{drop, length}
+use lib.Seq.{take-append-seam}
 use Rattle.calculus.specs.Types.{LinType}
 use Rattle.calculus.specs.Syntax.{Exp, Config, at, thread-of}
 use Rattle.calculus.specs.Typing.{TypeNumbers}
@@ -12,10 +15,22 @@ use Rattle.calculus.specs.NewTypes.{function-at}
 use Rattle.calculus.specs.Limits.{max-image-length}
 use Rattle.calculus.specs.Run as calculus
 use Rattle.calculus.specs.Run.{State, ValuesTyped, after, reply, refuses}
+use Rattle.calculus.specs.Bytes.{Bytes}
+use Rattle.calculus.specs.Table.{type-at}
+use Rattle.calculus.specs.Recipe.{start}
+use Rattle.calculus.specs.Theory.Tests.{eqb-sound, ltb-not}
+use Rattle.calculus.specs.Theory.Claim.{demand, images}
+use Rattle.table.specs.Entries.{type-table}
+use Rattle.verdict.specs.Bays.{bay-terms}
+use Rattle.verdict.specs.Verdict.{accepted, refusal, refused as refused-by, verdict-of}
+use Rattle.verdict.specs.Recipe.{Recipe}
+use Rattle.verdict.specs.Theory.Accepted.{accepted-exactly, admitted, table-is, terms-are}
+use Rattle.starting.specs.Starting.{starting-image}
+use Rattle.loader.specs.Loading as load
 use Rattle.image.specs.Configuration.{image-of, config-of}
 use Rattle.image.specs.Theory.Exactly.{read-again}
 use Rattle.stepping.specs.declared.Outcome.the-variants.{Refused}
-use Rattle.runs.specs.Run.{Call, Step, answer, left, types-left, steps, Applies, Binds, IsThread, Goes, Typed, Demand}
+use Rattle.runs.specs.Run.{Call, Step, answer, left, types-left, steps, Applies, Binds, IsThread, Goes, Typed, Demand, image-loaded, ThirdDemand}
 use Rattle.runs.specs.Theory.Steps.{call-of, answered-rule, answered-refused, answered-goes, answers, leaves-image, leaves-types}
 use Rattle.runs.specs.Theory.Simulates.{Kept, AllKept, kept-first, Simulates, same, simulates}
 
@@ -83,3 +98,33 @@ module _ (τ : TypeNumbers) (s : State) (kept : AllKept τ s) (claim : (run : Li
         let (n′, p′, u) = simulates τ s kept calls i n p in
         typed-left u (claim (map call-of calls) .typed-after i n′ p′);
   }
+
+-- document 01's third demand
+module _ (file : List ℕ) (b : Bytes file) (accepted : refusal file ≡ 0) where
+  says : Recipe file (type-table file) (bay-terms file)
+  says = let (T, es, r) = accepted-exactly file b .0 accepted in rw (table-is r, terms-are r) r
+
+  all-kept : AllKept (type-at (type-table file)) (start (type-table file) (bay-terms file))
+  all-kept run i n h =
+      let ((k, w), (k′, w′)) = images (admitted says) run i n h in
+      (record { keeps = k; writable = w }, record { keeps = k′; writable = w′ })
+
+  -- the load leaves the starting image in the first bytes, as many as it answers
+  loaded-is : (out : List ℕ) → max-image-length ≤ length out → image-loaded file out ≡ starting-image file
+  unfolding load.loaded-of load.out-after load.load-refusal
+  loaded-is out long = rw (ltb-not (length out) max-image-length long, accepted) (take-append-seam (starting-image file) (drop (length (starting-image file)) out))
+
+-- the verdict is 0 exactly where no cause fits
+verdict-zero : (file : List ℕ) → verdict-of file .refusal ≡ 0 → refusal file ≡ 0
+unfolding verdict-of
+verdict-zero file e = go (eqb (refusal file) 0) refl e
+  where
+    go : (t : Bool) → eqb (refusal file) 0 ≡ t → cond t (accepted file) (refused-by (refusal file)) .refusal ≡ 0 → refusal file ≡ 0
+    go true q e = eqb-sound (refusal file) 0 q
+    go false q e = e
+
+pub third-demand : ThirdDemand
+unfolding starting-image
+third-demand file b v out long calls =
+    let a = verdict-zero file v in
+    rw (loaded-is file b a out long) (run-demand (type-at (type-table file)) (start (type-table file) (bay-terms file)) (all-kept file b a) (demand (admitted (says file b a))) calls)
