@@ -1,7 +1,21 @@
 // The supplier's host: the functions of include/fikarehu.h, thin over the proved library. Numbers pass as themselves, a slice as a pointer and a length.
+use loader::Loaded;
+use stepping::Outcome;
 use verdict::Verdict;
 ghost use mathlib.Core.Path.{_≡_};
+ghost use lib.ListN.{length};
 ghost use Rattle.verdict.specs.Verdict.{verdict-of};
+ghost use Rattle.loader.specs.Loading as load;
+ghost use Rattle.stepping.specs.Stepping.{out-after, outcome-of};
+ghost use Rattle.host.specs.Numbers.{NameSmall, numbers};
+
+// What a step came to, in document 01's numbers: 0 done; 1 and the rule, with the new image's length; 2 and the awaited name; 3 and the refusal.
+#[repr(C)]
+pub struct Stepped {
+    pub outcome: u32,
+    pub number: u32,
+    pub length: u64,
+}
 
 // Document 01: "Accepting answers b and each bay's type number"; a refusal its number.
 #[no_mangle]
@@ -9,4 +23,51 @@ pub extern "C" fn fikarehu_check(recipe: &[u8]) -> Verdict
     ensures { λ r. ⌜ r ≡ verdict-of (now (recipe .entry)) ⌝ }
 {
     checker::check(recipe)
+}
+
+// "loading also the image's length". The out buffer must not overlap the recipe.
+#[no_mangle]
+pub extern "C" fn fikarehu_load(recipe: &[u8], out: &mut [u8]) -> Loaded
+    ensures { λ r. ⌜ r ≡ load.loaded-of (now (recipe .entry)) (length (now (out .entry))) ⌝ }
+    ensures { λ r. ⌜ now (out .exit) ≡ load.out-after (now (recipe .entry)) (now (out .entry)) ⌝ }
+{
+    loader::load(recipe, out)
+}
+
+// An outcome in numbers.
+fn numbers_of(outcome: Outcome) -> Stepped
+    requires { ⌜ NameSmall outcome ⌝ }
+    ensures { λ r. ⌜ r ≡ numbers outcome ⌝ }
+{
+    match outcome {
+        Outcome::Rule(rule, length) => Stepped {
+            outcome: 1,
+            number: rule as u32,
+            length: length as u64,
+        },
+        Outcome::Done => Stepped {
+            outcome: 0,
+            number: 0,
+            length: 0,
+        },
+        Outcome::Waiting(name) => Stepped {
+            outcome: 2,
+            number: name as u32,
+            length: 0,
+        },
+        Outcome::Refused(number) => Stepped {
+            outcome: 3,
+            number: number as u32,
+            length: 0,
+        },
+    }
+}
+
+// A step of one thread. "image and out must not overlap there".
+#[no_mangle]
+pub extern "C" fn fikarehu_step(image: &[u8], thread: u64, out: &mut [u8]) -> Stepped
+    ensures { λ r. ⌜ r ≡ numbers (outcome-of (now (image .entry)) thread (now (out .entry))) ⌝ }
+    ensures { λ r. ⌜ now (out .exit) ≡ out-after (now (image .entry)) thread (now (out .entry)) ⌝ }
+{
+    numbers_of(stepper::step(image, thread as usize, out))
 }

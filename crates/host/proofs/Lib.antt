@@ -1,0 +1,2 @@
+-- an awaited name is a name of the image
+pub mod Waiting
