@@ -1,0 +1,78 @@
+/*
+ * A host in C: loads a recipe and gives its threads turns, one after the other, between two buffers. Every bay's vent opening is printed
+ * when no thread moves any more, or after the turns that were asked for.
+ *
+ *   cc -std=c11 -Iinclude examples/host.c target/staticlib/libhost.a -o host && ./host examples/nine-bays.recipe 1000
+ */
+#include <stdio.h>
+#include <stdlib.h>
+
+#include "fikarehu.h"
+
+enum { LONGEST_RECIPE = 8192, LONGEST_IMAGE = 13826, HEAD = 6 };
+
+static unsigned two_bytes(const uint8_t *at) {
+    return at[0] + 256u * at[1];
+}
+
+/* The setting of a bay is the cell with the bay's number: a num, or the name of a num still awaited. */
+static void print_vents(const uint8_t *image, uint32_t bays) {
+    for (uint32_t bay = 0; bay < bays; bay++) {
+        const uint8_t *value = image + two_bytes(image + 2 + HEAD * bay + 2);
+        if (value[0] == 4) {
+            unsigned opening = two_bytes(value + 1);
+            printf("bay %u: %u.%u %%\n", bay, opening / 10, opening % 10);
+        } else {
+            printf("bay %u: awaits name %u\n", bay, value[1]);
+        }
+    }
+}
+
+/* Gives each thread a turn, lowest number first, until none moves. The image lies in one buffer, and each step writes the other one. */
+static unsigned long take_turns(uint8_t **image, uint64_t *length, uint8_t **other, unsigned long turns) {
+    unsigned long taken = 0;
+    int moved = 1;
+    while (moved && taken < turns) {
+        moved = 0;
+        for (unsigned name = 0; name < two_bytes(*image) && taken < turns; name++) {
+            struct fikarehu_stepped stepped = fikarehu_step(*image, *length, name, *other, LONGEST_IMAGE);
+            if (stepped.outcome != FIKAREHU_RULE) {
+                continue; /* done, waiting, no thread (14) or no room (15): the image stays as it is */
+            }
+            uint8_t *written = *other;
+            *other = *image;
+            *image = written;
+            *length = stepped.length;
+            moved = 1;
+            taken++;
+        }
+    }
+    return taken;
+}
+
+int main(int count, char **words) {
+    static uint8_t recipe[LONGEST_RECIPE + 1], first[LONGEST_IMAGE], second[LONGEST_IMAGE];
+    if (count < 2) {
+        fprintf(stderr, "use: %s RECIPE [TURNS]\n", words[0]);
+        return 1;
+    }
+    FILE *file = fopen(words[1], "rb");
+    if (file == NULL) {
+        perror(words[1]);
+        return 1;
+    }
+    size_t size = fread(recipe, 1, sizeof recipe, file); /* one byte more than the limit, so that a longer file is refused 1 */
+    fclose(file);
+
+    struct fikarehu_loaded loaded = fikarehu_load(recipe, size, first, sizeof first);
+    if (loaded.refusal != 0) {
+        fprintf(stderr, "%s: refused %u\n", words[1], loaded.refusal);
+        return 1;
+    }
+    uint8_t *image = first, *other = second;
+    uint64_t length = loaded.length;
+    unsigned long taken = take_turns(&image, &length, &other, count < 3 ? 1000 : strtoul(words[2], NULL, 10));
+    printf("%lu turns taken, %u names\n", taken, two_bytes(image));
+    print_vents(image, loaded.bays);
+    return 0;
+}
