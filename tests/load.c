@@ -5,6 +5,7 @@
  */
 #define _GNU_SOURCE
 #include "check.h"
+#include "pattern.h"
 
 #include "../include/fikarehu.h"
 
@@ -12,24 +13,6 @@ enum { LEAST_OUT = 13826, ROOM = 4 * LEAST_OUT, SMALL_STACK = 256 * 1024 };
 
 static const uint8_t case_a[] = {0x4C, 0x46, 1, 2, 0x0C, 0, 9, 0, 0x15, 0, 1, 0, 0, 0, 0, 1, 0, 0, 2, 1, 0, 3};
 static const uint8_t image_a[] = {2, 0, 2, 0, 0x0E, 0, 3, 0, 1, 0, 0x11, 0, 1, 0, 4, 0, 0, 3};
-
-static uint8_t pattern_at(size_t at) { return (uint8_t)(7 * at + 3); }
-
-static void fill(uint8_t *out, size_t length) {
-    for (size_t at = 0; at < length; at++) {
-        out[at] = pattern_at(at);
-    }
-}
-
-/* Whether the bytes from `from` on are as they were. */
-static int kept(const uint8_t *out, size_t from, size_t length) {
-    for (size_t at = from; at < length; at++) {
-        if (out[at] != pattern_at(at)) {
-            return 0;
-        }
-    }
-    return 1;
-}
 
 static int others_are_zero(const struct fikarehu_loaded *loaded) {
     static const uint8_t zeros[16];

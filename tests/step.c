@@ -5,27 +5,11 @@
  */
 #define _GNU_SOURCE
 #include "check.h"
+#include "pattern.h"
 
 #include "../include/fikarehu.h"
 
 enum { LEAST_OUT = 13826, MOST_NODES = 4096, ROOM = 1 << 17, SMALL_STACK = 1024 * 1024 };
-
-static uint8_t pattern_at(size_t at) { return (uint8_t)(5 * at + 1); }
-
-static void fill(uint8_t *out, size_t length) {
-    for (size_t at = 0; at < length; at++) {
-        out[at] = pattern_at(at);
-    }
-}
-
-static int kept(const uint8_t *out, size_t from, size_t length) {
-    for (size_t at = from; at < length; at++) {
-        if (out[at] != pattern_at(at)) {
-            return 0;
-        }
-    }
-    return 1;
-}
 
 /* The image placed against a page that traps. */
 static const uint8_t *place(const uint8_t *image, size_t length) {
