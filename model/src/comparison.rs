@@ -32,13 +32,19 @@ pub struct Counts {
 }
 
 impl Counts {
-    fn note_step(&mut self, answer: &SteppedAnswer) {
+    /// How many recipes were checked.
+    pub fn recipes(&self) -> u64 {
+        self.verdicts.iter().sum()
+    }
+
+    /// A number that no answer should have is counted with the highest.
+    pub fn note_step(&mut self, answer: &SteppedAnswer) {
         let number = answer.number as usize;
         match answer.outcome {
             DONE => self.done += 1,
-            RULE => self.rules[number] += 1,
+            RULE => self.rules[number.min(7)] += 1,
             WAITING => self.waiting += 1,
-            _ => self.step_refusals[number] += 1,
+            _ => self.step_refusals[number.min(17)] += 1,
         }
     }
 }

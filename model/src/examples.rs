@@ -7,8 +7,9 @@ use crate::load::{load, Loaded};
 use crate::nodes::Node;
 use crate::step::{step, Outcome};
 use crate::table::entry;
+use crate::tool::show::shown;
+use crate::tool::text::spelling::UNICODE;
 use crate::types::{Constant, Multiplicity};
-use crate::wording::{term_in_words, type_in_words};
 use std::fmt::Write;
 
 /// An example: its name, what it does, and its recipe.
@@ -388,16 +389,9 @@ impl Example {
     }
 
     fn types_and_terms(&self) -> String {
-        let mut text = "Types, by number:\n\n".to_owned();
-        for number in 0..self.recipe.entries.len() {
-            let words = type_in_words(&self.recipe.entries, number as u8);
-            writeln!(text, "- {number}: {words}").expect("a text takes more");
-        }
-        text += "\nTerms, a lambda or constant with its type number in brackets:\n\n";
-        for (bay, term) in self.recipe.terms.iter().enumerate() {
-            writeln!(text, "- bay {bay}: `{}`", term_in_words(term)).expect("a text takes more");
-        }
-        text
+        let name = format!("{}.recipe", self.name);
+        let shown = shown(&name, &self.file(), &UNICODE);
+        format!("As `recipe show` has it (docs/RECIPES.md):\n\n```\n{shown}```\n")
     }
 
     fn verdict_and_run(&self) -> String {

@@ -23,7 +23,7 @@ pub fn first_offset(n: usize) -> usize {
 }
 
 /// The n pairs, or `None` when the file ends before they do.
-fn pairs(file: &[u8]) -> Option<Vec<Pair>> {
+pub fn pairs(file: &[u8]) -> Option<Vec<Pair>> {
     let n = usize::from(file[3]);
     let bytes = file.get(4..first_offset(n))?;
     let number = |b: &[u8]| usize::from(u16::from_le_bytes([b[0], b[1]]));

@@ -24,7 +24,7 @@ pub mod reduce;
 pub mod run;
 pub mod step;
 pub mod table;
+pub mod tool;
 pub mod types;
 pub mod typing;
 pub mod verdict;
-pub mod wording;

@@ -98,6 +98,16 @@ impl Node {
     }
 }
 
+/// The node at the front of the bytes, and the bytes after it: `None` for an unknown tag, a cut, or
+/// a num above its limit.
+pub fn read_node(bytes: &[u8]) -> Option<(Node, &[u8])> {
+    let (&tag, after_tag) = bytes.split_first()?;
+    let form = FORMS.get(usize::from(tag))?;
+    let after = after_tag.get(..form.after)?;
+    let node = Node::read(tag, after)?;
+    Some((node, &after_tag[form.after..]))
+}
+
 /// The bytes read as exactly one term: `None` for an unknown tag, a cut, bytes over, or a num
 /// above its limit. A loop that counts the subterms still to come, for the bytes are unchecked.
 pub fn read_term(bytes: &[u8]) -> Option<Vec<Node>> {
@@ -105,13 +115,10 @@ pub fn read_term(bytes: &[u8]) -> Option<Vec<Node>> {
     let mut rest = bytes;
     let mut pending = 1;
     while pending > 0 {
-        let (&tag, after_tag) = rest.split_first()?;
-        let form = FORMS.get(usize::from(tag))?;
-        let after = after_tag.get(..form.after)?;
-        let node = Node::read(tag, after)?;
-        pending = pending - 1 + form.subterms;
+        let (node, after) = read_node(rest)?;
+        pending = pending - 1 + node.subterms();
         nodes.push(node);
-        rest = &after_tag[form.after..];
+        rest = after;
     }
     rest.is_empty().then_some(nodes)
 }

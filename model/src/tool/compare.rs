@@ -1,0 +1,117 @@
+//! `recipe compare`: two shared libraries, given the same recipes and the same turns.
+
+pub mod crash;
+pub mod pair;
+pub mod report;
+
+use crate::draw::Draw;
+use crate::examples;
+use crate::generate::{images, recipes};
+use crate::tool::arguments::Form;
+use crate::tool::problem::{message, Outcome};
+use crate::tool::progress::Progress;
+use crate::tool::shared_library::SharedLibrary;
+use pair::{Difference, Pair};
+use std::ffi::OsString;
+use std::io::Write;
+
+const FORM: Form = Form {
+    command: "compare",
+    files: (2, 2),
+    with_value: &["--seed", "--count"],
+    without_value: &["--progress"],
+};
+
+const SEED: u64 = 2_006;
+const COUNT: u64 = 20_000;
+/// The most turns of one recipe.
+const TURNS: usize = 40;
+
+pub fn command(words: &[OsString], out: &mut dyn Write) -> Outcome {
+    let given = FORM.read(words)?;
+    let seed = FORM.value(&given, "--seed")?.unwrap_or(SEED);
+    let count = FORM.value(&given, "--count")?.unwrap_or(COUNT);
+    let (a, b) = (&given.files[0], &given.files[1]);
+    let mut pair = Pair::new(SharedLibrary::open(a)?, SharedLibrary::open(b)?);
+    writeln!(
+        out,
+        "A: {}\nB: {}\nseed {seed}, {count} recipes",
+        a.display(),
+        b.display()
+    )?;
+    for missing in pair.missing() {
+        writeln!(out, "{missing}: not compared")?;
+    }
+    out.flush()?;
+    crash::watch();
+    let mut progress = Progress::new(given.has("--progress"));
+    let result = compare(&mut pair, seed, count, &mut progress);
+    progress.end(&format!("{} recipes", pair.counts.recipes()));
+    writeln!(out, "{}", pair.counts)?;
+    match result {
+        Ok(()) => {
+            writeln!(out, "same")?;
+            Ok(())
+        }
+        Err(difference) => {
+            write!(out, "{}", report::in_full(&difference))?;
+            Err(message("the libraries differ"))
+        }
+    }
+}
+
+/// The examples, then that many recipes: checked, loaded, the accepted ones run; and an image from
+/// outside for every second recipe.
+fn compare(
+    pair: &mut Pair,
+    seed: u64,
+    count: u64,
+    progress: &mut Progress,
+) -> Result<(), Box<Difference>> {
+    let mut draw = Draw::new(seed);
+    let examples: Vec<Vec<u8>> = examples::all().iter().map(|e| e.file()).collect();
+    for recipe in &examples {
+        compare_recipe(pair, &mut draw, recipe)?;
+    }
+    for number in 0..count {
+        let recipe = recipes::file(&mut draw);
+        compare_recipe(pair, &mut draw, &recipe)?;
+        if number % 2 == 0 {
+            compare_image(pair, &mut draw)?;
+        }
+        progress.say(|| format!("recipe {number} of {count}"));
+    }
+    Ok(())
+}
+
+fn compare_recipe(pair: &mut Pair, draw: &mut Draw, recipe: &[u8]) -> Result<(), Box<Difference>> {
+    pair.check(recipe)?;
+    let room = images::out_length(draw);
+    let Some(mut image) = pair.load(recipe, room)? else {
+        return Ok(());
+    };
+    let mut thread = images::thread_number(draw, &image);
+    for turn in 1..=draw.between(1, TURNS) {
+        let room = images::out_length(draw);
+        let after = pair.step(Some((recipe, turn)), &image, thread, room)?;
+        let moved = after.is_some();
+        image = after.unwrap_or(image);
+        if !moved && draw.one_in(6) {
+            break;
+        }
+        if !moved || draw.one_in(3) {
+            thread = images::thread_number(draw, &image);
+        }
+    }
+    Ok(())
+}
+
+fn compare_image(pair: &mut Pair, draw: &mut Draw) -> Result<(), Box<Difference>> {
+    let image = images::image(draw);
+    for _ in 0..draw.between(1, 4) {
+        let thread = images::thread_number(draw, &image);
+        let room = images::out_length(draw);
+        pair.step(None, &image, thread, room)?;
+    }
+    Ok(())
+}

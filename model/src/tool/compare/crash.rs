@@ -1,0 +1,145 @@
+//! A library that is stopped by a signal: what it was called with is told before the tool ends.
+//! Only what a signal's handler may do is done in it: numbers, and `write`.
+
+use std::ffi::{c_int, c_void};
+use std::sync::atomic::{AtomicPtr, AtomicU64, AtomicUsize, Ordering};
+
+/// ILL, ABRT, BUS, FPE, SEGV.
+const SIGNALS: [c_int; 5] = [4, 6, 7, 8, 11];
+/// On the thread's own stack for signals, for the library may have used up the other one.
+const ON_STACK: c_int = 0x0800_0000;
+const STANDARD_ERROR: c_int = 2;
+
+/// `struct sigaction` of 64-bit Linux.
+#[repr(C)]
+struct Action {
+    handler: extern "C" fn(c_int),
+    mask: [u64; 16],
+    flags: c_int,
+    restorer: usize,
+}
+
+extern "C" {
+    fn sigaction(signal: c_int, action: *const Action, old: *mut c_void) -> c_int;
+    fn write(file: c_int, bytes: *const c_void, count: usize) -> isize;
+    fn _exit(status: c_int) -> !;
+}
+
+/// Bytes that stay where they are while a library runs.
+struct Lent {
+    start: AtomicPtr<u8>,
+    length: AtomicUsize,
+}
+
+impl Lent {
+    const fn none() -> Lent {
+        Lent {
+            start: AtomicPtr::new(std::ptr::null_mut()),
+            length: AtomicUsize::new(0),
+        }
+    }
+
+    fn set(&self, bytes: &[u8]) {
+        self.length.store(0, Ordering::SeqCst);
+        self.start
+            .store(bytes.as_ptr().cast_mut(), Ordering::SeqCst);
+        self.length.store(bytes.len(), Ordering::SeqCst);
+    }
+
+    /// Two digits a byte, on standard error.
+    fn tell(&self, word: &str) {
+        let length = self.length.load(Ordering::SeqCst);
+        let start = self.start.load(Ordering::SeqCst);
+        if start.is_null() {
+            return;
+        }
+        say(word);
+        for at in 0..length {
+            // SAFETY: the bytes are lent for as long as the library runs, and it was stopped in it.
+            let byte = unsafe { *start.add(at) };
+            let digit = |four: u8| b"0123456789ABCDEF"[usize::from(four)];
+            say_bytes(&[digit(byte >> 4), digit(byte & 15)]);
+        }
+        say("\n");
+    }
+}
+
+static LIBRARY: AtomicUsize = AtomicUsize::new(0);
+static THREAD: AtomicU64 = AtomicU64::new(0);
+static ROOM: AtomicUsize = AtomicUsize::new(0);
+static CALL: Lent = Lent::none();
+static INPUT: Lent = Lent::none();
+
+/// From now on such a signal is told.
+pub fn watch() {
+    for signal in SIGNALS {
+        let action = Action {
+            handler: tell,
+            mask: [0; 16],
+            flags: ON_STACK,
+            restorer: 0,
+        };
+        // SAFETY: a whole action, whose handler does only what a handler may do.
+        unsafe { sigaction(signal, &action, std::ptr::null_mut()) };
+    }
+}
+
+/// The call that comes next, of both libraries: its name, the recipe or image, thread and room.
+pub fn note_call(call: &'static str, input: &[u8], thread: u64, room: usize) {
+    CALL.set(call.as_bytes());
+    INPUT.set(input);
+    THREAD.store(thread, Ordering::SeqCst);
+    ROOM.store(room, Ordering::SeqCst);
+}
+
+/// Which library is called: 0 for A, 1 for B.
+pub fn note_library(number: usize) {
+    LIBRARY.store(number, Ordering::SeqCst);
+}
+
+extern "C" fn tell(signal: c_int) {
+    let library = LIBRARY.load(Ordering::SeqCst);
+    say("recipe: ");
+    say(if library == 0 { "A" } else { "B" });
+    say(" was stopped by signal ");
+    say_number(signal as u64);
+    say(" in ");
+    let call = CALL.start.load(Ordering::SeqCst);
+    let length = CALL.length.load(Ordering::SeqCst);
+    if !call.is_null() {
+        // SAFETY: the name of a call, which stays for ever.
+        say_bytes(unsafe { std::slice::from_raw_parts(call, length) });
+    }
+    say(" (thread ");
+    say_number(THREAD.load(Ordering::SeqCst));
+    say(", out buffer of ");
+    say_number(ROOM.load(Ordering::SeqCst) as u64);
+    say(" bytes)\n");
+    INPUT.tell("given: ");
+    // SAFETY: ends the program without more ado.
+    unsafe { _exit(1) }
+}
+
+fn say(text: &str) {
+    say_bytes(text.as_bytes());
+}
+
+fn say_bytes(bytes: &[u8]) {
+    // SAFETY: the pointer and the length are those of a slice.
+    unsafe { write(STANDARD_ERROR, bytes.as_ptr().cast(), bytes.len()) };
+}
+
+fn say_number(number: u64) {
+    let mut digits = [0; 20];
+    let mut rest = number;
+    let mut first = digits.len();
+    loop {
+        first -= 1;
+        digits[first] = b'0' + (rest % 10) as u8;
+        rest /= 10;
+        if rest == 0 {
+            break;
+        }
+    }
+    say_bytes(&digits[first..]);
+}

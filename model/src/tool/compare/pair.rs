@@ -1,0 +1,174 @@
+//! Two implementations called with the same input; every answer and every byte of the out buffers
+//! compared. Inputs and buffers end where a page begins that traps.
+
+use crate::answers::{Implementation, Model, RULE};
+use crate::comparison::Counts;
+use crate::guard::Guarded;
+use crate::limits;
+use crate::tool::compare::crash;
+use crate::tool::shared_library::SharedLibrary;
+use std::fmt::Debug;
+
+/// Room for the longest recipe or image that the generator makes.
+const INPUT_ROOM: usize = 1 << 17;
+/// Room for the longest out buffer.
+const OUT_ROOM: usize = 2 * limits::IMAGE_BYTES;
+
+/// Three answers as texts: A's, B's and the model's, each with its out buffer.
+#[derive(Debug, Default)]
+pub struct Difference {
+    /// What was called.
+    pub call: String,
+    pub recipe: Option<Vec<u8>>,
+    pub image: Option<Vec<u8>>,
+    pub answers: [String; 3],
+    pub outs: [Vec<u8>; 3],
+}
+
+pub struct Pair {
+    a: SharedLibrary,
+    b: SharedLibrary,
+    input: Guarded,
+    outs: [Guarded; 2],
+    pub counts: Counts,
+}
+
+impl Pair {
+    pub fn new(a: SharedLibrary, b: SharedLibrary) -> Pair {
+        Pair {
+            a,
+            b,
+            input: Guarded::new(INPUT_ROOM),
+            outs: [Guarded::new(OUT_ROOM), Guarded::new(OUT_ROOM)],
+            counts: Counts::default(),
+        }
+    }
+
+    /// The functions that one of the two does not have.
+    pub fn missing(&self) -> Vec<String> {
+        let mut missing = Vec::new();
+        for (name, library) in [("A", &self.a), ("B", &self.b)] {
+            if !library.has_load() {
+                missing.push(format!("{name} has no fikarehu_load"));
+            }
+            if !library.has_step() {
+                missing.push(format!("{name} has no fikarehu_step"));
+            }
+        }
+        missing
+    }
+
+    pub fn check(&mut self, recipe: &[u8]) -> Result<(), Box<Difference>> {
+        let placed = self.input.place(recipe);
+        crash::note_call("check", placed, 0, 0);
+        let (a, b) = both(|| self.a.check(placed), || self.b.check(placed));
+        count(&mut self.counts.verdicts, a.refusal);
+        if a == b {
+            return Ok(());
+        }
+        Err(Box::new(Difference {
+            call: "check".to_owned(),
+            recipe: Some(recipe.to_vec()),
+            answers: texts(a, b, Model.check(recipe)),
+            ..Difference::default()
+        }))
+    }
+
+    /// The image, if one was written.
+    pub fn load(&mut self, recipe: &[u8], room: usize) -> Result<Option<Vec<u8>>, Box<Difference>> {
+        let placed = self.input.place(recipe);
+        let [out_a, out_b] = &mut self.outs;
+        let (out_a, out_b) = (patterned(out_a, room), patterned(out_b, room));
+        crash::note_call("load", placed, 0, room);
+        let found = both(|| self.a.load(placed, out_a), || self.b.load(placed, out_b));
+        let (Some(a), Some(b)) = found else {
+            return Ok(None);
+        };
+        count(&mut self.counts.loads, a.refusal);
+        if a == b && out_a == out_b {
+            return Ok(written(out_a, a.length).filter(|_| a.refusal == 0));
+        }
+        let mut out = pattern(room);
+        let model = Model.load(recipe, &mut out).unwrap_or_default();
+        Err(Box::new(Difference {
+            call: format!("load into {room} bytes"),
+            recipe: Some(recipe.to_vec()),
+            image: None,
+            answers: texts(a, b, model),
+            outs: [out_a.to_vec(), out_b.to_vec(), out],
+        }))
+    }
+
+    /// The new image, if a rule was answered. `of` is the recipe that the image came from, and the turn.
+    pub fn step(
+        &mut self,
+        of: Option<(&[u8], usize)>,
+        image: &[u8],
+        thread: u64,
+        room: usize,
+    ) -> Result<Option<Vec<u8>>, Box<Difference>> {
+        let placed = self.input.place(image);
+        let [out_a, out_b] = &mut self.outs;
+        let (out_a, out_b) = (patterned(out_a, room), patterned(out_b, room));
+        crash::note_call("step", placed, thread, room);
+        let found = both(
+            || self.a.step(placed, thread, out_a),
+            || self.b.step(placed, thread, out_b),
+        );
+        let (Some(a), Some(b)) = found else {
+            return Ok(None);
+        };
+        self.counts.note_step(&a);
+        if a == b && out_a == out_b {
+            return Ok(written(out_a, a.length).filter(|_| a.outcome == RULE));
+        }
+        let mut out = pattern(room);
+        let model = Model.step(image, thread, &mut out).unwrap_or_default();
+        let turn = match of {
+            Some((_, turn)) => format!("turn {turn} of a run"),
+            None => "an image from outside".to_owned(),
+        };
+        Err(Box::new(Difference {
+            call: format!("step of thread {thread} into {room} bytes, {turn}"),
+            recipe: of.map(|(recipe, _)| recipe.to_vec()),
+            image: Some(image.to_vec()),
+            answers: texts(a, b, model),
+            outs: [out_a.to_vec(), out_b.to_vec(), out],
+        }))
+    }
+}
+
+/// A's answer and B's, with a note of who is asked.
+fn both<T>(a: impl FnOnce() -> T, b: impl FnOnce() -> T) -> (T, T) {
+    crash::note_library(0);
+    let a = a();
+    crash::note_library(1);
+    (a, b())
+}
+
+fn texts<T: Debug>(a: T, b: T, model: T) -> [String; 3] {
+    [a, b, model].map(|answer| format!("{answer:?}"))
+}
+
+/// The bytes that an answer says were written, if there are so many.
+fn written(out: &[u8], length: u64) -> Option<Vec<u8>> {
+    let length = usize::try_from(length).ok()?;
+    out.get(..length).map(<[u8]>::to_vec)
+}
+
+/// A number that no answer should have is counted with the last.
+fn count(counts: &mut [u64], number: u32) {
+    let last = counts.len() - 1;
+    counts[(number as usize).min(last)] += 1;
+}
+
+/// Bytes to tell by that nothing beyond was written.
+fn pattern(room: usize) -> Vec<u8> {
+    (0..room).map(|i| (7 * i + 3) as u8).collect()
+}
+
+fn patterned(out: &mut Guarded, room: usize) -> &mut [u8] {
+    let out = out.last(room);
+    out.copy_from_slice(&pattern(room));
+    out
+}

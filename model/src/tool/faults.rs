@@ -1,0 +1,104 @@
+//! Why a file is refused, and where: the lowest cause that fits, its first place, what was found.
+
+pub mod bytes;
+pub mod entries;
+pub mod terms;
+pub mod typing;
+pub mod usage;
+
+use crate::format::{pairs, table_and_terms};
+use crate::nodes::{Node, FORMS};
+use crate::table::{entries_of, Entry};
+use std::fmt;
+
+/// Where a fault is.
+#[derive(Debug, Clone, PartialEq, Eq)]
+pub enum Place {
+    File,
+    Opening,
+    /// The pair of that part.
+    Pair(usize),
+    Entry(usize),
+    /// A bay, the position of a node among its nodes, and the path to it.
+    Node(usize, usize, String),
+}
+
+impl fmt::Display for Place {
+    fn fmt(&self, f: &mut fmt::Formatter<'_>) -> fmt::Result {
+        match self {
+            Place::File => write!(f, "the file as a whole"),
+            Place::Opening => write!(f, "the opening bytes"),
+            Place::Pair(0) => write!(f, "the pair of the type table"),
+            Place::Pair(part) => write!(f, "the pair of bay {}", part - 1),
+            Place::Entry(number) => write!(f, "the type table, entry {number}"),
+            Place::Node(bay, _, path) => write!(f, "bay {bay}, {path}"),
+        }
+    }
+}
+
+/// A refusal with its place.
+#[derive(Debug, Clone, PartialEq, Eq)]
+pub struct Fault {
+    pub number: u32,
+    pub place: Place,
+    /// Counted from the first byte of the file, which is 0.
+    pub offset: usize,
+    pub found: String,
+}
+
+/// What is wrong with a file, if anything is.
+pub fn fault(file: &[u8]) -> Option<Fault> {
+    find(file).err()
+}
+
+fn find(file: &[u8]) -> Result<(), Fault> {
+    bytes::length(file)?;
+    bytes::opening(file)?;
+    bytes::layout(file)?;
+    let recipe = Parts::of(file);
+    entries::entries(&recipe)?;
+    let terms = terms::exactly_one(&recipe)?;
+    terms::limits(&recipe, &terms)?;
+    terms::names_something(&recipe, &terms)?;
+    typing::fit_types(&recipe, &terms)?;
+    typing::agree(&recipe, &terms)?;
+    usage::once(&recipe, &terms)?;
+    usage::bays_are_many(&recipe, &terms)
+}
+
+/// The parts of a file whose layout is sound, and where they begin.
+pub struct Parts<'a> {
+    pub entries: Vec<Entry>,
+    pub terms: Vec<&'a [u8]>,
+    offsets: Vec<usize>,
+}
+
+impl<'a> Parts<'a> {
+    /// Empty where the layout is not sound.
+    pub fn of(file: &'a [u8]) -> Parts<'a> {
+        let opened = (file.len() >= 4).then_some(file);
+        let (table, terms) = opened.and_then(table_and_terms).unwrap_or_default();
+        let pairs = opened.and_then(pairs).unwrap_or_default();
+        Parts {
+            entries: entries_of(table),
+            terms,
+            offsets: pairs.iter().map(|pair| pair.offset).collect(),
+        }
+    }
+
+    /// Where the table begins.
+    pub fn table_offset(&self) -> usize {
+        self.offsets.first().copied().unwrap_or(0)
+    }
+
+    /// Where the bay's term begins.
+    pub fn bay_offset(&self, bay: usize) -> usize {
+        self.offsets.get(bay + 1).copied().unwrap_or(0)
+    }
+
+    /// Where the node at that position begins.
+    pub fn node_offset(&self, bay: usize, nodes: &[Node], at: usize) -> usize {
+        let length = |node: &Node| 1 + FORMS[usize::from(node.tag())].after;
+        self.bay_offset(bay) + nodes[..at].iter().map(length).sum::<usize>()
+    }
+}

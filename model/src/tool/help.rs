@@ -1,0 +1,123 @@
+//! What the tool says about itself.
+
+use crate::tool::problem::{message, Outcome, Problem};
+use std::ffi::OsString;
+use std::io::Write;
+
+const GENERAL: &str = "\
+recipe shows, writes, runs and compares recipes for bays.
+
+  recipe show FILE              a recipe file as text; why and where it is refused
+  recipe write FILE.txt [OUT]   a text as a recipe file
+  recipe run FILE               the recipe, turn by turn
+  recipe compare A B            two shared libraries on the same recipes and turns
+  recipe help [COMMAND]         this, or more about a command
+
+FILE may be - for standard input. The exit status is 0 if all went well, else 1.
+";
+
+const SHOW: &str = "\
+recipe show FILE [--ascii]
+
+Prints the types and each bay's term of a recipe file, in the form that `recipe write` reads.
+For a refused file it says the refusal, the place (part, path from the root, byte offset), what
+was found there, and shows as much of the file as it can; the exit status is then 1.
+
+  --ascii   \\ for λ, -1> for →1, -w> for →ω
+
+  num ref        the type of a cell of num        unit, num, t5   types; t5 is entry 5
+  num →1 unit    a function usable once           num →ω unit     one usable many times
+  λx:num. e      a function usable many times     λ1 x:num. e     one usable once
+  f a b          f applied to a, then to b        exch[t4]        a constant and its type
+  setting3       the setting of bay 3             250             a num
+";
+
+const WRITE: &str = "\
+recipe write FILE.txt [OUT] [--force] [--even-refused]
+
+Reads a text and writes the recipe file OUT; without OUT, the text's name with .recipe at the end;
+- is standard output. An error is told as FILE:LINE:COLUMN. A recipe that would be refused is not
+written, and no file is written over.
+
+  --force          writes over a file
+  --even-refused   writes also what would be refused
+
+The smallest text, and one that opens a vent to 25 percent (types that are used but not listed are
+added by themselves):
+
+  bay 0 = unit
+  bay 0 = exch[num ref →ω num →ω num] setting0 250
+";
+
+const RUN: &str = "\
+recipe run FILE [--turns N] [--seed S | --order 1,2,..] [--svg OUT [--force]] [--progress]
+
+Checks, loads and steps the recipe, and prints for each turn the thread, its answer and the
+settings in tenths of a percent; at the end how the threads stand, and the vents.
+
+  --turns N       at most N turns (1000)
+  --seed S        threads by chance, the same for the same S
+  --order 1,2,1   these threads, over and over
+  --svg OUT       draws the vents and the threads over the turns into the file OUT
+  --force         writes over OUT
+  --progress      tells on standard error how far it is; on a terminal it does so anyway
+
+Without --seed and --order the threads go in turn, lowest number first, those that are done left
+out. The run stops when no thread can move.
+";
+
+const COMPARE: &str = "\
+recipe compare A B [--seed S] [--count N] [--progress]
+
+Opens two shared libraries that offer the C interface, gives both the same recipes, images and
+turns, and compares every answer and every byte of the out buffers. Says \"same\", or shows the
+first difference in full, with the model's answer beside it; the exit status is then 1.
+
+  --seed S       other recipes (2006)
+  --count N      so many recipes (20000), beside the examples
+  --progress     tells on standard error how far it is; on a terminal it does so anyway
+
+A shared library from a static one:
+
+  gcc -shared -Wl,--whole-archive libhost.a -Wl,--no-whole-archive -o libhost.so
+";
+
+const COMMANDS: [(&str, &str); 4] = [
+    ("show", SHOW),
+    ("write", WRITE),
+    ("run", RUN),
+    ("compare", COMPARE),
+];
+
+fn text_of(command: &str) -> Option<&'static str> {
+    let found = COMMANDS.iter().find(|(name, _)| *name == command);
+    found.map(|(_, text)| *text)
+}
+
+pub fn command(words: &[OsString], out: &mut dyn Write) -> Outcome {
+    let text = match words {
+        [] => GENERAL,
+        [word] => {
+            let found = word.to_str().and_then(text_of);
+            let none = format!("there is no command {}", word.to_string_lossy());
+            found.ok_or_else(|| usage(&none))?
+        }
+        _ => return Err(usage("help takes one command")),
+    };
+    out.write_all(text.as_bytes())?;
+    Ok(())
+}
+
+/// A wrong use of the tool.
+pub fn usage(what: &str) -> Problem {
+    message(format!("{what}\n{GENERAL}"))
+}
+
+/// A wrong use of a command: what is wrong, and the command's first line.
+pub fn usage_of(command: &str, what: &str) -> Problem {
+    let form = text_of(command).and_then(|text| text.lines().next());
+    message(format!(
+        "{what}\nusage: {}\nmore: recipe help {command}",
+        form.unwrap_or_default()
+    ))
+}

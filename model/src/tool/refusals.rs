@@ -1,0 +1,48 @@
+//! The refusals in document 01's words, and the rules of Fig. 5 by name.
+
+/// The cause of each number, 1 first.
+const CAUSES: [&str; 17] = [
+    "file length outside 12 to 8,192",
+    "first two bytes, edition, or n outside 2 to 17",
+    "pairs break the layout; table length no multiple of 3, or outside 9 to 768",
+    "a type entry breaks its rule",
+    "a part is not exactly one term: unknown tag, cut, bytes over, num above 1000",
+    "nesting or nodes above the limit",
+    "index with no lambda, name not below b, type number not below t",
+    "lambda's type no function, constant's type no instance of Fig. 8, narrowing broken",
+    "application of a non-function, argument or body of another type",
+    "a once-variable not used exactly once, or free under a many-lambda",
+    "a bay's type has multiplicity once",
+    "out buffer under 13,826 bytes",
+    "image breaks a rule or limit under \"The image\"",
+    "number is no thread",
+    "a rule applies, outcome above 256 names or 4,096 nodes",
+    "used handle applied",
+    "two values meet, neither a rule, nor waiting, nor 16",
+];
+
+/// The rules in Fig. 5's order, 1 first.
+const RULES: [&str; 7] = [
+    "BETA",
+    "THREAD.NEW",
+    "FUTURE.DEREF",
+    "HANDLE.NEW",
+    "HANDLE.BIND",
+    "CELL.NEW",
+    "CELL.EXCH",
+];
+
+/// The cause of that number in words.
+pub fn in_words(number: u32) -> &'static str {
+    named(&CAUSES, number).unwrap_or("a number that document 01 does not have")
+}
+
+/// The name of that rule.
+pub fn rule(number: u32) -> &'static str {
+    named(&RULES, number).unwrap_or("a rule that Fig. 5 does not have")
+}
+
+fn named(names: &[&'static str], number: u32) -> Option<&'static str> {
+    let place = usize::try_from(number).ok()?.checked_sub(1)?;
+    names.get(place).copied()
+}

@@ -1,0 +1,155 @@
+//! `recipe run`: checks, loads and steps a recipe, through the proved library where it is built in.
+
+pub mod history;
+pub mod image_view;
+pub mod order;
+pub mod report;
+pub mod runner;
+
+use crate::answers::Implementation;
+#[cfg(not(feature = "step"))]
+use crate::answers::Model as Stepper;
+#[cfg(feature = "step")]
+use crate::ffi::Library as Stepper;
+use crate::limits;
+use crate::tool::arguments::{Arguments, Form};
+use crate::tool::faults::fault;
+use crate::tool::files;
+use crate::tool::problem::{message, Outcome, Problem};
+use crate::tool::progress::Progress;
+use crate::tool::refusals;
+use crate::tool::svg;
+use history::History;
+use image_view::ImageView;
+use order::Order;
+use runner::{Ending, Runner};
+use std::ffi::OsString;
+use std::io::Write;
+use std::path::{Path, PathBuf};
+
+const FORM: Form = Form {
+    command: "run",
+    files: (1, 1),
+    with_value: &["--turns", "--seed", "--order", "--svg"],
+    without_value: &["--force", "--progress"],
+};
+
+/// The turns of a run that is told no other number.
+const TURNS: u64 = 1_000;
+
+/// Who steps.
+pub const STEPPER: &str = if cfg!(feature = "step") {
+    "the proved library"
+} else {
+    "the model (this tool is built without the library)"
+};
+
+pub fn command(words: &[OsString], out: &mut dyn Write) -> Outcome {
+    let given = FORM.read(words)?;
+    let turns = FORM.value(&given, "--turns")?.unwrap_or(TURNS);
+    let order = order(&given)?;
+    let path = &given.files[0];
+    let (bays, image) = load(path, &files::read(path)?)?;
+    let picture = given.value("--svg").map(PathBuf::from);
+    let force = given.has("--force");
+    if let Some(to) = &picture {
+        files::refuse_existing(to, force)?;
+    }
+    let progress = Progress::beside_lines(given.has("--progress"));
+    writeln!(
+        out,
+        "{}, stepped by {STEPPER}, {}",
+        path.display(),
+        order.in_words()
+    )?;
+    let history = run(out, (bays, image), turns, order, progress)?;
+    if let Some(to) = picture {
+        let drawn = svg::picture(&path.display().to_string(), &history);
+        files::write(&to, force, drawn.as_bytes())?;
+        writeln!(out, "\n{}: vents and threads over the turns", to.display())?;
+    }
+    Ok(())
+}
+
+fn order(given: &Arguments) -> Result<Order, Problem> {
+    let seed = FORM.value(given, "--seed")?;
+    match (seed, given.value("--order")) {
+        (Some(_), Some(_)) => Err(FORM.wrong("--seed and --order exclude each other")),
+        (Some(seed), None) => Ok(Order::random(seed)),
+        (None, Some(text)) => Order::list(text)
+            .ok_or_else(|| FORM.wrong(&format!("--order takes numbers such as 1,2,1, not {text}"))),
+        (None, None) => Ok(Order::RoundRobin(0)),
+    }
+}
+
+/// The number of bays and the starting image.
+fn load(path: &Path, recipe: &[u8]) -> Result<(usize, Vec<u8>), Problem> {
+    let mut image = vec![0; limits::IMAGE_BYTES];
+    let loaded = Stepper.load(recipe, &mut image).unwrap_or_default();
+    if loaded.refusal == 0 {
+        image.truncate(loaded.length as usize);
+        return Ok((loaded.bays as usize, image));
+    }
+    let number = loaded.refusal;
+    let cause = refusals::in_words(number);
+    let place = match fault(recipe).filter(|fault| fault.number == number) {
+        Some(fault) => format!("; {}, byte {}: {}", fault.place, fault.offset, fault.found),
+        None => String::new(),
+    };
+    let name = path.display();
+    Err(message(format!("{name}: refused {number}: {cause}{place}")))
+}
+
+/// The turns, printed one by one; then the end.
+fn run(
+    out: &mut dyn Write,
+    (bays, image): (usize, Vec<u8>),
+    turns: u64,
+    order: Order,
+    progress: Progress,
+) -> Result<History, Problem> {
+    let mut runner = Runner::new(&Stepper, image);
+    let mut history = History::default();
+    let start = ImageView(&runner.image).vents(bays);
+    history.note_vents(0, &start);
+    writeln!(out, "{}", report::SIGNS)?;
+    write!(out, "{}", report::heading(bays))?;
+    write!(out, "{}", report::line(0, None, "loaded", &start))?;
+    let ending = take_turns(out, &mut runner, &mut history, (turns, order), progress)?;
+    history.finish();
+    let threads = ImageView(&runner.image).threads();
+    let threads: Vec<_> = threads.iter().map(|t| (*t, runner.answer(*t))).collect();
+    let last = ImageView(&runner.image).vents(bays);
+    write!(out, "\n{}", report::ending(history.turns, ending, &threads))?;
+    write!(out, "\n{}", report::vents(&last))?;
+    Ok(history)
+}
+
+/// Turn after turn, until no thread moves or there have been enough.
+fn take_turns<I: Implementation>(
+    out: &mut dyn Write,
+    runner: &mut Runner<I>,
+    history: &mut History,
+    (turns, mut order): (u64, Order),
+    mut progress: Progress,
+) -> Result<Ending, Problem> {
+    let bays = history.vents.len();
+    for turn in 1..=turns {
+        let thread = match runner.next(&mut order) {
+            Ok(thread) => thread,
+            Err(ending) => {
+                progress.end(&format!("{} turns", turn - 1));
+                return Ok(ending);
+            }
+        };
+        let answer = runner.turn(thread);
+        let vents = ImageView(&runner.image).vents(bays);
+        history.note_vents(turn, &vents);
+        history.note_answer(turn, thread, answer);
+        let line = report::line(turn, Some(thread), &answer.to_string(), &vents);
+        write!(out, "{line}")?;
+        progress.say(|| format!("turn {turn} of {turns}"));
+    }
+    progress.end(&format!("{turns} turns"));
+    Ok(Ending::Turns)
+}

@@ -1,0 +1,89 @@
+//! What a picture of a run needs: when vents changed, and how each thread spent its time.
+
+use crate::tool::run::image_view::Vent;
+use crate::tool::run::runner::Answer;
+use std::collections::BTreeMap;
+
+/// A stretch of turns in which a thread gave the same kind of answer.
+#[derive(Debug, Clone, Copy)]
+pub struct Span {
+    pub from: u64,
+    /// The first turn past it: of a thread that moves, past its last rule; else the turn of its
+    /// next other answer, or the run's end.
+    pub to: u64,
+    pub state: State,
+}
+
+#[derive(Debug, Clone, Copy, PartialEq, Eq)]
+pub enum State {
+    Moving,
+    Waiting(u32),
+    Refused(u32),
+    Done,
+}
+
+#[derive(Debug, Default)]
+pub struct History {
+    pub turns: u64,
+    /// For each bay the turns after which its vent changed.
+    pub vents: Vec<Vec<(u64, Vent)>>,
+    pub threads: BTreeMap<u64, Vec<Span>>,
+    /// Each rule with its turn and thread.
+    pub rules: Vec<(u64, u64, u32)>,
+}
+
+/// Rules are told one by one in runs up to this length.
+pub const RULES_TOLD: u64 = 60;
+
+impl History {
+    pub fn note_vents(&mut self, turn: u64, vents: &[Vent]) {
+        self.turns = turn;
+        self.vents.resize(vents.len(), Vec::new());
+        for (changes, vent) in self.vents.iter_mut().zip(vents) {
+            if changes.last().map(|(_, last)| last) != Some(vent) {
+                changes.push((turn, *vent));
+            }
+        }
+    }
+
+    pub fn note_answer(&mut self, turn: u64, thread: u64, answer: Answer) {
+        let state = match answer {
+            Answer::Rule(rule) => {
+                if turn <= RULES_TOLD {
+                    self.rules.push((turn, thread, rule));
+                }
+                State::Moving
+            }
+            Answer::Waiting(name) => State::Waiting(name),
+            Answer::Refused(number) => State::Refused(number),
+            Answer::Done => State::Done,
+        };
+        let spans = self.threads.entry(thread).or_default();
+        if let Some(last) = spans.last_mut() {
+            if last.state == state {
+                last.to = turn + 1;
+                return;
+            }
+            if last.state != State::Moving {
+                last.to = turn;
+            }
+        }
+        let to = turn + 1;
+        spans.push(Span {
+            from: turn,
+            to,
+            state,
+        });
+    }
+
+    /// A thread that waits or is done at the end does so up to the end.
+    pub fn finish(&mut self) {
+        for spans in self.threads.values_mut() {
+            if let Some(last) = spans.last_mut() {
+                if last.state != State::Moving {
+                    last.to = self.turns + 1;
+                }
+            }
+        }
+    }
+}

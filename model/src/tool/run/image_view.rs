@@ -1,0 +1,95 @@
+//! What a run shows of an image: its threads, and the settings.
+
+use crate::limits::{COUNT_BYTES, HEAD_BYTES};
+
+const THREAD: u8 = 1;
+const NUM_TAG: u8 = 4;
+const NAME_TAG: u8 = 9;
+
+/// What the setting of a bay holds.
+#[derive(Debug, Clone, Copy, PartialEq, Eq)]
+pub enum Vent {
+    /// Tenths of a percent.
+    Open(u16),
+    /// A name, and the num that a finished thread holds under it, if it does already.
+    Named(u8, Option<u16>),
+    /// Nothing that a setting can hold.
+    Unknown,
+}
+
+impl Vent {
+    /// The opening, if it is known.
+    pub fn opening(self) -> Option<u16> {
+        match self {
+            Vent::Open(value) => Some(value),
+            Vent::Named(_, value) => value,
+            Vent::Unknown => None,
+        }
+    }
+}
+
+#[derive(Clone, Copy)]
+pub struct ImageView<'i>(pub &'i [u8]);
+
+impl<'i> ImageView<'i> {
+    fn names(self) -> usize {
+        self.number(0).unwrap_or(0)
+    }
+
+    fn number(self, at: usize) -> Option<usize> {
+        let bytes = self.0.get(at..at + 2)?;
+        Some(usize::from(u16::from_le_bytes([bytes[0], bytes[1]])))
+    }
+
+    fn head(self, name: usize) -> usize {
+        COUNT_BYTES + HEAD_BYTES * name
+    }
+
+    fn kind(self, name: usize) -> Option<u8> {
+        self.0.get(self.head(name)).copied()
+    }
+
+    fn expression(self, name: usize) -> Option<&'i [u8]> {
+        let offset = self.number(self.head(name) + 2)?;
+        let length = self.number(self.head(name) + 4)?;
+        self.0.get(offset..offset + length)
+    }
+
+    /// The numbers of the threads.
+    pub fn threads(self) -> Vec<u64> {
+        let is_thread = |name: &usize| self.kind(*name) == Some(THREAD);
+        (0..self.names())
+            .filter(is_thread)
+            .map(|name| name as u64)
+            .collect()
+    }
+
+    /// The settings of the first names, one for each bay.
+    pub fn vents(self, bays: usize) -> Vec<Vent> {
+        (0..bays).map(|bay| self.vent(bay)).collect()
+    }
+
+    fn vent(self, bay: usize) -> Vent {
+        match self.expression(bay) {
+            Some([NUM_TAG, low, high]) => Vent::Open(u16::from_le_bytes([*low, *high])),
+            Some([NAME_TAG, name]) => Vent::Named(*name, self.value_of(*name)),
+            _ => Vent::Unknown,
+        }
+    }
+
+    /// The num at the end of the names that finished threads hold.
+    fn value_of(self, name: u8) -> Option<u16> {
+        let mut here = name;
+        for _ in 0..self.names() {
+            if self.kind(usize::from(here)) != Some(THREAD) {
+                return None;
+            }
+            match self.expression(usize::from(here))? {
+                [NUM_TAG, low, high] => return Some(u16::from_le_bytes([*low, *high])),
+                [NAME_TAG, next] => here = *next,
+                _ => return None,
+            }
+        }
+        None
+    }
+}

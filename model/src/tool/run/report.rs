@@ -1,0 +1,98 @@
+//! A run as lines of text.
+
+use crate::tool::refusals;
+use crate::tool::run::image_view::Vent;
+use crate::tool::run::runner::{Answer, Ending};
+use std::fmt::Write;
+
+/// What the columns of the bays hold.
+pub const SIGNS: &str = "\
+settings in tenths of a percent; n5: holds name 5, still awaited; 300*: holds a name, which is 300
+";
+
+/// The line above the turns.
+pub fn heading(bays: usize) -> String {
+    let mut line = format!("{:>6}  {:>6}  {:<21}", "turn", "thread", "answer");
+    for bay in 0..bays {
+        let _ = write!(line, " {:>6}", format!("bay {bay}"));
+    }
+    line + "\n"
+}
+
+/// The line of a turn; turn 0 is the load.
+pub fn line(turn: u64, thread: Option<u64>, answer: &str, vents: &[Vent]) -> String {
+    let thread = thread.map_or("-".to_owned(), |thread| thread.to_string());
+    let mut line = format!("{turn:>6}  {thread:>6}  {answer:<21}");
+    for vent in vents {
+        let text = match vent {
+            Vent::Open(value) => value.to_string(),
+            Vent::Named(_, Some(value)) => format!("{value}*"),
+            Vent::Named(name, None) => format!("n{name}"),
+            Vent::Unknown => "?".to_owned(),
+        };
+        let _ = write!(line, " {text:>6}");
+    }
+    line + "\n"
+}
+
+/// Why the run ended, and how each thread stands.
+pub fn ending(turns: u64, ending: Ending, threads: &[(u64, Answer)]) -> String {
+    let turns = match turns {
+        1 => "1 turn".to_owned(),
+        _ => format!("{turns} turns"),
+    };
+    let mut text = match ending {
+        Ending::NoThreadMoves => format!("After {turns} no thread can move.\n"),
+        Ending::NoThreadOfTheOrderMoves => {
+            format!("After {turns} no thread of the order can move.\n")
+        }
+        Ending::Turns => format!("Stopped after {turns}.\n"),
+    };
+    for group in ["can move", "waiting", "refused", "done"] {
+        let told = threads.iter().filter_map(|(thread, answer)| {
+            let (own, more) = standing(*answer);
+            (own == group).then(|| format!("{thread}{more}"))
+        });
+        let told: Vec<String> = told.collect();
+        if !told.is_empty() {
+            let _ = writeln!(text, "  {group}: thread {}", told.join(", "));
+        }
+    }
+    text
+}
+
+/// How a thread stands, by what it would answer now, and more about it.
+fn standing(answer: Answer) -> (&'static str, String) {
+    match answer {
+        Answer::Rule(_) => ("can move", String::new()),
+        Answer::Waiting(name) => ("waiting", format!(" (for name {name})")),
+        Answer::Refused(number) => {
+            let words = refusals::in_words(number);
+            ("refused", format!(" ({number}: {words})"))
+        }
+        Answer::Done => ("done", String::new()),
+    }
+}
+
+/// The vents at the end, a line for each bay.
+pub fn vents(vents: &[Vent]) -> String {
+    let mut text = "bay  vent\n".to_owned();
+    for (bay, vent) in vents.iter().enumerate() {
+        let _ = writeln!(text, "{bay:>3}  {}", vent_in_words(*vent));
+    }
+    text
+}
+
+pub fn vent_in_words(vent: Vent) -> String {
+    match vent {
+        Vent::Open(value) => percent(value),
+        Vent::Named(name, Some(value)) => format!("{} (held under name {name})", percent(value)),
+        Vent::Named(name, None) => format!("awaits name {name}"),
+        Vent::Unknown => "unknown".to_owned(),
+    }
+}
+
+/// Tenths of a percent: 250 is 25.0 %.
+pub fn percent(value: u16) -> String {
+    format!("{}.{} %", value / 10, value % 10)
+}

@@ -1,0 +1,101 @@
+//! A shared library that offers the C interface of `include/fikarehu.h`, opened while running.
+
+use crate::answers::{Implementation, LoadedAnswer, SteppedAnswer, VerdictAnswer};
+use crate::tool::problem::{message, Problem};
+use std::ffi::{c_char, c_int, c_void, CStr, CString};
+use std::os::unix::ffi::OsStrExt;
+use std::path::Path;
+
+type Check = unsafe extern "C" fn(*const u8, usize) -> VerdictAnswer;
+type Load = unsafe extern "C" fn(*const u8, usize, *mut u8, usize) -> LoadedAnswer;
+type Step = unsafe extern "C" fn(*const u8, usize, u64, *mut u8, usize) -> SteppedAnswer;
+
+extern "C" {
+    fn dlopen(file: *const c_char, flags: c_int) -> *mut c_void;
+    fn dlsym(library: *mut c_void, name: *const c_char) -> *mut c_void;
+    fn dlerror() -> *const c_char;
+}
+
+/// Every name looked up at once, and none lent to other libraries.
+const NOW_AND_LOCAL: c_int = 2;
+
+/// An open library. It stays open until the program ends.
+pub struct SharedLibrary {
+    check: Check,
+    load: Option<Load>,
+    step: Option<Step>,
+}
+
+impl SharedLibrary {
+    pub fn open(path: &Path) -> Result<SharedLibrary, Problem> {
+        let cannot = |why: String| message(format!("cannot open {}: {why}", path.display()));
+        let whole = path.canonicalize().map_err(|e| cannot(e.to_string()))?;
+        let name = CString::new(whole.as_os_str().as_bytes());
+        let name = name.map_err(|e| cannot(e.to_string()))?;
+        // SAFETY: a text that ends with a zero; the library's own start is trusted, as it will be run.
+        let library = unsafe { dlopen(name.as_ptr(), NOW_AND_LOCAL) };
+        if library.is_null() {
+            return Err(cannot(last_error()));
+        }
+        let check = symbol(library, c"fikarehu_check");
+        let check = check.ok_or_else(|| cannot("it has no fikarehu_check".to_owned()))?;
+        // SAFETY: functions of these names have these types, as the header declares them.
+        unsafe {
+            Ok(SharedLibrary {
+                check: std::mem::transmute::<*mut c_void, Check>(check),
+                load: symbol(library, c"fikarehu_load")
+                    .map(|found| std::mem::transmute::<*mut c_void, Load>(found)),
+                step: symbol(library, c"fikarehu_step")
+                    .map(|found| std::mem::transmute::<*mut c_void, Step>(found)),
+            })
+        }
+    }
+}
+
+impl SharedLibrary {
+    pub fn has_load(&self) -> bool {
+        self.load.is_some()
+    }
+
+    pub fn has_step(&self) -> bool {
+        self.step.is_some()
+    }
+}
+
+/// The address of a name in the library.
+fn symbol(library: *mut c_void, name: &CStr) -> Option<*mut c_void> {
+    // SAFETY: an open library and a text that ends with a zero.
+    let found = unsafe { dlsym(library, name.as_ptr()) };
+    (!found.is_null()).then_some(found)
+}
+
+fn last_error() -> String {
+    // SAFETY: the text, if there is one, stays until the next call, and is copied before.
+    unsafe {
+        let text = dlerror();
+        if text.is_null() {
+            return "no reason is given".to_owned();
+        }
+        CStr::from_ptr(text).to_string_lossy().into_owned()
+    }
+}
+
+impl Implementation for SharedLibrary {
+    fn check(&self, recipe: &[u8]) -> VerdictAnswer {
+        // SAFETY: the pointer and the length are those of a slice that is lent meanwhile.
+        unsafe { (self.check)(recipe.as_ptr(), recipe.len()) }
+    }
+
+    fn load(&self, recipe: &[u8], out: &mut [u8]) -> Option<LoadedAnswer> {
+        let load = self.load?;
+        // SAFETY: two slices that are lent meanwhile, the second alone.
+        Some(unsafe { load(recipe.as_ptr(), recipe.len(), out.as_mut_ptr(), out.len()) })
+    }
+
+    fn step(&self, image: &[u8], thread: u64, out: &mut [u8]) -> Option<SteppedAnswer> {
+        let step = self.step?;
+        let room = out.len();
+        // SAFETY: two slices that are lent meanwhile, the second alone.
+        Some(unsafe { step(image.as_ptr(), image.len(), thread, out.as_mut_ptr(), room) })
+    }
+}

@@ -1,0 +1,134 @@
+//! `recipe show`: a file as text; for a refused file, why, where, and what can be shown of it.
+
+pub mod remains;
+
+use crate::format::hexadecimal;
+use crate::table::Table;
+use crate::tool::arguments::Form;
+use crate::tool::faults::{self, fault, Fault, Parts, Place};
+use crate::tool::files;
+use crate::tool::problem::{message, Outcome};
+use crate::tool::refusals;
+use crate::tool::text::layout::laid_out;
+use crate::tool::text::printer::Printer;
+use crate::tool::text::spelling::{Spelling, ASCII, UNICODE};
+use crate::tool::text::type_texts::TypeTexts;
+use remains::{cut_text, first_bytes};
+use std::ffi::OsString;
+use std::fmt::Write as _;
+use std::io::Write;
+
+const FORM: Form = Form {
+    command: "show",
+    files: (1, 1),
+    with_value: &[],
+    without_value: &["--ascii"],
+};
+
+pub fn command(words: &[OsString], out: &mut dyn Write) -> Outcome {
+    let read = FORM.read(words)?;
+    let path = &read.files[0];
+    let file = files::read(path)?;
+    let spelling = if read.has("--ascii") {
+        &ASCII
+    } else {
+        &UNICODE
+    };
+    let name = path.display().to_string();
+    out.write_all(shown(&name, &file, spelling).as_bytes())?;
+    match fault(&file) {
+        None => Ok(()),
+        Some(fault) => Err(message(format!("{name}: refused {}", fault.number))),
+    }
+}
+
+/// The file as text, with what is known of it in lines that `write` reads over.
+pub fn shown(name: &str, file: &[u8], spelling: &'static Spelling) -> String {
+    let parts = Parts::of(file);
+    let mut text = match fault(file) {
+        Some(fault) => told(name, &fault) + &first_bytes(file, &parts),
+        None => String::new(),
+    };
+    if text.is_empty() {
+        text = format!("# {}: accepted\n", one_line(name));
+    }
+    if parts.entries.is_empty() {
+        return text;
+    }
+    let nodes: usize = parts
+        .terms
+        .iter()
+        .map(|part| faults::terms::read(part).nodes.len())
+        .sum();
+    let _ = writeln!(
+        text,
+        "# {}, {}, {}, {}\n",
+        counted(parts.terms.len(), "bay"),
+        counted(parts.entries.len(), "type"),
+        counted(nodes, "node"),
+        counted(file.len(), "byte")
+    );
+    let texts = TypeTexts::new(&parts.entries, spelling);
+    text += &types(&texts);
+    for (bay, part) in parts.terms.iter().enumerate() {
+        text += &bay_text(bay, part, &texts);
+    }
+    text
+}
+
+/// "1 bay", "2 bays"
+fn counted(count: usize, what: &str) -> String {
+    let plural = if count == 1 { "" } else { "s" };
+    format!("{count} {what}{plural}")
+}
+
+/// A file's name may hold anything, also a line's end.
+fn one_line(name: &str) -> String {
+    name.chars().filter(|c| !c.is_control()).collect()
+}
+
+/// The refusal, its place and what was found.
+pub fn told(name: &str, fault: &Fault) -> String {
+    let name = one_line(name);
+    let number = fault.number;
+    let cause = refusals::in_words(number);
+    let offset = match fault.place {
+        Place::File => String::new(),
+        _ => format!(", byte {} of the file", fault.offset),
+    };
+    let (place, found) = (&fault.place, &fault.found);
+    format!("# {name}: refused {number}: {cause}\n# where: {place}{offset}\n# found: {found}\n")
+}
+
+/// `types`, then a line for each entry; after it the type in full, where that says more.
+fn types(texts: &TypeTexts) -> String {
+    let mut text = "types\n".to_owned();
+    for (number, entry) in (0..=u8::MAX).zip(texts.entries) {
+        let Some(written) = texts.entry(number) else {
+            let bytes = hexadecimal(&entry.bytes());
+            let _ = writeln!(text, "  # t{number} is no type: {bytes}");
+            continue;
+        };
+        let line = format!("  t{number} = {written}");
+        let full = texts.full(number).filter(|full| *full != written);
+        text += &match full {
+            Some(full) => format!("{line:<28} # {full}\n"),
+            None => format!("{line}\n"),
+        };
+    }
+    text
+}
+
+/// `bay k : type =`, then the term.
+fn bay_text(bay: usize, part: &[u8], texts: &TypeTexts) -> String {
+    let reading = faults::terms::read(part);
+    if reading.stopped.is_some() {
+        return cut_text(bay, &reading.nodes, part);
+    }
+    let printer = Printer::new(&reading.nodes, texts);
+    let sound = Table::read(texts.entries).is_some();
+    let root = printer.types[0].filter(|_| sound);
+    let claim = root.map_or(String::new(), |t| format!(" : {}", texts.name(t)));
+    let term = laid_out(&printer, 2);
+    format!("\nbay {bay}{claim} =\n  {term}\n")
+}

@@ -1,0 +1,77 @@
+//! What is shown of a file whose parts cannot be told, and of a part that is no term.
+
+use crate::format::{hexadecimal, opening_is_sound, pairs};
+use crate::nodes::Node;
+use crate::tool::faults::Parts;
+use crate::tool::outline::Outline;
+use crate::tool::text::spelling::constant_name;
+use std::fmt::Write;
+
+/// How many bytes are shown of a file whose parts cannot be told.
+const FIRST_BYTES: usize = 64;
+
+/// The pairs, as far as there are any, and the first bytes.
+pub fn first_bytes(file: &[u8], parts: &Parts) -> String {
+    if !parts.entries.is_empty() || file.is_empty() {
+        return String::new();
+    }
+    let mut text = pairs_text(file) + "# the first bytes:\n";
+    for (line, bytes) in file.chunks(16).take(FIRST_BYTES / 16).enumerate() {
+        let bytes: Vec<String> = bytes.iter().map(|b| hexadecimal(&[*b])).collect();
+        let _ = writeln!(text, "# {:5}  {}", 16 * line, bytes.join(" "));
+    }
+    text
+}
+
+fn pairs_text(file: &[u8]) -> String {
+    let opened = file.len() >= 4 && opening_is_sound(file);
+    let pairs = opened.then(|| pairs(file)).flatten().unwrap_or_default();
+    let mut text = String::new();
+    for (part, pair) in pairs.iter().enumerate() {
+        let (offset, length) = (pair.offset, pair.length);
+        let what = match part {
+            0 => "the type table".to_owned(),
+            _ => format!("bay {}", part - 1),
+        };
+        let _ = writeln!(text, "# {what}: offset {offset}, length {length}");
+    }
+    text
+}
+
+/// The nodes of a part that is no term, as far as they could be read.
+pub fn cut_text(bay: usize, nodes: &[Node], part: &[u8]) -> String {
+    let outline = Outline::of(nodes);
+    let mut text = format!(
+        "\n# bay {bay} is no term; {} of its nodes can be read\n",
+        nodes.len()
+    );
+    for (at, node) in nodes.iter().enumerate().take(CUT_NODES) {
+        let deep = (outline.above[at].nesting - 1).min(CUT_INDENT);
+        let _ = writeln!(text, "#   {:deep$}{}", "", node_in_words(*node));
+    }
+    if nodes.len() > CUT_NODES {
+        let _ = writeln!(text, "#   and {} more", nodes.len() - CUT_NODES);
+    }
+    let shown = &part[..part.len().min(FIRST_BYTES)];
+    let more = if shown.len() < part.len() { ".." } else { "" };
+    text + &format!("# its bytes: {}{more}\n", hexadecimal(shown))
+}
+
+/// The most nodes that are listed of a part that is no term.
+const CUT_NODES: usize = 40;
+/// The most columns by which they are indented.
+const CUT_INDENT: usize = 40;
+
+fn node_in_words(node: Node) -> String {
+    match node {
+        Node::Variable(index) => format!("variable {index}"),
+        Node::Lambda(t) => format!("lambda, type {t}"),
+        Node::Application => "application".to_owned(),
+        Node::Unit => "unit".to_owned(),
+        Node::Num(value) => format!("num {value}"),
+        Node::Constant(c, t) => {
+            format!("{}, type {t}", constant_name(c))
+        }
+        Node::Name(k) => format!("name {k}"),
+    }
+}

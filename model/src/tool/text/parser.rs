@@ -1,0 +1,189 @@
+//! A text read as a recipe: its list of types, then each bay.
+
+use crate::format::Recipe;
+use crate::limits;
+use crate::nodes::Node;
+use crate::tool::text::numbering::Numbering;
+use crate::tool::text::spelling::UNICODE;
+use crate::tool::text::tokens::{tokens, Placed, Position, TextError, Token};
+use crate::tool::text::type_texts::TypeTexts;
+
+/// More nodes and brackets than any recipe file can have.
+const MOST: usize = *limits::FILE_BYTES.end();
+
+/// A recipe, and where in the text its entries and nodes stand.
+#[derive(Debug)]
+pub struct Read {
+    pub recipe: Recipe,
+    /// Of the entries that the text lists.
+    pub entries: Vec<Position>,
+    pub nodes: Vec<Vec<Position>>,
+}
+
+/// The recipe that a text describes.
+pub fn read(text: &str) -> Result<Read, TextError> {
+    let mut parser = Parser {
+        tokens: tokens(text)?,
+        at: 0,
+        depth: 0,
+        nodes: 0,
+        listing: true,
+        types: Numbering::default(),
+        scope: Vec::new(),
+    };
+    let entries = parser.listed_types()?;
+    parser.listing = false;
+    parser.types.complete_first();
+    let mut terms = Vec::new();
+    let mut nodes = Vec::new();
+    while terms.is_empty() || parser.peek() != Token::End {
+        let (term, positions) = parser.bay(terms.len())?;
+        terms.push(term);
+        nodes.push(positions);
+    }
+    let recipe = Recipe {
+        entries: parser.types.entries,
+        terms,
+    };
+    Ok(Read {
+        recipe,
+        entries,
+        nodes,
+    })
+}
+
+pub struct Parser<'t> {
+    tokens: Vec<Placed<'t>>,
+    at: usize,
+    depth: usize,
+    nodes: usize,
+    /// Whether the types are being listed, so that no other gets a number.
+    pub listing: bool,
+    pub types: Numbering,
+    /// The variables around, the innermost last, with their types where these are known.
+    pub scope: Vec<(&'t str, Option<u8>)>,
+}
+
+impl<'t> Parser<'t> {
+    pub fn peek(&self) -> Token<'t> {
+        self.tokens[self.at].token
+    }
+
+    pub fn position(&self) -> Position {
+        self.tokens[self.at].position
+    }
+
+    pub fn advance(&mut self) -> Token<'t> {
+        let token = self.peek();
+        if self.at + 1 < self.tokens.len() {
+            self.at += 1;
+        }
+        token
+    }
+
+    /// Whether the next token is this one, which is then left behind.
+    pub fn takes(&mut self, wanted: Token) -> bool {
+        let found = self.peek() == wanted;
+        if found {
+            self.advance();
+        }
+        found
+    }
+
+    pub fn expected(&self, what: &str) -> TextError {
+        error(
+            self.position(),
+            format!("expected {what}, found {}", self.peek()),
+        )
+    }
+
+    pub fn expect(&mut self, wanted: Token) -> Result<(), TextError> {
+        if self.takes(wanted) {
+            return Ok(());
+        }
+        Err(self.expected(&wanted.to_string()))
+    }
+
+    /// A number up to `most`.
+    pub fn number(&mut self, what: &str, most: u16) -> Result<u16, TextError> {
+        let Token::Number(text) = self.peek() else {
+            return Err(self.expected(what));
+        };
+        let value = text.parse().ok().filter(|value| *value <= most);
+        let value = value.ok_or_else(|| self.expected(&format!("{what}, at most {most}")))?;
+        self.advance();
+        Ok(value)
+    }
+
+    /// One level deeper: bounded, so that no text can exhaust the stack.
+    pub fn deeper<T>(
+        &mut self,
+        work: impl FnOnce(&mut Self) -> Result<T, TextError>,
+    ) -> Result<T, TextError> {
+        self.depth += 1;
+        if self.depth > MOST {
+            return Err(error(self.position(), "nested too deep".to_owned()));
+        }
+        let result = work(self);
+        self.depth -= 1;
+        result
+    }
+
+    /// One node more.
+    pub fn count_node(&mut self, position: Position) -> Result<(), TextError> {
+        self.nodes += 1;
+        if self.nodes > MOST {
+            let text = "this is more than a recipe file can hold".to_owned();
+            return Err(error(position, text));
+        }
+        Ok(())
+    }
+
+    /// The type in words, for a message.
+    pub fn told(&self, number: u8) -> String {
+        TypeTexts::new(&self.types.entries, &UNICODE).told(number)
+    }
+
+    /// `bay N = term` or `bay N : type = term`
+    fn bay(&mut self, bay: usize) -> Result<(Vec<Node>, Vec<Position>), TextError> {
+        let here = self.position();
+        if self.peek() != Token::Word("bay") {
+            let due = format!("'bay {bay}'");
+            let more = if bay > 0 { " or an argument" } else { "" };
+            return Err(self.expected(&format!("{due}{more}")));
+        }
+        self.advance();
+        if bay >= limits::BAYS {
+            return Err(error(here, "a recipe has at most 16 bays".to_owned()));
+        }
+        if self.peek() != Token::Number(&bay.to_string()) {
+            return Err(self.expected(&format!("'{bay}', the next bay's number")));
+        }
+        self.advance();
+        let claim = self.position();
+        let claimed = if self.takes(Token::Sign(':')) {
+            Some(self.type_number()?)
+        } else {
+            None
+        };
+        self.expect(Token::Sign('='))?;
+        let term = self.term()?;
+        if let (Some(claimed), Ok(found)) = (claimed, &term.type_number) {
+            self.same_type(claim, claimed, *found)?;
+        }
+        Ok(term.nodes.into_iter().unzip())
+    }
+
+    fn same_type(&self, claim: Position, claimed: u8, found: u8) -> Result<(), TextError> {
+        if claimed == found {
+            return Ok(());
+        }
+        let (claimed, found) = (self.told(claimed), self.told(found));
+        let text = format!("the bay's term is of type {found}, not {claimed}");
+        Err(error(claim, text))
+    }
+}
+
+pub fn error(position: Position, message: String) -> TextError {
+    TextError { position, message }
+}

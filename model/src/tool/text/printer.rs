@@ -1,0 +1,110 @@
+//! A term as one line of text: `λx:τ. e`, application by juxtaposition, few brackets.
+
+use crate::nodes::{end_of_term, Node};
+use crate::table::ONCE;
+use crate::tool::outline::Outline;
+use crate::tool::text::node_types::{function, node_types};
+use crate::tool::text::spelling::{constant_name, variable_name, SETTING};
+use crate::tool::text::type_texts::TypeTexts;
+
+/// Where a term stands, for the brackets.
+#[derive(Clone, Copy, PartialEq, Eq)]
+pub enum Standing {
+    Alone,
+    Function,
+    Argument,
+}
+
+pub struct Printer<'a> {
+    pub nodes: &'a [Node],
+    pub outline: Outline,
+    pub types: Vec<Option<u8>>,
+    pub texts: &'a TypeTexts<'a>,
+}
+
+impl<'a> Printer<'a> {
+    /// For a whole term.
+    pub fn new(nodes: &'a [Node], texts: &'a TypeTexts<'a>) -> Printer<'a> {
+        let outline = Outline::of(nodes);
+        let types = node_types(texts.entries, nodes, &outline);
+        Printer {
+            nodes,
+            outline,
+            types,
+            texts,
+        }
+    }
+
+    /// The term at that place in one line.
+    pub fn line(&self, at: usize, standing: Standing) -> String {
+        let mut out = String::new();
+        self.write(at, standing, &mut out);
+        out
+    }
+
+    /// Whether a term needs brackets where it stands.
+    pub fn has_brackets(&self, at: usize, standing: Standing) -> bool {
+        match self.nodes[at] {
+            Node::Lambda(_) => standing != Standing::Alone,
+            Node::Application => standing == Standing::Argument,
+            _ => false,
+        }
+    }
+
+    fn write(&self, at: usize, standing: Standing, out: &mut String) {
+        let brackets = self.has_brackets(at, standing);
+        if brackets {
+            out.push('(');
+        }
+        match self.nodes[at] {
+            Node::Application => {
+                self.write(at + 1, Standing::Function, out);
+                out.push(' ');
+                self.write(self.argument(at), Standing::Argument, out);
+            }
+            Node::Lambda(_) => {
+                out.push_str(&self.head(at));
+                out.push(' ');
+                self.write(at + 1, Standing::Alone, out);
+            }
+            _ => out.push_str(&self.leaf(at)),
+        }
+        if brackets {
+            out.push(')');
+        }
+    }
+
+    /// Where the argument of the application at that place begins.
+    pub fn argument(&self, at: usize) -> usize {
+        end_of_term(self.nodes, at + 1)
+    }
+
+    /// `λx:τ.` for a function usable many times, `λ1 x:τ.` for one usable once; where the body is
+    /// not of the result's type, the type of the whole function: `λx[t5].`
+    pub fn head(&self, at: usize) -> String {
+        let lambda = self.texts.spelling.lambda;
+        let x = variable_name(self.outline.above[at].lambdas);
+        let whole = self.nodes[at].type_number().unwrap_or(0);
+        match function(self.texts.entries, whole) {
+            Some((p, q)) if self.types[at + 1] == Some(q) => {
+                let once = self.texts.entries[usize::from(whole)].kind == ONCE;
+                let mark = if once { "1 " } else { "" };
+                format!("{lambda}{mark}{x}:{}.", self.texts.name(p))
+            }
+            _ => format!("{lambda}{x}[t{whole}]."),
+        }
+    }
+
+    fn leaf(&self, at: usize) -> String {
+        match self.nodes[at] {
+            Node::Variable(index) => match self.outline.binder(at, index) {
+                Some(lambda) => variable_name(self.outline.above[lambda].lambdas),
+                None => format!("@{index}"),
+            },
+            Node::Num(value) => value.to_string(),
+            Node::Constant(c, t) => format!("{}[t{t}]", constant_name(c)),
+            Node::Name(bay) => format!("{SETTING}{bay}"),
+            Node::Unit | Node::Lambda(_) | Node::Application => "unit".to_owned(),
+        }
+    }
+}

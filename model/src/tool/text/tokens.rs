@@ -1,0 +1,130 @@
+//! The text as a list of words, numbers and signs, each with its line and column.
+
+use std::fmt;
+
+/// Both counted from 1, columns in characters.
+#[derive(Debug, Clone, Copy, PartialEq, Eq)]
+pub struct Position {
+    pub line: usize,
+    pub column: usize,
+}
+
+/// What is wrong with a text, and where.
+#[derive(Debug, Clone, PartialEq, Eq)]
+pub struct TextError {
+    pub position: Position,
+    pub message: String,
+}
+
+#[derive(Debug, Clone, Copy, PartialEq, Eq)]
+pub enum Token<'t> {
+    Word(&'t str),
+    Number(&'t str),
+    Lambda,
+    OnceArrow,
+    ManyArrow,
+    Sign(char),
+    End,
+}
+
+impl fmt::Display for Token<'_> {
+    fn fmt(&self, f: &mut fmt::Formatter<'_>) -> fmt::Result {
+        match self {
+            Token::Word(text) | Token::Number(text) => write!(f, "'{text}'"),
+            Token::Lambda => write!(f, "'λ'"),
+            Token::OnceArrow => write!(f, "'→1'"),
+            Token::ManyArrow => write!(f, "'→ω'"),
+            Token::Sign(sign) => write!(f, "'{sign}'"),
+            Token::End => write!(f, "the end of the text"),
+        }
+    }
+}
+
+#[derive(Debug, Clone, Copy)]
+pub struct Placed<'t> {
+    pub token: Token<'t>,
+    pub position: Position,
+}
+
+/// The signs of more than one spelling.
+const SPELLED: [(&str, Token<'static>); 6] = [
+    ("λ", Token::Lambda),
+    ("\\", Token::Lambda),
+    ("→1", Token::OnceArrow),
+    ("-1>", Token::OnceArrow),
+    ("→ω", Token::ManyArrow),
+    ("-w>", Token::ManyArrow),
+];
+
+const SIGNS: &str = ".:=()[]@";
+
+/// The tokens of a text, the end being the last.
+pub fn tokens(text: &str) -> Result<Vec<Placed<'_>>, TextError> {
+    let mut found = Vec::new();
+    let mut lines = 0;
+    for (number, line) in text.lines().enumerate() {
+        tokens_of_line(line, number + 1, &mut found)?;
+        lines = number + 1;
+    }
+    let position = Position {
+        line: lines + 1,
+        column: 1,
+    };
+    let token = Token::End;
+    found.push(Placed { token, position });
+    Ok(found)
+}
+
+fn tokens_of_line<'t>(
+    line: &'t str,
+    number: usize,
+    found: &mut Vec<Placed<'t>>,
+) -> Result<(), TextError> {
+    let mut rest = line;
+    let mut column = 1;
+    while let Some(first) = rest.chars().next() {
+        let position = Position {
+            line: number,
+            column,
+        };
+        if first == '#' {
+            return Ok(());
+        }
+        let length = if first.is_whitespace() {
+            first.len_utf8()
+        } else {
+            let (token, length) = token_at(rest, first).ok_or_else(|| unknown(first, position))?;
+            found.push(Placed { token, position });
+            length
+        };
+        column += rest[..length].chars().count();
+        rest = &rest[length..];
+    }
+    Ok(())
+}
+
+/// The token at the front of the text and its length in bytes.
+fn token_at(rest: &str, first: char) -> Option<(Token<'_>, usize)> {
+    let until = |inside: fn(char) -> bool| rest.find(|c| !inside(c)).unwrap_or(rest.len());
+    if first.is_ascii_digit() {
+        let length = until(|c| c.is_ascii_digit());
+        return Some((Token::Number(&rest[..length]), length));
+    }
+    if first.is_ascii_alphabetic() || first == '_' {
+        let length = until(|c| c.is_ascii_alphanumeric() || c == '_' || c == '\'');
+        return Some((Token::Word(&rest[..length]), length));
+    }
+    let spelled = SPELLED.iter().find(|(sign, _)| rest.starts_with(sign));
+    if let Some((sign, token)) = spelled {
+        return Some((*token, sign.len()));
+    }
+    SIGNS.contains(first).then_some((Token::Sign(first), 1))
+}
+
+fn unknown(first: char, position: Position) -> TextError {
+    let message = match first {
+        '→' | '-' => "expected an arrow: →1 or →ω (-1> or -w>)".to_owned(),
+        _ => format!("there is no sign '{}' in a recipe", first.escape_default()),
+    };
+    TextError { position, message }
+}

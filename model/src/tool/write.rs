@@ -1,0 +1,85 @@
+//! `recipe write`: a text as a file of bytes.
+
+use crate::tool::arguments::Form;
+use crate::tool::faults::{fault, Fault, Place};
+use crate::tool::files;
+use crate::tool::problem::{message, Outcome, Problem};
+use crate::tool::refusals;
+use crate::tool::text::parser::{read, Read};
+use crate::tool::text::tokens::{Position, TextError};
+use std::ffi::OsString;
+use std::io::Write;
+use std::path::{Path, PathBuf};
+
+const FORM: Form = Form {
+    command: "write",
+    files: (1, 2),
+    with_value: &[],
+    without_value: &["--force", "--even-refused"],
+};
+
+pub fn command(words: &[OsString], out: &mut dyn Write) -> Outcome {
+    let given = FORM.read(words)?;
+    let from = &given.files[0];
+    let to = match given.files.get(1) {
+        Some(to) => to.clone(),
+        None => beside(from)?,
+    };
+    let bytes = files::read(from)?;
+    let made = made(&bytes, given.has("--even-refused"));
+    let made = made.map_err(|text| message(format!("{}{text}", from.display())))?;
+    if to == Path::new("-") {
+        out.write_all(&made)?;
+        return Ok(());
+    }
+    if files::same(from, &to) {
+        let text = format!("{} is the text itself; name another file", to.display());
+        return Err(message(text));
+    }
+    files::write(&to, given.has("--force"), &made)?;
+    writeln!(out, "{}: {} bytes", to.display(), made.len())?;
+    Ok(())
+}
+
+/// The text's own name with `.recipe` at the end.
+fn beside(from: &Path) -> Result<PathBuf, Problem> {
+    if from == Path::new("-") {
+        return Err(FORM.wrong("a text from standard input needs the name of the file to write"));
+    }
+    Ok(from.with_extension("recipe"))
+}
+
+/// The bytes of a text; an error begins with its place, to stand after the file's name.
+pub fn made(text: &[u8], even_refused: bool) -> Result<Vec<u8>, String> {
+    let text = std::str::from_utf8(text)
+        .map_err(|error| format!(": no text in UTF-8: byte {}", error.valid_up_to()))?;
+    let read = read(text).map_err(|error| placed(&error))?;
+    let file = read.recipe.write();
+    match fault(&file) {
+        Some(fault) if !even_refused => Err(refused(&read, &fault)),
+        _ => Ok(file),
+    }
+}
+
+fn placed(error: &TextError) -> String {
+    let Position { line, column } = error.position;
+    format!(":{line}:{column}: {}", error.message)
+}
+
+/// The refusal, at the place in the text.
+fn refused(read: &Read, fault: &Fault) -> String {
+    let cause = refusals::in_words(fault.number);
+    let message = format!("refused {}: {cause}; {}", fault.number, fault.found);
+    let position = match &fault.place {
+        Place::Entry(number) => read.entries.get(*number),
+        Place::Node(bay, at, _) => read.nodes.get(*bay).and_then(|nodes| nodes.get(*at)),
+        Place::File | Place::Opening | Place::Pair(_) => None,
+    };
+    match position {
+        Some(position) => placed(&TextError {
+            position: *position,
+            message,
+        }),
+        None => format!(": {message}"),
+    }
+}

@@ -1,0 +1,201 @@
+//! `recipe compare` with shared libraries made here: small ones in C, and the proved library under
+//! two names and with an impostor's step.
+
+mod tool_common;
+
+use std::process::Command;
+use tool_common::*;
+
+/// Runs a program, which must succeed.
+fn call(program: &str, words: &[&str]) {
+    let output = Command::new(program).args(words).output();
+    let output = output.expect("the program is there");
+    assert!(
+        output.status.success(),
+        "{program} {words:?}: {}",
+        standard_error(&output)
+    );
+}
+
+/// A shared library of that C source; its path.
+fn from_source(folder: &Folder, name: &str, source: &str) -> String {
+    let file = folder.file(&format!("{name}.c"), source);
+    let library = folder.path(&format!("{name}.so"));
+    let header = repository().join("include");
+    let header = format!("-I{}", header.display());
+    call(
+        "gcc",
+        &["-shared", "-fPIC", "-O2", &header, &file, "-o", &library],
+    );
+    library
+}
+
+/// A checker that answers the same to every recipe.
+fn always(refusal: u32) -> String {
+    format!(
+        "#include \"fikarehu.h\"\n\
+         struct fikarehu_verdict fikarehu_check(const uint8_t *recipe, size_t recipe_len) {{\n\
+             (void)recipe; (void)recipe_len;\n\
+             struct fikarehu_verdict verdict = {{ {refusal}, 0, {{ 0 }} }};\n\
+             return verdict;\n\
+         }}\n"
+    )
+}
+
+#[test]
+fn a_checker_that_turns_everything_away_and_one_that_passes_everything() {
+    let folder = Folder::new();
+    let away = from_source(&folder, "away", &always(1));
+    let passes = from_source(&folder, "passes", &always(0));
+    let same = recipe(&["compare", &away, &away, "--count", "20"]);
+    assert_eq!(same.status.code(), Some(0));
+    let text = standard_output(&same);
+    assert!(
+        text.contains("A has no fikarehu_step: not compared"),
+        "{text}"
+    );
+    assert!(text.ends_with("\nsame\n"), "{text}");
+    let differ = recipe(&["compare", &away, &passes, "--count", "20"]);
+    assert_eq!(differ.status.code(), Some(1));
+    let text = standard_output(&differ);
+    let case_a = "recipe: 4C4601020C00090015000100000000010000020100\
+                  03\n";
+    for expected in [
+        "difference: check\n",
+        case_a,
+        "A answers VerdictAnswer { refusal: 1,",
+        "B answers VerdictAnswer { refusal: 0,",
+        "the model answers VerdictAnswer { refusal: 0, bays: 1,",
+    ] {
+        assert!(text.contains(expected), "{text}");
+    }
+    assert_eq!(standard_error(&differ), "recipe: the libraries differ\n");
+}
+
+/// The checker that turns everything away, with more in front of it and at its beginning.
+fn away_but(before: &str, first: &str) -> String {
+    let name = "struct fikarehu_verdict fikarehu_check";
+    let source = always(1).replace(name, &format!("{before}{name}"));
+    source.replace("(void)recipe;", first)
+}
+
+#[test]
+fn a_library_that_reads_beyond_the_recipe() {
+    let folder = Folder::new();
+    let honest = from_source(&folder, "honest", &always(1));
+    let read = "recipe_len = *(volatile const uint8_t *)(recipe + recipe_len);";
+    let beyond = from_source(&folder, "beyond", &away_but("", read));
+    let expected =
+        "recipe: B was stopped by signal 11 in check (thread 0, out buffer of 0 bytes)\n\
+                    given: 4C4601020C00090015000100000000010000020100\
+                    03\n";
+    let text = complaint(&["compare", &honest, &beyond, "--count", "5"]);
+    assert_eq!(text, expected);
+}
+
+#[test]
+fn a_library_that_uses_up_the_stack() {
+    let folder = Folder::new();
+    let honest = from_source(&folder, "honest", &always(1));
+    let down = "static int down(int n) {\n\
+                    volatile char room[4096];\n\
+                    room[n % 4096] = 1;\n\
+                    return down(n + 1) + room[0];\n\
+                }\n";
+    let deep = away_but(down, "recipe_len += down(recipe[0]);");
+    let deep = from_source(&folder, "deep", &deep);
+    let text = complaint(&["compare", &deep, &honest, "--count", "5"]);
+    assert!(
+        text.starts_with("recipe: A was stopped by signal 11 in check"),
+        "{text}"
+    );
+}
+
+#[test]
+fn a_library_without_the_interface() {
+    let folder = Folder::new();
+    let other = from_source(&folder, "other", "int nothing;\n");
+    let text = complaint(&["compare", &other, &other]);
+    assert!(text.contains("it has no fikarehu_check"), "{text}");
+}
+
+#[cfg(feature = "library")]
+mod with_the_library {
+    use super::*;
+
+    fn archive() -> String {
+        let folder = std::env::var("RATTLE_LIB");
+        let folder = folder.unwrap_or_else(|_| {
+            let own = repository().join("target/staticlib");
+            own.to_string_lossy().into_owned()
+        });
+        format!("{folder}/libhost.a")
+    }
+
+    /// The command that `recipe help compare` tells, with more words before it.
+    fn shared(folder: &Folder, name: &str, archive: &str, more: &[&str]) -> String {
+        let library = folder.path(name);
+        let around = ["-Wl,--whole-archive", archive, "-Wl,--no-whole-archive"];
+        let words = [&["-shared"], more, &around, &["-o", &library]].concat();
+        call("gcc", &words);
+        library
+    }
+
+    #[test]
+    fn the_library_under_two_names() {
+        let folder = Folder::new();
+        let one = shared(&folder, "one.so", &archive(), &[]);
+        let other = shared(&folder, "other.so", &archive(), &[]);
+        let output = recipe(&["compare", &one, &other, "--seed", "3", "--count", "2000"]);
+        let text = standard_output(&output);
+        assert_eq!(output.status.code(), Some(0), "{text}");
+        assert!(text.ends_with("\nsame\n"), "{text}");
+        let steps = text.lines().filter(|line| line.starts_with("step:"));
+        let compared = steps.into_iter().all(|line| !line.contains("not compared"));
+        assert!(compared || !cfg!(feature = "step"), "{text}");
+    }
+
+    /// Steps as the library does, but for the byte after the image when rule 7 was applied.
+    #[cfg(feature = "step")]
+    const WRITES_BEYOND: &str = "\
+#include \"fikarehu.h\"
+struct fikarehu_stepped honest_step(const uint8_t *, size_t, uint64_t, uint8_t *, size_t);
+struct fikarehu_stepped fikarehu_step(const uint8_t *image, size_t image_len, uint64_t thread,
+                                      uint8_t *out, size_t out_len) {
+    struct fikarehu_stepped answer = honest_step(image, image_len, thread, out, out_len);
+    if (answer.outcome == FIKAREHU_RULE && answer.number == 7 && answer.length < out_len) out[answer.length] ^= 1;
+    return answer;
+}
+";
+
+    #[cfg(feature = "step")]
+    #[test]
+    fn an_impostor_that_writes_beyond_the_image() {
+        let folder = Folder::new();
+        let honest = shared(&folder, "honest.so", &archive(), &[]);
+        let renamed = folder.path("renamed.a");
+        let rename = "--redefine-sym=fikarehu_step=honest_step";
+        call("objcopy", &[rename, &archive(), &renamed]);
+        let source = folder.file("impostor.c", WRITES_BEYOND);
+        let header = format!("-I{}", repository().join("include").display());
+        let more = ["-fPIC", header.as_str(), source.as_str()];
+        let impostor = shared(&folder, "impostor.so", &renamed, &more);
+        let output = recipe(&["compare", &honest, &impostor, "--count", "500"]);
+        let text = standard_output(&output);
+        assert_eq!(output.status.code(), Some(1), "{text}");
+        for expected in [
+            "difference: step of thread ",
+            " of a run\n",
+            "recipe: 4C46",
+            "image:  ",
+        ] {
+            assert!(text.contains(expected), "{text}");
+        }
+        let last = text.lines().last().unwrap_or_default();
+        assert!(
+            last.starts_with("first differing byte of the out buffer: "),
+            "{text}"
+        );
+        assert_eq!(standard_error(&output), "recipe: the libraries differ\n");
+    }
+}

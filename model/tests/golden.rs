@@ -1,0 +1,71 @@
+//! What `show` and `run` print for the examples is what stands in `tests/golden`. With GOLDEN=write
+//! in the environment the files are written anew, to be read before they are kept.
+
+mod tool_common;
+
+use model::examples;
+use std::path::Path;
+use tool_common::*;
+
+fn compare(kind: &str, name: &str, found: &str) {
+    let folder = Path::new(env!("CARGO_MANIFEST_DIR"))
+        .join("tests/golden")
+        .join(kind);
+    let file = folder.join(format!("{name}.txt"));
+    if std::env::var("GOLDEN").as_deref() == Ok("write") {
+        std::fs::write(&file, found).expect("the golden file is written");
+    }
+    let kept = std::fs::read_to_string(&file).unwrap_or_default();
+    assert_eq!(found, kept, "{}", file.display());
+}
+
+#[test]
+fn show() {
+    for example in examples::all() {
+        let output = recipe(&["show", &format!("examples/{}.recipe", example.name)]);
+        let refused = example.name.starts_with("refused");
+        assert_eq!(output.status.code(), Some(i32::from(refused)));
+        compare("show", example.name, &standard_output(&output));
+    }
+}
+
+/// The first line says who steps; the rest is the same with and without the library.
+fn without_first_line(text: &str) -> &str {
+    text.split_once('\n').map_or("", |(_, rest)| rest)
+}
+
+#[test]
+fn run() {
+    for example in examples::all() {
+        let file = format!("examples/{}.recipe", example.name);
+        let output = recipe(&["run", &file, "--turns", "60"]);
+        if example.name.starts_with("refused") {
+            assert_eq!(output.status.code(), Some(1));
+            compare("run", example.name, &standard_error(&output));
+        } else {
+            assert_eq!(output.status.code(), Some(0));
+            compare(
+                "run",
+                example.name,
+                without_first_line(&standard_output(&output)),
+            );
+        }
+    }
+}
+
+#[test]
+fn orders() {
+    let file = "examples/mutex.recipe";
+    let seed = recipe(&["run", file, "--seed", "7"]);
+    compare(
+        "run",
+        "mutex, seed 7",
+        without_first_line(&standard_output(&seed)),
+    );
+    let order = recipe(&["run", file, "--order", "1,1,3,9"]);
+    compare(
+        "run",
+        "mutex, order 1,1,3,9",
+        without_first_line(&standard_output(&order)),
+    );
+}

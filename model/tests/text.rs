@@ -1,0 +1,218 @@
+//! `show` and `write` are inverse: on the examples, on thousands of generated recipes, and on
+//! refused ones too where their parts are terms.
+
+use model::command::on_deep_stack;
+use model::draw::Draw;
+use model::examples;
+use model::generate::recipes;
+use model::tool::show::shown;
+use model::tool::text::spelling::{ASCII, UNICODE};
+use model::tool::write::made;
+use model::verdict::verdict;
+
+fn comes_back(file: &[u8]) {
+    let even_refused = verdict(file).number() != 0;
+    for spelling in [&UNICODE, &ASCII] {
+        let text = shown("a file", file, spelling);
+        let made = made(text.as_bytes(), even_refused);
+        assert_eq!(made.as_deref(), Ok(file), "{text}");
+    }
+}
+
+#[test]
+fn the_examples_come_back() {
+    for example in examples::all() {
+        if example.name != "refused-5" {
+            on_deep_stack(|| comes_back(&example.file()));
+        }
+    }
+}
+
+#[test]
+fn generated_recipes_come_back() {
+    on_deep_stack(|| {
+        let mut draw = Draw::new(41);
+        let mut accepted = 0;
+        while accepted < 4_000 {
+            let file = recipes::well_typed(&mut draw).write();
+            accepted += u32::from(verdict(&file).number() == 0);
+            comes_back(&file);
+        }
+        for _ in 0..50 {
+            comes_back(&recipes::at_a_limit(&mut draw).write());
+        }
+        comes_back(&recipes::largest(&mut draw).write());
+    });
+}
+
+/// Causes 6 to 11 leave a recipe that can be written down.
+#[test]
+fn refused_recipes_come_back_too() {
+    on_deep_stack(|| {
+        let mut draw = Draw::new(42);
+        let mut came_back = [0; 12];
+        for _ in 0..6_000 {
+            let file = recipes::file(&mut draw);
+            let number = verdict(&file).number();
+            if number >= 6 && file.len() < 4_000 {
+                comes_back(&file);
+                came_back[number as usize] += 1;
+            }
+        }
+        assert!(
+            came_back[6..].iter().all(|count| *count > 0),
+            "{came_back:?}"
+        );
+    });
+}
+
+/// The bytes of a text that is no output of `show`.
+fn bytes(text: &str) -> Vec<u8> {
+    made(text.as_bytes(), false).expect("a good text")
+}
+
+#[test]
+fn types_that_are_not_listed_are_added() {
+    let short = bytes("bay 0 = exch[num ref →ω num →ω num] setting0 250");
+    let example = examples::all().into_iter().find(|e| e.name == "one-vent");
+    assert_eq!(Some(short), example.map(|e| e.file()));
+}
+
+#[test]
+fn names_lines_and_comments_are_free() {
+    let one = bytes("bay 0 : unit →ω unit = λ any_name : unit . any_name # the same");
+    let other = bytes("bay 0=\n  \\x:unit.\n\tx\n");
+    assert_eq!(one, other);
+    let shadowed = bytes("bay 0 = λx:num. λx:unit. x");
+    assert_eq!(shadowed, bytes("bay 0 = λx:num. λy:unit. y"));
+}
+
+fn complaint(text: &str) -> String {
+    made(text.as_bytes(), false).expect_err(text)
+}
+
+#[test]
+fn errors_have_line_and_column_and_say_what_was_expected() {
+    let cases = [
+        ("", ":1:1: expected 'bay 0', found the end of the text"),
+        (
+            "bay 1 = unit",
+            ":1:5: expected '0', the next bay's number, found '1'",
+        ),
+        ("bay 0 unit", ":1:7: expected '=', found 'unit'"),
+        (
+            "bay 0 =",
+            ":2:1: expected a term, found the end of the text",
+        ),
+        (
+            "bay 0 =\n  (unit",
+            ":3:1: expected ')' or an argument, found the end of the text",
+        ),
+        (
+            "bay 0 = λx. x",
+            ":1:11: expected ':' and the variable's type, found '.'",
+        ),
+        ("bay 0 = λx:num x", ":1:16: expected '.', found 'x'"),
+        ("bay 0 = λx:nun. x", ":1:12: expected a type, found 'nun'"),
+        (
+            "bay 0 = λunit:num. 3",
+            ":1:10: expected the name of a variable, found 'unit'",
+        ),
+        ("bay 0 = y", ":1:9: no λ here binds 'y'"),
+        (
+            "bay 0 = 1001",
+            ":1:9: expected a num, at most 1000, found '1001'",
+        ),
+        (
+            "bay 0 = exch setting0",
+            ":1:14: expected '[' and the type of exch, found 'setting0'",
+        ),
+        (
+            "bay 0 = λx:num → num. x",
+            ":1:16: expected an arrow: →1 or →ω (-1> or -w>)",
+        ),
+        (
+            "bay 0 = unit ; unit",
+            ":1:14: there is no sign ';' in a recipe",
+        ),
+        (
+            "bay 0 = unit\nbay 2 = unit",
+            ":2:5: expected '1', the next bay's number, found '2'",
+        ),
+        (
+            "bay 0 : num = unit",
+            ":1:7: the bay's term is of type unit, not num",
+        ),
+        (
+            "types t1 = num",
+            ":1:7: expected 't0', the next type, or 'bay 0', found 't1'",
+        ),
+        (
+            "types t0 = unit t1 = (unit -w> unit) ref",
+            ":1:22: this type has no number yet: list it in a line above",
+        ),
+        (
+            "bay 0 = λx:num. (3 unit)",
+            ":1:18: this is applied, and is num, no function",
+        ),
+        ("bay 0 = λx:t9. x", ":1:12: there is no t9 so far"),
+    ];
+    for (text, expected) in cases {
+        assert_eq!(complaint(text), expected, "{text}");
+    }
+}
+
+#[test]
+fn a_refusal_is_told_at_its_place_in_the_text() {
+    let text = "bay 0 = unit\nbay 1 = (λx:num. x)\n  unit\n";
+    let expected = ":3:3: refused 9: application of a non-function, argument or body of another \
+                    type; the argument should be num, and unit is unit";
+    assert_eq!(complaint(text), expected);
+    let text = "bay 0 =\n  λf:num →1 unit. unit";
+    assert!(
+        complaint(text).starts_with(":2:3: refused 10: "),
+        "{}",
+        complaint(text)
+    );
+}
+
+#[test]
+fn no_text_is_too_deep_or_too_long() {
+    on_deep_stack(|| {
+        let opened = "bay 0 = ".to_owned() + &"(".repeat(100_000);
+        assert!(complaint(&opened).ends_with("nested too deep"));
+        let types = "bay 0 = λx:".to_owned() + &"(".repeat(100_000);
+        assert!(complaint(&types).ends_with("nested too deep"));
+        let arrows = "bay 0 = λx:".to_owned() + &"unit →ω ".repeat(100_000);
+        assert!(complaint(&arrows).ends_with("nested too deep"));
+        let long = "bay 0 = unit ".to_owned() + &"unit ".repeat(100_000);
+        assert!(complaint(&long).ends_with("this is more than a recipe file can hold"));
+        let many = (0..17)
+            .map(|bay| format!("bay {bay} = unit\n"))
+            .collect::<String>();
+        assert_eq!(complaint(&many), ":17:1: a recipe has at most 16 bays");
+    });
+}
+
+/// Any bytes get an answer, and no text that came from a recipe and was damaged stops the tool.
+#[test]
+fn damaged_texts_get_an_answer() {
+    on_deep_stack(|| {
+        let mut draw = Draw::new(43);
+        for _ in 0..3_000 {
+            let file = recipes::well_typed(&mut draw).write();
+            let mut text = shown("a file", &file, &UNICODE).into_bytes();
+            for _ in 0..draw.between(1, 4) {
+                let at = draw.below(text.len());
+                match draw.below(3) {
+                    0 => text[at] = draw.byte(),
+                    1 => text[at] = draw.pick(b"()[].:=@0123456789 \nabct"),
+                    _ => {
+                        text.remove(at);
+                    }
+                }
+            }
+            let _ = made(&text, draw.one_in(2));
+        }
+    });
+}

@@ -1,0 +1,184 @@
+//! The tool as a user meets it: messages, exit statuses, files that are kept.
+
+mod tool_common;
+
+use std::process::{Command, Stdio};
+use tool_common::*;
+
+#[test]
+fn help() {
+    for words in [
+        &["help"][..],
+        &["--help"],
+        &["help", "show"],
+        &["help", "write"],
+    ] {
+        let output = recipe(words);
+        assert_eq!(output.status.code(), Some(0));
+        assert!(standard_output(&output).contains("recipe "));
+    }
+    assert!(standard_output(&recipe(&["help", "run"])).contains("--svg"));
+    assert!(standard_output(&recipe(&["run", "--help"])).contains("--svg"));
+    assert!(standard_output(&recipe(&["help", "compare"])).contains("gcc -shared"));
+}
+
+#[test]
+fn wrong_words() {
+    let cases: [(&[&str], &str); 15] = [
+        (&["run", "a", "--svg", "--force"], "--svg needs a value"),
+        (&[], "no command is given"),
+        (&["fly"], "there is no command fly"),
+        (&["help", "fly"], "there is no command fly"),
+        (&["show"], "a file is missing"),
+        (&["show", "a", "b"], "there are too many files"),
+        (&["show", "a", "--fast"], "there is no option --fast"),
+        (
+            &["show", "a", "--ascii", "--ascii"],
+            "--ascii is given twice",
+        ),
+        (&["run", "a", "--turns"], "--turns needs a value"),
+        (
+            &["run", "a", "--turns", "-1"],
+            "--turns takes a number, not -1",
+        ),
+        (&["run", "a", "--seed=x"], "--seed takes a number, not x"),
+        (
+            &["run", "a", "--order", "1,,2"],
+            "--order takes numbers such as 1,2,1, not 1,,2",
+        ),
+        (
+            &["run", "a", "--seed", "1", "--order", "1"],
+            "--seed and --order exclude each other",
+        ),
+        (&["write", "-"], "needs the name of the file to write"),
+        (&["compare", "a"], "a file is missing"),
+    ];
+    for (words, expected) in cases {
+        let text = complaint(words);
+        assert!(text.contains(expected), "{words:?}: {text}");
+    }
+}
+
+#[test]
+fn files_that_cannot_be_read() {
+    let folder = Folder::new();
+    for command in ["show", "write", "run"] {
+        let text = complaint(
+            &[command, &folder.path("none"), "out"][..if command == "write" { 3 } else { 2 }],
+        );
+        assert!(text.contains("cannot read"), "{text}");
+        assert!(text.contains("No such file"), "{text}");
+    }
+    assert!(complaint(&["show", &folder.path("")]).contains("cannot read"));
+    assert!(complaint(&["show", "/dev/zero"]).contains("is longer than"));
+    let text = folder.file("latin.txt", b"bay 0 = unit # \xE4");
+    assert!(complaint(&["write", &text]).contains("no text in UTF-8: byte 15"));
+    assert!(complaint(&["compare", "none.so", "none.so"]).contains("cannot open none.so"));
+    let no_library = folder.file("no.so", "no library");
+    assert!(complaint(&["compare", &no_library, &no_library]).contains("cannot open"));
+}
+
+#[test]
+fn nothing_is_written_over() {
+    let folder = Folder::new();
+    let text = folder.file("vent.txt", "bay 0 = unit");
+    let made = folder.path("vent.recipe");
+    assert_eq!(recipe(&["write", &text]).status.code(), Some(0));
+    assert_eq!(std::fs::read(&made).expect("written").len(), 22);
+    std::fs::write(&made, "kept").expect("a file");
+    assert!(complaint(&["write", &text]).contains("exists and is not written over"));
+    assert_eq!(std::fs::read(&made).expect("kept"), b"kept");
+    assert_eq!(recipe(&["write", &text, "--force"]).status.code(), Some(0));
+    assert_eq!(std::fs::read(&made).expect("written").len(), 22);
+    assert!(complaint(&["write", &text, &text, "--force"]).contains("is the text itself"));
+    assert!(complaint(&["run", &made, "--svg", &text]).contains("exists and is not written over"));
+    assert_eq!(std::fs::read(&text).expect("kept"), b"bay 0 = unit");
+}
+
+#[test]
+fn a_refused_text_leaves_no_file() {
+    let folder = Folder::new();
+    let text = folder.file("vent.txt", "bay 0 = unit unit");
+    let told = complaint(&["write", &text]);
+    assert!(told.contains("vent.txt:1:9: refused 9"), "{told}");
+    assert!(!folder.0.join("vent.recipe").exists());
+    let written = recipe(&["write", &text, "--even-refused"]);
+    assert_eq!(written.status.code(), Some(0));
+    let shown = complaint(&["show", &folder.path("vent.recipe")]);
+    assert!(shown.contains("refused 9"), "{shown}");
+    let run = complaint(&["run", &folder.path("vent.recipe")]);
+    assert!(
+        run.contains("bay 0, function, byte 22: unit is applied"),
+        "{run}"
+    );
+}
+
+#[test]
+fn standard_input_and_output() {
+    let mut show = Command::new(env!("CARGO_BIN_EXE_recipe"))
+        .args(["show", "examples/mutex.recipe"])
+        .current_dir(repository())
+        .stdout(Stdio::piped())
+        .spawn()
+        .expect("the tool runs");
+    let shown = show.stdout.take().expect("a pipe");
+    let write = Command::new(env!("CARGO_BIN_EXE_recipe"))
+        .args(["write", "-", "-"])
+        .stdin(shown)
+        .output()
+        .expect("the tool runs");
+    assert!(show.wait().expect("it ends").success());
+    let kept = std::fs::read(repository().join("examples/mutex.recipe"));
+    assert_eq!(write.stdout, kept.expect("an example"));
+}
+
+#[test]
+fn a_closed_pipe_ends_quietly() {
+    let mut run = Command::new(env!("CARGO_BIN_EXE_recipe"))
+        .args(["run", "examples/recursion.recipe", "--turns", "100000"])
+        .current_dir(repository())
+        .stdout(Stdio::piped())
+        .stderr(Stdio::piped())
+        .spawn()
+        .expect("the tool runs");
+    drop(run.stdout.take());
+    let output = run.wait_with_output().expect("it ends");
+    assert_eq!(output.status.code(), Some(0));
+    assert_eq!(standard_error(&output), "");
+}
+
+#[test]
+fn a_full_disk_is_told() {
+    let full = std::fs::OpenOptions::new().write(true).open("/dev/full");
+    let output = Command::new(env!("CARGO_BIN_EXE_recipe"))
+        .arg("help")
+        .stdout(full.expect("/dev/full"))
+        .output()
+        .expect("the tool runs");
+    assert_eq!(output.status.code(), Some(1));
+    assert!(standard_error(&output).contains("cannot write to standard output"));
+}
+
+#[test]
+fn progress_only_when_asked() {
+    let words = ["run", "examples/recursion.recipe", "--turns", "20000"];
+    assert_eq!(standard_error(&recipe(&words)), "");
+    let asked = recipe(&["run", "examples/mutex.recipe", "--progress"]);
+    assert_eq!(standard_error(&asked), "40 turns\n");
+}
+
+#[test]
+fn the_picture_of_a_run() {
+    let folder = Folder::new();
+    let picture = folder.path("nine.svg");
+    let output = recipe(&["run", "examples/nine-bays.recipe", "--svg", &picture]);
+    assert_eq!(output.status.code(), Some(0));
+    let text = std::fs::read_to_string(&picture).expect("a picture");
+    assert!(text.starts_with("<svg ") && text.ends_with("</svg>\n"));
+    assert_eq!(text.matches("<polyline").count(), 9);
+    assert!(text.contains("bay 8: 90.0 %"));
+    let waiting = folder.path("waiting.svg");
+    recipe(&["run", "examples/waiting-for-ever.recipe", "--svg", &waiting]);
+    let text = std::fs::read_to_string(&waiting).expect("a picture");
+    assert!(text.contains("waits for name 2"), "{text}");
+}
