@@ -8,7 +8,7 @@ use lib.ListN.{length}
 use Rattle.calculus.specs.Limits.{max-entries, max-nesting, max-nodes}
 use Rattle.calculus.specs.Image.{nodes}
 use Rattle.calculus.specs.Verdict.{scoped}
-use Rattle.calculus.specs.Theory.Tests.{clash, leb-sound}
+use Rattle.calculus.specs.Theory.Tests.{leb-sound}
 use Rattle.calculus.specs.Theory.Tabulate.{each-below-sound}
 use Rattle.terms.specs.Reader.{Good, GoodAt, Got, got, none, one-term, read-term}
 use Rattle.terms.specs.Expressions.{nesting, term-at}
@@ -19,24 +19,11 @@ use Rattle.table.specs.declared.Entry.{Entry}
 use Rattle.table.specs.Entries.{type-table}
 use Rattle.table.proofs.Tables.{count-between}
 use Rattle.verdict.specs.Bays.{bay-term}
-use Rattle.bays.specs.declared.Test.the-variants.{Annotations, Nesting, Scope, Uses}
+use Rattle.bays.specs.declared.Test.the-variants.{Nesting, Scope}
 use Rattle.bays.specs.Terms.{bay-single, bay-nodes}
 use Rattle.bays.specs.Tests.{passes, bay-passes, each-passes}
-use Rattle.bays.specs.Stages.{HasTable, Reached, Scoped, Terms}
+use Rattle.bays.specs.Stages.{HasTable, Scoped, Terms}
 use Rattle.bays.proofs.Each.{part-below}
-
--- what each test asks for
-pub reached-nesting : {s : List ℕ} → Terms s → Reached s Nesting
-reached-nesting t = record { terms = t; scoped = λ e. absurd (clash (cc)) }
-
-pub reached-scope : {s : List ℕ} → Terms s → Reached s Scope
-reached-scope t = record { terms = t; scoped = λ e. absurd (clash (cc)) }
-
-pub reached-annotations : {s : List ℕ} → Terms s → Reached s Annotations
-reached-annotations t = record { terms = t; scoped = λ e. absurd (clash (cc)) }
-
-pub reached-uses : {s : List ℕ} → Scoped s → Reached s Uses
-reached-uses c = record { terms = c .terms; scoped = λ e. c }
 
 good-of : (l : List ℕ) (g : Got) → read-term l ≡ g → one-term g ≡ true → Good l
 unfolding one-term

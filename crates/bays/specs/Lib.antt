@@ -2,9 +2,9 @@
 
 -- cause 5: the nodes of all terms
 pub mod Terms
--- causes 6 to 8 and 10: one test for all bays
+-- causes 6 to 8: one test for all bays
 pub mod Tests
 -- what the causes already passed give
 pub mod Stages
--- causes 9 and 11: the types
+-- causes 9 to 11: the types
 pub mod Numbers

@@ -12,8 +12,7 @@ use Rattle.recipe.specs.Laid.{Laid}
 use Rattle.table.specs.declared.Entry.{Entry}
 use Rattle.table.specs.Entries.{type-table}
 use Rattle.table.specs.Filled.{as-table}
-use Rattle.bays.specs.declared.Test.{Test}
-use Rattle.bays.specs.declared.Test.the-variants.{Nesting, Scope, Uses}
+use Rattle.bays.specs.declared.Test.the-variants.{Nesting, Scope}
 use Rattle.bays.specs.Terms.{bay-single, bay-nodes}
 use Rattle.bays.specs.Tests.{each-passes}
 
@@ -34,8 +33,3 @@ pub record Scoped (s : List ℕ) : Type 0 where
   pub terms : Terms s
   pub shallow : each-passes s Nesting ≡ true
   pub scope : each-passes s Scope ≡ true
-
--- what is known where a test is asked of all bays
-pub record Reached (s : List ℕ) (test : Test) : Type 0 where
-  pub terms : Terms s
-  pub scoped : test ≡ Uses → Scoped s

@@ -2,28 +2,30 @@
 ghost use mathlib.Core.Path.{_≡_};
 ghost use mathlib.Core.Bool.{_&&_};
 ghost use Prim.Native.Nat.{_<_};
-ghost use Rattle.recipe.specs.File.{bays};
+ghost use Rattle.recipe.specs.File.{bays, term-bytes};
 ghost use Rattle.recipe.specs.Laid.{Laid};
 ghost use Rattle.bays.specs.Tests.{bay-passes, each-passes};
 ghost use Rattle.bays.specs.Terms.{nodes-in};
-ghost use Rattle.bays.specs.Stages.{HasTable, Reached, Scoped};
-ghost use Rattle.bays.specs.Numbers.{bay-typed, types-in};
+ghost use Rattle.bays.specs.Stages.{HasTable, Scoped, Terms};
+ghost use Rattle.bays.specs.Numbers.{Numbered};
+ghost use Rattle.table.specs.Entries.{type-table};
+ghost use Rattle.usage.specs.Walk.{Decides};
 use recipe::Recipe;
 use scans::Part;
 use table::Entry;
-use typing::Typed;
+use usage::Walked;
 
-// A test of a bay's term: causes 6 (its nesting), 7, 8 and 10.
+// A test of a bay's term: causes 6 (its nesting), 7 and 8.
 pub enum Test {
     Nesting,
     Scope,
     Annotations,
-    Uses,
 }
 
-// The types of the bays: whether each has one, whether all are many, and their numbers; zeros where one has none.
+// The types of the bays: whether each has one, whether cause 10 fits none, whether all are many, and their numbers.
 pub struct BayTypes {
     pub each: bool,
+    pub linear: bool,
     pub many: bool,
     pub numbers: [u8; Recipe::MAX_BAYS],
 }
@@ -55,7 +57,7 @@ fn bay_passes(
     count: usize,
     test: Test,
 ) -> bool
-    requires { ⌜ HasTable (now recipe) table count × Reached (now recipe) test × (bay < bays (now recipe)) ⌝ }
+    requires { ⌜ HasTable (now recipe) table count × Terms (now recipe) × (bay < bays (now recipe)) ⌝ }
     ensures { λ r. ⌜ r ≡ bay-passes (now (recipe .entry)) test bay ⌝ }
 {
     let term = recipe::term_bytes(recipe, bay);
@@ -63,7 +65,6 @@ fn bay_passes(
         Test::Nesting => scans::nesting_within(term, 0, Recipe::MAX_NESTING),
         Test::Scope => scans::scoped_within(term, 0, count, recipe::bay_count(recipe)),
         Test::Annotations => annotations::annotated(table, count, term),
-        Test::Uses => usage::linear(table, count, term),
     }
 }
 
@@ -74,7 +75,7 @@ pub fn each_passes(
     count: usize,
     test: Test,
 ) -> bool
-    requires { ⌜ HasTable (now recipe) table count × Reached (now recipe) test ⌝ }
+    requires { ⌜ HasTable (now recipe) table count × Terms (now recipe) ⌝ }
     ensures { λ r. ⌜ r ≡ each-passes (now (recipe .entry)) test ⌝ }
 {
     let bays = recipe::bay_count(recipe);
@@ -95,39 +96,44 @@ fn both(a: bool, b: bool) -> bool
     a && b
 }
 
-// The type of a bay's term, by the type walk.
-fn type_of(recipe: &[u8], bay: usize, table: [Entry; Recipe::MAX_ENTRIES], count: usize) -> Typed
-    requires { ⌜ HasTable (now recipe) table count × Scoped (now recipe) × (bay < bays (now recipe)) ⌝ }
-    ensures { λ r. ⌜ r ≡ bay-typed (now (recipe .entry)) bay ⌝ }
+// Causes 9 and 10 of a bay's term, by the type walk.
+fn walk_bay(recipe: &[u8], bay: usize) -> Walked
+    requires { ⌜ Scoped (now recipe) × (bay < bays (now recipe)) ⌝ }
+    ensures { λ r. ⌜ Decides (type-table (now (recipe .entry))) (term-bytes (now (recipe .entry)) bay) r ⌝ }
 {
-    let env = [0u8; Recipe::MAX_NESTING];
+    let table = recipe::table_bytes(recipe);
     let term = recipe::term_bytes(recipe, bay);
-    typing::type_at(table, count, term, 0, env, 0)
+    usage::walk(table, term)
 }
 
-// Document 01, causes 9 and 11: the types of all bays.
-pub fn types_of(recipe: &[u8], table: [Entry; Recipe::MAX_ENTRIES], count: usize) -> BayTypes
-    requires { ⌜ HasTable (now recipe) table count × Scoped (now recipe) ⌝ }
-    ensures { λ r. ⌜ r ≡ types-in (now (recipe .entry)) ⌝ }
+// Document 01, causes 9 to 11: the types of all bays.
+pub fn types_of(recipe: &[u8]) -> BayTypes
+    requires { ⌜ Scoped (now recipe) ⌝ }
+    ensures { λ r. ⌜ Numbered (now (recipe .entry)) r ⌝ }
 {
     let bays = recipe::bay_count(recipe);
+    let table = recipe::table_bytes(recipe);
     let mut numbers = [0u8; Recipe::MAX_BAYS];
     let mut many = true;
+    let mut linear = true;
     let mut bay: usize = 0;
     while bay < bays {
-        let Typed::Has(number, _) = type_of(recipe, bay, table, count) else {
+        let Walked::Has(number, _, kept) = walk_bay(recipe, bay) else {
             return BayTypes {
                 each: false,
-                many: false,
-                numbers: [0u8; Recipe::MAX_BAYS],
+                linear: linear,
+                many: many,
+                numbers: numbers,
             };
         };
-        many = both(many, typing::is_many(table, count, number as usize));
+        many = both(many, typing::many_at(table, number as usize));
+        linear = both(linear, kept);
         numbers[bay] = number;
         bay += 1;
     }
     BayTypes {
         each: true,
+        linear: linear,
         many: many,
         numbers: numbers,
     }

@@ -21,11 +21,10 @@ use Rattle.verdict.specs.declared.Verdict.{Verdict}
 use Rattle.verdict.specs.Bays.{bay-term, bay-terms, cause-5, cause-6}
 use Rattle.verdict.specs.Verdict.{accepted, refusal, refused, verdict-of}
 use Rattle.bays.specs.declared.BayTypes.{BayTypes}
-use Rattle.bays.specs.declared.Test.the-variants.{Annotations, Nesting, Scope, Uses}
+use Rattle.bays.specs.declared.Test.the-variants.{Annotations, Nesting, Scope}
 use Rattle.bays.specs.Tests.{bay-passes, each-passes, passes}
 use Rattle.bays.specs.Stages.{HasTable, Scoped, Terms}
-use Rattle.bays.specs.Numbers.{bay-number, has-many, has-type}
-use Rattle.bays.proofs.Typing.{Numbered}
+use Rattle.bays.specs.Numbers.{bay-linear, bay-number, has-many, has-type, Numbered}
 use Rattle.checker.specs.Refusals.{terms-refusal}
 use Rattle.checker.proofs.Terms.{neither}
 
@@ -45,8 +44,8 @@ lowest a b c d f = cond (not a) 7 (cond (not b) 8 (cond (not c) 9 (cond (not d) 
 
 module _ (s : List ℕ) where
   by-bays : verdict (type-table s) (bay-terms s)
-      ≡ lowest (each-passes s Scope) (each-passes s Annotations) (each-below (bays s) (has-type s)) (each-passes s Uses) (each-below (bays s) (has-many s))
-  unfolding verdict bay-terms each-passes bay-passes passes has-type has-many bay-number
+      ≡ lowest (each-passes s Scope) (each-passes s Annotations) (each-below (bays s) (has-type s)) (each-below (bays s) (bay-linear s)) (each-below (bays s) (has-many s))
+  unfolding verdict bay-terms each-passes bay-passes passes has-type has-many bay-linear bay-number
   by-bays =
       let f = bay-term s in
       let n = bays s in
@@ -126,7 +125,7 @@ accepting b types = record { refusal = 0; bays = b; types = types }
 
 module _ {s : List ℕ} (a : Admitted s) where
   decided : refusal s
-      ≡ lowest (each-passes s Scope) (each-passes s Annotations) (each-below (bays s) (has-type s)) (each-passes s Uses) (each-below (bays s) (has-many s))
+      ≡ lowest (each-passes s Scope) (each-passes s Annotations) (each-below (bays s) (has-type s)) (each-below (bays s) (bay-linear s)) (each-below (bays s) (has-many s))
   decided = a .rest ∙ by-bays s
 
   pub refused-7 : each-passes s Scope ≡ false → refused 7 ≡ verdict-of s
@@ -144,14 +143,14 @@ module _ {s : List ℕ} (a : Admitted s) where
       refused-9 p = refused-is s 9 (decided ∙ rw (p₇, p₈, ← (n .each), p) refl) (λ z. omega arith)
 
       module _ (p₉ : types .each ≡ true) where
-        pub refused-10 : each-passes s Uses ≡ false → refused 10 ≡ verdict-of s
-        refused-10 p = refused-is s 10 (decided ∙ rw (p₇, p₈, ← (n .each), p₉, p) refl) (λ z. omega arith)
+        pub refused-10 : types .linear ≡ false → refused 10 ≡ verdict-of s
+        refused-10 p = refused-is s 10 (decided ∙ rw (p₇, p₈, ← (n .each), p₉, ← (n .linear p₉), p) refl) (λ z. omega arith)
 
-        module _ (p₁₀ : each-passes s Uses ≡ true) where
+        module _ (p₁₀ : types .linear ≡ true) where
           pub refused-11 : types .many ≡ false → refused 11 ≡ verdict-of s
-          refused-11 p = refused-is s 11 (decided ∙ rw (p₇, p₈, ← (n .each), p₉, p₁₀, ← (n .many p₉), p) refl) (λ z. omega arith)
+          refused-11 p = refused-is s 11 (decided ∙ rw (p₇, p₈, ← (n .each), p₉, ← (n .linear p₉), p₁₀, ← (n .many p₉), p) refl) (λ z. omega arith)
 
           pub all-pass : types .many ≡ true → (b : ℕ) → b ≡ bays s → accepting b (types .numbers) ≡ verdict-of s
           all-pass p b e =
               ap₂ accepting e (n .numbers p₉)
-              ∙ accepted-is s (decided ∙ rw (p₇, p₈, ← (n .each), p₉, p₁₀, ← (n .many p₉), p) refl)
+              ∙ accepted-is s (decided ∙ rw (p₇, p₈, ← (n .each), p₉, ← (n .linear p₉), p₁₀, ← (n .many p₉), p) refl)

@@ -60,11 +60,11 @@ pub fn check(recipe: &[u8]) -> Verdict
     if !bays::each_passes(recipe, table, count, Test::Annotations) {
         return refused(8);
     }
-    let found = bays::types_of(recipe, table, count);
+    let found = bays::types_of(recipe);
     if !found.each {
         return refused(9);
     }
-    if !bays::each_passes(recipe, table, count, Test::Uses) {
+    if !found.linear {
         return refused(10);
     }
     if !found.many {

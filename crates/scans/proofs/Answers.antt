@@ -24,7 +24,7 @@ use Rattle.terms.proofs.Expressions.{one-term-is, read-written}
 use Rattle.scans.specs.declared.Extent.{Extent}
 use Rattle.scans.specs.declared.Extent.the-variants.{Ends, Refused}
 use Rattle.scans.specs.declared.Part.the-variants.{Nodes, NoTerm}
-use Rattle.scans.specs.Extents.{exactly, extent-at, keeping, part-of, scanned, small}
+use Rattle.scans.specs.Extents.{exactly, extent-at, in-scope, keeping, part-of, scanned, small}
 use Rattle.scans.proofs.Many.{refused-ends}
 
 -- there is a term at a position, it ends at e, and it has n nodes
@@ -68,6 +68,20 @@ small-stands b l at e n inside q = is (extent-at l at) refl q
     is : (x : Extent) → extent-at l at ≡ x → Ends e n ≡ small b x → Stands l at e n × (n ≤ b)
     is Refused r q = absurd (refused-ends (sym q))
     is (Ends x y) r q = let (p, le) = kept b x y e n (leb y b) refl q in (scan-stands l at e n inside (p ∙ sym r), le)
+
+-- and in scope
+pub scope-ends : (b : Bool) (x : Extent) (e n : ℕ) → Ends e n ≡ in-scope b x → (b ≡ true) × (Ends e n ≡ x)
+scope-ends true x e n q = (refl, q)
+scope-ends false x e n q = absurd (refused-ends (sym q))
+
+-- so of a term within the budget the answer says the scope
+module _ {l : List ℕ} {at : ℕ} (b : ℕ) (g : GoodAt l at) (few : nodes (term-at l at) ≤ b) (t : Bool) where
+  pub scope-refused : Refused ≡ in-scope t (small b (extent-at l at)) → false ≡ t
+  scope-refused q = is t (q ∙ ap (in-scope t) (small-good b g few))
+    where
+      is : (t : Bool) → Refused ≡ in-scope t (Ends (end-at l at) (nodes (term-at l at))) → false ≡ t
+      is true q = absurd (refused-ends q)
+      is false q = refl
 
 -- a budget of all bytes is enough
 pub small-all : (l : List ℕ) (at : ℕ) → at ≤ length l → small (length l - at) (extent-at l at) ≡ extent-at l at

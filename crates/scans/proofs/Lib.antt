@@ -11,6 +11,6 @@ pub mod Stack
 -- terms on levels of lambdas: the law of the loop with a stack
 mod Levels
 -- what that loop knows
-mod Walked
+mod Scanning
 -- scope of leaves, and scope as an image asks it
 pub mod Scopes

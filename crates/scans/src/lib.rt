@@ -11,7 +11,7 @@ ghost use Rattle.calculus.specs.Image.{nodes};
 ghost use Rattle.calculus.specs.Verdict.{scoped};
 ghost use Rattle.terms.specs.Reader.{GoodAt};
 ghost use Rattle.terms.specs.Expressions.{leaf-exp, nesting, term-at};
-ghost use Rattle.scans.specs.Extents.{extent-at, part-of, small};
+ghost use Rattle.scans.specs.Extents.{extent-at, in-scope, part-of, small};
 ghost use Rattle.scans.specs.Depths.{reach};
 
 // Where a term ends and how many nodes it has, or that there is none.
@@ -136,43 +136,55 @@ fn leaf_scoped(tag: u8, arg: usize, types: usize, names: usize, lambdas: usize) 
     }
 }
 
-// Document 01, cause 7: whether each index has its lambda, each name is below `names` and each type number below `types`. `pending` counts the terms
-// still to come inside the innermost lambda, and `outer` those inside each lambda around it, outermost first.
-pub fn scoped_within(s: &[u8], at: usize, types: usize, names: usize) -> bool
-    requires { ⌜ GoodAt (now s) at × (nodes (term-at (now s) at) ≤ max-nodes) ⌝ }
-    ensures { λ r. ⌜ r ≡ scoped types names 0 (term-at (now (s .entry)) at) ⌝ }
+// Where a term ends that has at most `limit` nodes and names only what is there: each index has its lambda, each name is below `names` and each type
+// number below `types`. `pending` counts the terms still to come inside the innermost lambda, and `outer` those inside each lambda around it, outermost
+// first; it is lent, and what it holds before does not matter.
+pub fn scan_scoped(
+    s: &[u8],
+    at: usize,
+    limit: usize,
+    types: usize,
+    names: usize,
+    outer: &mut [u16],
+) -> Extent
+    requires { ⌜ (at ≤ length (now s)) × ((limit ≤ max-nodes) × (length (now outer) ≡ max-nodes)) ⌝ }
+    ensures { λ r. ⌜ r ≡ in-scope (scoped types names 0 (term-at (now (s .entry)) at)) (small limit (extent-at (now (s .entry)) at)) ⌝ }
 {
-    let mut outer = [0u16; Extent::MAX_NODES];
     let mut lambdas: usize = 0;
     let mut here = at;
+    let mut nodes: usize = 0;
     let mut pending: u16 = 1;
     loop {
         if pending == 0 {
             if lambdas == 0 {
-                return true;
+                return Extent::Ends(here, nodes);
             }
             lambdas -= 1;
             pending = outer[lambdas];
             continue;
         }
+        if limit <= nodes {
+            return Extent::Refused;
+        }
         let Head::Is(node) = terms::head_at(s, here) else {
-            return false;
+            return Extent::Refused;
         };
         let tag = node.tag;
         let arg = node.arg;
         let size = node.size;
         let subterms = node.subterms;
         here += size;
+        nodes += 1;
         if subterms == 0 {
             if !leaf_scoped(tag, arg, types, names, lambdas) {
-                return false;
+                return Extent::Refused;
             }
             pending -= 1;
             continue;
         }
         if subterms == 1 {
             if types <= arg {
-                return false;
+                return Extent::Refused;
             }
             outer[lambdas] = pending - 1;
             lambdas += 1;
@@ -181,4 +193,16 @@ pub fn scoped_within(s: &[u8], at: usize, types: usize, names: usize) -> bool
         }
         pending += 1;
     }
+}
+
+// Document 01, cause 7: whether a term names only what is there.
+pub fn scoped_within(s: &[u8], at: usize, types: usize, names: usize) -> bool
+    requires { ⌜ GoodAt (now s) at × (nodes (term-at (now s) at) ≤ max-nodes) ⌝ }
+    ensures { λ r. ⌜ r ≡ scoped types names 0 (term-at (now (s .entry)) at) ⌝ }
+{
+    let mut outer = [0u16; Extent::MAX_NODES];
+    let Extent::Ends(_, _) = scan_scoped(s, at, Extent::MAX_NODES, types, names, &mut outer) else {
+        return false;
+    };
+    true
 }

@@ -1,5 +1,5 @@
 -- What `expression_nodes` answers: one law for each return.
-use mathlib.Core.Path.{_∙_, _≡_, ap, refl, sym}
+use mathlib.Core.Path.{_∙_, _≡_, ap, ap₂, refl, sym}
 use mathlib.Core.Bool.{Bool, _&&_, false, false≢true, true}
 use mathlib.Core.List.{List, [], _∷_}
 use Prim.Native.Nat.{_+_, _-_, _≤_, zero-le, ℕ}
@@ -7,7 +7,7 @@ use native.Mathlib.Omega.{arith}
 use lib.Dec.{leb}
 use lib.ListN.{length, length-drop}
 use Rattle.calculus.specs.Bytes.{Bytes}
-use Rattle.calculus.specs.Limits.{byte-values, max-nodes}
+use Rattle.calculus.specs.Limits.{byte-values}
 use Rattle.calculus.specs.Verdict.{scoped}
 use Rattle.calculus.specs.Image.{expression-test, nodes}
 use Rattle.calculus.specs.Theory.Tests.{and-parts, and-true, leb-complete, leb-sound}
@@ -19,9 +19,9 @@ use Rattle.terms.proofs.Fronts.{is-good, is-tree}
 use Rattle.terms.proofs.Expressions.{one-term-sound}
 use Rattle.scans.specs.declared.Extent.the-variants.{Ends, Refused}
 use Rattle.scans.specs.declared.Part.the-variants.{Nodes, NoTerm}
-use Rattle.scans.specs.Extents.{extent-at, small}
+use Rattle.scans.specs.Extents.{extent-at, in-scope, small}
 use Rattle.scans.proofs.Many.{refused-ends}
-use Rattle.scans.proofs.Answers.{small-good, small-stands}
+use Rattle.scans.proofs.Answers.{scope-ends, small-good, small-stands}
 use Rattle.scans.proofs.Scopes.{scoped-image}
 use Rattle.sound.specs.Parts.{expression-part}
 use Rattle.sound.proofs.Picks.{pick-none, pick-some, picked, unpicked}
@@ -51,10 +51,6 @@ term-whole l g e = ap one-term (g .good) ∙ is (first-rest l) (omega (arith, e,
     is : (r : List ℕ) → length r ≡ 0 → one-term (got (first-tree l) r) ≡ true
     is [] z = refl
     is (x ∷ r) z = absurd (omega arith)
-
--- within the budget the scan of scope may go on
-pub scannable : (left : ℕ) (l : List ℕ) (e n : ℕ) → Ends e n ≡ small left (extent-at l 0) → left ≤ max-nodes → GoodAt l 0 × (nodes (term-at l 0) ≤ max-nodes)
-scannable left l e n q h = let (s, few) = small-stands left l 0 e n zero-le q in (s .good, omega (arith, s .count))
 
 -- what an answer says
 pub record Reads (m left : ℕ) (l : List ℕ) : Type 0 where
@@ -97,23 +93,26 @@ module _ (m left : ℕ) (l : List ℕ) where
       let (good, ends) = whole-term l (r .one) in
       small-good left good (r .few) ∙ ap (λ (e : ℕ). Ends e (nodes (term-at l 0))) ends
 
-  -- no term within the budget
-  pub refused : Refused ≡ small left (extent-at l 0) → NoTerm ≡ expression-part m left l
-  refused q = none-part (λ r. refused-ends (q ∙ scan-finds r))
+  module _ (b : Bytes l) where
+    scope-finds : Reads m left l → scoped byte-values m 0 (term-at l 0) ≡ true
+    scope-finds r = scoped-image m 0 (term-at l 0) (one-term-sound l b (r .one) .1 .writable) ∙ r .scope
 
-  module _ (e n : ℕ) (q : Ends e n ≡ small left (extent-at l 0)) where
-    -- bytes over
-    pub bytes-over : (e ≡ length l → ⊥) → NoTerm ≡ expression-part m left l
-    bytes-over d = none-part (λ r. let p = q ∙ scan-finds r in d (cc))
+    both-find : Reads m left l → in-scope (scoped byte-values m 0 (term-at l 0)) (small left (extent-at l 0)) ≡ Ends (length l) (nodes (term-at l 0))
+    both-find r = ap₂ in-scope (scope-finds r) (scan-finds r)
 
-    module _ (b : Bytes l) where
-      -- an index, or a name
-      pub unscoped : scoped byte-values m 0 (term-at l 0) ≡ false → NoTerm ≡ expression-part m left l
-      unscoped f = none-part (λ r. false≢true (sym f ∙ scoped-image m 0 (term-at l 0) (one-term-sound l b (r .one) .1 .writable) ∙ r .scope))
+    -- no term within the budget, or an index, or a name
+    pub refused : Refused ≡ in-scope (scoped byte-values m 0 (term-at l 0)) (small left (extent-at l 0)) → NoTerm ≡ expression-part m left l
+    refused q = none-part (λ r. refused-ends (q ∙ both-find r))
 
-      pub found : e ≡ length l → scoped byte-values m 0 (term-at l 0) ≡ true → Nodes n ≡ expression-part m left l
-      found d t =
-          let (s, few) = small-stands left l 0 e n zero-le q in
+    module _ (e n : ℕ) (q : Ends e n ≡ in-scope (scoped byte-values m 0 (term-at l 0)) (small left (extent-at l 0))) where
+      -- bytes over
+      pub bytes-over : (e ≡ length l → ⊥) → NoTerm ≡ expression-part m left l
+      bytes-over d = none-part (λ r. let p = q ∙ both-find r in d (cc))
+
+      pub found : e ≡ length l → Nodes n ≡ expression-part m left l
+      found d =
+          let (t, p) = scope-ends (scoped byte-values m 0 (term-at l 0)) (small left (extent-at l 0)) e n q in
+          let (s, few) = small-stands left l 0 e n zero-le p in
           let one = term-whole l (s .good) (s .end ∙ d) in
           reads-part n
           record {

@@ -6,6 +6,7 @@ use scans::Part;
 ghost use mathlib.Core.Path.{_≡_};
 ghost use mathlib.Core.Bool.{true};
 ghost use Prim.Native.Nat.{_≤_};
+ghost use lib.ListN.{length};
 ghost use Rattle.calculus.specs.Limits.{byte-values, max-names, max-nodes};
 ghost use Rattle.layout.specs.Slice.{names};
 ghost use Rattle.layout.specs.Layout.{heads-stand};
@@ -30,25 +31,30 @@ pub fn byte_values() -> usize
 }
 
 // The nodes of an expression that is exactly one term with at most `left` of them, whose variables are bound and whose names are below `names`.
-fn expression_nodes(expression: &[u8], names: usize, left: usize) -> Part
-    requires { ⌜ left ≤ max-nodes ⌝ }
+// `outer` is lent to the scan.
+fn expression_nodes(expression: &[u8], names: usize, left: usize, outer: &mut [u16]) -> Part
+    requires { ⌜ (left ≤ max-nodes) × (length (now outer) ≡ max-nodes) ⌝ }
     ensures { λ r. ⌜ r ≡ expression-part names left (now (expression .entry)) ⌝ }
 {
-    let Extent::Ends(end, nodes) = scans::scan_small(expression, 0, left) else {
+    let Extent::Ends(end, nodes) = scans::scan_scoped(
+        expression,
+        0,
+        left,
+        Checked::BYTE_VALUES,
+        names,
+        outer,
+    ) else {
         return Part::NoTerm;
     };
     if end != expression.len() {
-        return Part::NoTerm;
-    }
-    if !scans::scoped_within(expression, 0, Checked::BYTE_VALUES, names) {
         return Part::NoTerm;
     }
     Part::Nodes(nodes)
 }
 
 // The same of the expression of name k, where it has one; a cell's is a value.
-fn component_nodes(image: &[u8], names: usize, k: usize, left: usize) -> Part
-    requires { ⌜ Named (now image) k × (left ≤ max-nodes) ⌝ }
+fn component_nodes(image: &[u8], names: usize, k: usize, left: usize, outer: &mut [u16]) -> Part
+    requires { ⌜ Named (now image) k × ((left ≤ max-nodes) × (length (now outer) ≡ max-nodes)) ⌝ }
     ensures { λ r. ⌜ r ≡ component-part (now (image .entry)) names left k ⌝ }
 {
     let kind = layout::kind_at(image, k);
@@ -56,7 +62,7 @@ fn component_nodes(image: &[u8], names: usize, k: usize, left: usize) -> Part
         return Part::Nodes(0);
     }
     let expression = layout::expression_at(image, k);
-    let Part::Nodes(nodes) = expression_nodes(expression, names, left) else {
+    let Part::Nodes(nodes) = expression_nodes(expression, names, left, outer) else {
         return Part::NoTerm;
     };
     if kind == Image::THREAD {
@@ -68,16 +74,17 @@ fn component_nodes(image: &[u8], names: usize, k: usize, left: usize) -> Part
     Part::Nodes(nodes)
 }
 
-// The nodes of all expressions: each takes its own off what is left.
+// The nodes of all expressions: each takes its own off what is left. One array for the scans of them all.
 fn all_nodes(image: &[u8]) -> Part
     requires { ⌜ heads-stand (now image) ≡ true ⌝ }
     ensures { λ r. ⌜ r ≡ all-part (now (image .entry)) ⌝ }
 {
     let names = layout::names_of(image);
+    let mut outer = [0u16; Extent::MAX_NODES];
     let mut left = Image::MAX_NODES;
     let mut k = 0;
     while k < names {
-        let Part::Nodes(nodes) = component_nodes(image, names, k, left) else {
+        let Part::Nodes(nodes) = component_nodes(image, names, k, left, &mut outer) else {
             return Part::NoTerm;
         };
         left -= nodes;

@@ -2,6 +2,8 @@
 pub mod Arrays
 -- loops over the entries
 mod Turns
+-- keys of entries
+mod Keys
 -- rules by their tests
 mod Rules
 -- the table of a file

@@ -4,3 +4,5 @@
 pub mod Entries
 -- the table as 256 entries by value
 pub mod Filled
+-- an entry as one number
+pub mod Keys

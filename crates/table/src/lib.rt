@@ -1,14 +1,15 @@
 // The type table: read by value, and its rules.
 ghost use mathlib.Core.Path.{_≡_};
 ghost use mathlib.Core.Bool.{_&&_};
-ghost use Prim.Native.Nat.{_+_, _<_, _≤_, _/_};
-ghost use lib.ListN.{length, getD, drop};
+ghost use Prim.Native.Nat.{_-_, _≤_, _/_};
+ghost use lib.ListN.{length};
 ghost use Rattle.calculus.specs.Limits.{min-entries, max-entries};
-ghost use Rattle.calculus.specs.Table.{entry, entry-test, entries-test, same-entry, new-to, distinct-test, table-test};
+ghost use Rattle.calculus.specs.Table.{entry, entry-test, entries-test, same-entry, distinct-test, table-test};
 ghost use Rattle.recipe.specs.File.{entry-length};
 ghost use Rattle.recipe.specs.Laid.{Between, Laid};
 ghost use Rattle.table.specs.Entries.{table-of, type-table, table-refusal};
-ghost use Rattle.table.specs.Filled.{unused, as-entry, as-table, filled, first-three};
+ghost use Rattle.table.specs.Keys.{Coded, absent};
+ghost use Rattle.table.specs.Filled.{as-entry, as-table, filled, first-three};
 use recipe::ENTRY_LENGTH;
 use recipe::Recipe;
 
@@ -109,33 +110,48 @@ fn entries_stand(table: [Entry; Recipe::MAX_ENTRIES], count: usize) -> bool
     true
 }
 
-// No later entry equals entry i.
-fn is_new(table: [Entry; Recipe::MAX_ENTRIES], count: usize, i: usize) -> bool
-    requires { ⌜ (i < count) × (count ≤ max-entries) ⌝ }
-    ensures { λ r. ⌜ r ≡ new-to (as-entry (getD table i unused)) (drop (i + 1) (as-table table count)) ⌝ }
+// An entry as one number.
+fn key_of(it: Entry) -> u32
+    ensures { λ r. ⌜ Coded (as-entry it) r ⌝ }
 {
-    let it = table[i];
-    let mut j = i + 1;
-    while j < count {
-        if is_same(it, table[j]) {
-            return false;
-        }
-        j += 1;
-    }
-    true
+    (it.kind as u32) + 256 * (it.p as u32) + 65536 * (it.q as u32)
 }
 
-// No two entries are equal.
+// Both.
+fn both(a: bool, b: bool) -> bool
+    ensures { λ r. ⌜ r ≡ (a && b) ⌝ }
+{
+    a && b
+}
+
+// No key from a place on is this one. The loop goes to the end, so that it compares several keys at a time.
+fn is_new(keys: &[u32; Recipe::MAX_ENTRIES], from: usize, count: usize, key: u32) -> bool
+    requires { ⌜ (from ≤ count) × (count ≤ max-entries) ⌝ }
+    ensures { λ r. ⌜ r ≡ absent key (now (keys .entry)) from (count - from) ⌝ }
+{
+    let mut fresh = true;
+    let mut j = from;
+    while j < count {
+        fresh = both(fresh, keys[j] != key);
+        j += 1;
+    }
+    fresh
+}
+
+// No two entries are equal: from the last entry down, none stands again behind it.
 fn entries_differ(table: [Entry; Recipe::MAX_ENTRIES], count: usize) -> bool
     requires { ⌜ count ≤ max-entries ⌝ }
     ensures { λ r. ⌜ r ≡ distinct-test (as-table table count) ⌝ }
 {
-    let mut i = 0;
-    while i < count {
-        if !is_new(table, count, i) {
+    let mut keys = [0u32; Recipe::MAX_ENTRIES];
+    let mut i = count;
+    while 0 < i {
+        i -= 1;
+        let key = key_of(table[i]);
+        if !is_new(&keys, i + 1, count, key) {
             return false;
         }
-        i += 1;
+        keys[i] = key;
     }
     true
 }

@@ -2,14 +2,16 @@
 use mathlib.Core.Path.{_≡_, refl, sym}
 use mathlib.Core.Bool.{Bool, _&&_, false, not}
 use mathlib.Core.Option.{Option, none, some}
-use mathlib.Core.List.{List}
-use Prim.Native.Nat.{_<_, _≤_, ℕ}
+use mathlib.Core.List.{List, [], _∷_}
+use Prim.Native.Nat.{_*_, _+_, _<_, _≤_, suc, zero, ℕ}
+use native.Mathlib.Omega.{arith}
 use lib.Dec.{eqb}
 use lib.ListN.{getD, length}
 use Rattle.calculus.specs.Syntax.{at}
 use Rattle.calculus.specs.Table as calculus
 use Rattle.calculus.specs.Verdict.{is-function-kind, is-many, lambda-number, on-cell, on-function, on-once-function, result-number}
 use Rattle.table.specs.declared.Entry.{Entry}
+use Rattle.table.specs.Entries.{table-of}
 use Rattle.table.specs.Filled.{as-entry, as-table, unused}
 use Rattle.table.proofs.Arrays.{entry-at, no-entry-at}
 use Rattle.typing.specs.Entries.{entry-of, known-entry}
@@ -60,3 +62,42 @@ pub result-is : (o : Option calculus.Entry) (a : ℕ) → result-number o a ≡ 
 unfolding result-number known-entry
 result-is none a = refl
 result-is (some x) a = refl
+
+-- the entry in the bytes of a table
+pub at-bytes : (l : List ℕ) (t j : ℕ) → j ≡ 3 * t → j + 2 < length l →
+    at (table-of l) t ≡ some (calculus.entry (getD l j 0) (getD l (j + 1) 0) (getD l (j + 2) 0))
+unfolding table-of
+at-bytes [] t j e h = absurd (omega arith)
+at-bytes (a ∷ []) t j e h = absurd (omega arith)
+at-bytes (a ∷ b ∷ []) t j e h = absurd (omega arith)
+at-bytes (a ∷ b ∷ c ∷ l) zero j e h = let z : j ≡ 0 = omega arith in rw z refl
+at-bytes (a ∷ b ∷ c ∷ l) (suc t) j e h =
+    let z : j ≡ suc (suc (suc (3 * t))) = omega arith in
+    let z₁ : j + 1 ≡ suc (suc (suc (3 * t + 1))) = omega arith in
+    let z₂ : j + 2 ≡ suc (suc (suc (3 * t + 2))) = omega arith in
+    rw (z₁, z₂, z) (at-bytes l t (3 * t) refl (omega arith))
+
+pub past-bytes : (l : List ℕ) (t j : ℕ) → j ≡ 3 * t → length l ≤ j + 2 → at (table-of l) t ≡ none
+unfolding table-of
+past-bytes [] t j e h = refl
+past-bytes (a ∷ []) t j e h = refl
+past-bytes (a ∷ b ∷ []) t j e h = refl
+past-bytes (a ∷ b ∷ c ∷ l) zero j e h = absurd (omega arith)
+past-bytes (a ∷ b ∷ c ∷ l) (suc t) j e h = past-bytes l t (3 * t) refl (omega arith)
+
+module _ (l : List ℕ) (t : ℕ) where
+  pub bytes-found : 3 * t + 2 < length l → calculus.entry (getD l (3 * t) 0) (getD l (3 * t + 1) 0) (getD l (3 * t + 2) 0) ≡ entry-of (table-of l) t
+  unfolding entry-of known-entry
+  bytes-found h = rw (at-bytes l t (3 * t) refl h)
+
+  pub bytes-missing : length l ≤ 3 * t + 2 → as-entry unused ≡ entry-of (table-of l) t
+  unfolding entry-of known-entry
+  bytes-missing h = rw (past-bytes l t (3 * t) refl h)
+
+  pub bytes-many : 3 * t + 2 < length l → not (eqb (getD l (3 * t) 0) 3) ≡ is-many (table-of l) t
+  unfolding is-many calculus.test-entry
+  bytes-many h = rw (at-bytes l t (3 * t) refl h)
+
+  pub bytes-none : length l ≤ 3 * t + 2 → false ≡ is-many (table-of l) t
+  unfolding is-many calculus.test-entry
+  bytes-none h = rw (past-bytes l t (3 * t) refl h)

@@ -1,10 +1,10 @@
--- Laws of the type walk.
+-- Laws of types in bytes.
 
 -- the environment in an array
-mod Environments
+pub mod Environments
 -- the entry that a type number names
 pub mod Entries
 -- terms with no subterm
 mod Leaves
 -- the type of a term from those of its subterms
-mod Walks
+pub mod Walks

@@ -1,6 +1,6 @@
 -- The type of a term from those of its subterms, and that subterms of a term in scope are in scope.
-use mathlib.Core.Path.{_≡_, ap, refl, subst, sym}
-use mathlib.Core.Bool.{and-false}
+use mathlib.Core.Path.{_≡_, ap, refl, subst, sym, _∙_}
+use mathlib.Core.Bool.{_&&_, and-false, and-true, false, true}
 use mathlib.Core.Option.{Option, none, some}
 use mathlib.Core.List.{List, _∷_}
 use Prim.Native.Nat.{_+_, _<_, suc, ℕ}
@@ -11,7 +11,7 @@ use lib.Dec.{ltb}
 use Rattle.calculus.specs.Limits.{byte-values}
 use Rattle.calculus.specs.Syntax.{app, at as entry-at, Exp, lam}
 use Rattle.calculus.specs.Table.{Entry, Table}
-use Rattle.calculus.specs.Verdict.{applied-number, lambda-number, on-number, result-number, scoped, type-number}
+use Rattle.calculus.specs.Verdict.{applied-number, is-function-kind, lambda-number, on-function, on-number, result-number, scoped, type-number}
 use Rattle.calculus.specs.Theory.Tests.{and-parts, clash}
 use Rattle.terms.specs.declared.Node.{Node}
 use Rattle.terms.specs.Reader.{end-at}
@@ -20,7 +20,7 @@ use Rattle.terms.proofs.Views.{LeafAt, OneAt, past-first, TwoAt}
 use Rattle.typing.specs.declared.Typed.the-variants.{Has, Nothing}
 use Rattle.typing.specs.Entries.{entry-of}
 use Rattle.typing.specs.Walk.{HasNumber, Ready, Scoped, type-at, typed}
-use Rattle.typing.proofs.Entries.{lambda-is, result-is}
+use Rattle.typing.proofs.Entries.{lambda-is, on-function-is, result-is}
 
 -- Scope
 
@@ -84,6 +84,10 @@ no-body : (x : Entry) (t : ℕ) (body : ℕ → Option ℕ) → body (x .p) ≡ 
 unfolding lambda-number on-number
 no-body x t body e = simp (e, and-false)
 
+no-function : (x : Entry) (t : ℕ) (body : ℕ → Option ℕ) → (is-function-kind (x .kind) && true) ≡ false → lambda-number t (some x) body ≡ none
+unfolding lambda-number
+no-function x t body e = rw (sym (and-true (is-function-kind (x .kind))) ∙ e) refl
+
 body-is : (x : Entry) (t b : ℕ) (body : ℕ → Option ℕ) → body (x .p) ≡ some b → lambda-number t (some x) body ≡ lambda-number t (some x) (λ p. some b)
 unfolding lambda-number
 body-is x t b body e = rw e refl
@@ -100,6 +104,10 @@ module _ (T : Table) (Δ l : List ℕ) (at : ℕ) (h : Node) where
     lambda : type-number T Δ (term-at l at) ≡ lambda-number (h .arg) (some (entry-of T (h .arg))) body
     unfolding type-number entry-of
     lambda = rw (o .term) (lambda-is (entry-at T (h .arg)) (h .arg) body)
+
+    pub no-lambda : on-function T (h .arg) (λ p q. true) ≡ false → Nothing ≡ type-at T Δ l at
+    unfolding type-at typed
+    no-lambda e = rw (lambda, no-function (entry-of T (h .arg)) (h .arg) body (sym (on-function-is T (h .arg) (λ p q. true)) ∙ e)) refl
 
     pub one-nothing : Nothing ≡ type-at T (entry-of T (h .arg) .p ∷ Δ) l (at + h .size) → Nothing ≡ type-at T Δ l at
     unfolding type-at typed

@@ -38,6 +38,11 @@ pub record Scoped (count above : ℕ) (e : Exp) : Type 0 where
   pub names : ℕ
   pub scope : scoped count names above e ≡ true
 
+-- the same, whatever the number of entries
+pub record LeafScoped (above : ℕ) (e : Exp) : Type 0 where
+  pub count : ℕ
+  pub scoped : Scoped count above e
+
 -- at a position stands such a term
 pub record Ready (l : List ℕ) (at count above : ℕ) : Type 0 where
   pub good : GoodAt l at

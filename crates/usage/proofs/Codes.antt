@@ -2,15 +2,18 @@
 use mathlib.Core.Path.{_≡_, refl}
 use mathlib.Core.Bool.{Bool, _&&_, _||_, cond, false, true}
 use mathlib.Core.Option.{Option, none, some}
-use Prim.Native.Nat.{_+_, _≤_, ℕ}
+use mathlib.Core.List.{List, [], _∷_, map}
+use Prim.Native.Nat.{_+_, _≤_, suc, zero, ℕ}
 use native.Mathlib.Omega.{arith}
 use lib.Dec.{eqb, ltb}
+use lib.ListN.{getD}
 use Rattle.calculus.specs.Syntax.{at}
 use Rattle.calculus.specs.Table.{Entry, Table, test-entry}
 use Rattle.calculus.specs.Verdict.{is-function-kind, is-many, on-function}
 use Rattle.spending.specs.Spend.{new-mark}
 use Rattle.spending.specs.Levels.{floor-under}
-use Rattle.usage.specs.Codes.{function-code, code-of, lambda-code, code-mark, code-floor}
+use Rattle.typing.specs.Entries.{entry-of, known-entry}
+use Rattle.usage.specs.Codes.{all-codes, code-floor, code-mark, code-of, Codes, function-code, lambda-code}
 
 -- the code where kind 3 and kind 4 are told by a and b, and a many-variable by m
 abbrev told : Bool → Bool → Bool → ℕ
@@ -85,3 +88,22 @@ under-low code floor above e h = rw e (go (ltb code 3))
     go : (b : Bool) → cond b floor above ≤ above + 1
     go true = omega arith
     go false = omega arith
+
+-- the entry that a type number names says its code
+pub known-code : (T : Table) (t : ℕ) → code-of T (some (entry-of T t)) ≡ lambda-code T t
+unfolding lambda-code code-of entry-of known-entry function-code
+known-code T t = go (at T t)
+  where
+    go : (o : Option Entry) → code-of T (some (known-entry o)) ≡ code-of T o
+    go none = refl
+    go (some x) = refl
+
+-- all codes
+pub all-coded : (T : Table) → Codes T (all-codes T)
+unfolding all-codes lambda-code code-of
+all-coded T = record { each = go T }
+  where
+    go : (L : Table) (t : ℕ) → getD (map (λ (x : Entry). code-of T (some x)) L) t 0 ≡ code-of T (at L t)
+    go [] t = refl
+    go (x ∷ L) zero = refl
+    go (x ∷ L) (suc t) = go L t

@@ -1,12 +1,14 @@
--- What the walk answers, node form by node form.
+-- What the walk leaves of the marks, node form by node form.
 use mathlib.Core.Path.{_≡_, ap, refl, sym, _∙_}
-use mathlib.Core.Bool.{Bool, false, false≢true, true}
+use mathlib.Core.Bool.{Bool, _&&_, false, false≢true, not, true}
 use mathlib.Core.List.{List}
 use Prim.Native.Nat.{_+_, _-_, _<_, _≤_, suc, zero, ℕ}
-use lib.Dec.{T}
+use lib.Dec.{eqb, T}
 use lib.ListN.{drop, getD, length, length-set, set}
 use Rattle.calculus.specs.Syntax.{app, const, Exp, lam, name, unit, var}
 use Rattle.calculus.specs.Table.{Table}
+use Rattle.calculus.specs.Verdict.{linear}
+use Rattle.calculus.specs.Theory.Tests.{eqb-complete, eqb-sound}
 use Rattle.terms.specs.declared.Node.{Node}
 use Rattle.terms.specs.Reader.{end-at}
 use Rattle.terms.specs.Expressions.{leaf-exp, leaves, term-at}
@@ -14,12 +16,10 @@ use Rattle.terms.proofs.Table.{every-at}
 use Rattle.terms.proofs.Views.{LeafAt, OneAt, TwoAt}
 use Rattle.spending.specs.Spend.{new-mark}
 use Rattle.spending.specs.Levels.{floor-under, Walked}
-use Rattle.spending.specs.Theory.Walks.{walked-application, walked-body, walked-const, walked-function, walked-lambda, walked-name, walked-no-function, walked-unused, walked-whole}
-use Rattle.usage.specs.declared.Spent.{Spent}
-use Rattle.usage.specs.declared.Spent.the-variants.{Broken, To}
+use Rattle.spending.specs.Theory.Walks.{walked-application, walked-body, walked-const, walked-function, walked-lambda, walked-name, walked-unused, walked-whole}
 use Rattle.usage.specs.Codes.{lambda-code, code-mark, code-floor, Codes}
-use Rattle.usage.specs.Walk.{Decides, keeps, LeafSpent, SpentAt}
-use Rattle.usage.proofs.Codes.{Function, is-function, no-function-code}
+use Rattle.usage.specs.Walk.{keeps, LeafSpent, Spent, Broken, To, spent-of, SpentAt}
+use Rattle.usage.proofs.Codes.{Function, is-function}
 use Rattle.usage.proofs.Ways.{leaf-variable}
 
 -- a node with no subterm that is no variable leaves the marks as they are
@@ -72,24 +72,21 @@ kept {end = end} w e same = record { walked = w; ends = λ last q. let z : last 
 
 module _ {codes s : List ℕ} {at above floor : ℕ} {marks : List ℕ} {h : Node} where
   -- a node with no subterm
-  pub leaf-broken : {marks′ : List ℕ} {k : Bool} → LeafAt s at h → LeafSpent (h .tag) (h .arg) above floor marks marks′ k → k ≡ false →
-      SpentAt codes s at above floor marks marks′ Broken
-  leaf-broken l w e = broken (λ T is. rw (l .term, ← e) (w .walked T)) (w .same)
-
-  pub leaf-kept : {marks′ : List ℕ} {k : Bool} → LeafAt s at h → LeafSpent (h .tag) (h .arg) above floor marks marks′ k → k ≡ true →
-      SpentAt codes s at above floor marks marks′ (To (at + h .size))
-  leaf-kept l w e = kept (λ T is. rw (l .term, ← e) (w .walked T)) (sym (l .ends)) (w .same)
-
-  -- a lambda whose type is no function
-  pub no-function : OneAt s at h → getD codes (h .arg) 0 ≡ 0 → SpentAt codes s at above floor marks marks Broken
-  no-function o z = broken (λ T is. rw (o .term) (walked-no-function (h .arg) _ (no-function-code T (h .arg) (sym (is .each (h .arg)) ∙ z)))) refl
+  pub leaf-spent : {marks′ : List ℕ} {k : Bool} → LeafAt s at h → LeafSpent (h .tag) (h .arg) above floor marks marks′ k →
+      SpentAt codes s at above floor marks marks′ (spent-of k (at + h .size))
+  unfolding spent-of
+  leaf-spent {marks′} {k} l w = go k refl
+    where
+      go : (b : Bool) → k ≡ b → SpentAt codes s at above floor marks marks′ (spent-of b (at + h .size))
+      go true e = kept (λ T is. rw (l .term, ← e) (w .walked T)) (sym (l .ends)) (w .same)
+      go false e = broken (λ T is. rw (l .term, ← e) (w .walked T)) (w .same)
 
   -- an application: its function breaks the rule, or its argument decides
   module _ {marks₁ : List ℕ} {f : Spent} (o : TwoAt s at h) (w : SpentAt codes s (at + h .size) above floor marks marks₁ f) where
-    pub function-broken : f ≡ Broken → SpentAt codes s at above floor marks marks₁ Broken
-    function-broken e = broken (λ T is. rw (o .term) (walked-function _ (rw (is-broken e) at (w .walked T is)))) (w .same)
+    function-broken : {marks₂ : List ℕ} → f ≡ Broken → length marks₂ ≡ length marks₁ → SpentAt codes s at above floor marks marks₂ Broken
+    function-broken e same = broken (λ T is. rw (o .term) (walked-function _ (rw (is-broken e) at (w .walked T is)))) (same ∙ w .same)
 
-    pub application : {marks₂ : List ℕ} {r : Spent} {second : ℕ} → f ≡ To second → SpentAt codes s second above floor marks₁ marks₂ r →
+    application : {marks₂ : List ℕ} {r : Spent} {second : ℕ} → f ≡ To second → SpentAt codes s second above floor marks₁ marks₂ r →
         SpentAt codes s at above floor marks marks₂ r
     application {second = second} e v =
         let g = rw (w .ends second e) at v in
@@ -98,6 +95,14 @@ module _ {codes s : List ℕ} {at above floor : ℕ} {marks : List ℕ} {h : Nod
           ends = λ end q. g .ends end q ∙ sym (o .ends);
           same = g .same ∙ w .same;
         }
+
+-- whatever the function keeps
+pub application-spent : {codes s : List ℕ} {at above floor : ℕ} {marks marks₁ marks₂ : List ℕ} {h : Node} (k k₂ : Bool) (second end : ℕ) → TwoAt s at h →
+    SpentAt codes s (at + h .size) above floor marks marks₁ (spent-of k second) → SpentAt codes s second above floor marks₁ marks₂ (spent-of k₂ end) →
+    SpentAt codes s at above floor marks marks₂ (spent-of (k && k₂) end)
+unfolding spent-of
+application-spent true k₂ second end o w v = application o w refl v
+application-spent false k₂ second end o w v = function-broken o w refl (v .same)
 
 -- a lambda of which the body was walked
 module _ {codes s : List ℕ} {at : ℕ} {h : Node} {code : ℕ} (o : OneAt s at h) (is-code : getD codes (h .arg) 0 ≡ code) (some-code : ¬ (code ≡ 0)) where
@@ -120,29 +125,40 @@ module _ {codes s : List ℕ} {at : ℕ} {h : Node} {code : ℕ} (o : OneAt s at
 
     module _ (low : floor ≤ above) (room : above < length marks) where
       -- it breaks the rule
-      pub body-broken : r ≡ Broken → SpentAt codes s at above floor marks marks₁ Broken
+      body-broken : r ≡ Broken → SpentAt codes s at above floor marks marks₁ Broken
       body-broken e =
           broken (λ T is.
           let f = function T is in
           rw (o .term) (walked-body (h .arg) (f .entry) (f .there) (f .function) low room (rw (is-broken e) at (body T is)))) body-same
 
       -- it leaves its once-variable unused
-      pub body-unused : {end : ℕ} → r ≡ To end → getD marks₁ above 0 ≡ 1 → SpentAt codes s at above floor marks marks₁ Broken
+      body-unused : {end : ℕ} → r ≡ To end → getD marks₁ above 0 ≡ 1 → SpentAt codes s at above floor marks marks₁ Broken
       body-unused e d =
           broken (λ T is.
           let f = function T is in
           rw (o .term) (walked-unused (h .arg) (f .entry) (f .there) (f .function) low room (rw (is-kept e) at (body T is)) d)) body-same
 
-      pub lambda-kept : {end : ℕ} → r ≡ To end → ¬ (getD marks₁ above 0 ≡ 1) → SpentAt codes s at above floor marks marks₁ (To end)
+      lambda-kept : {end : ℕ} → r ≡ To end → ¬ (getD marks₁ above 0 ≡ 1) → SpentAt codes s at above floor marks marks₁ (To end)
       lambda-kept {end} e d =
           kept (λ T is.
           let f = function T is in
           rw (o .term) (walked-lambda (h .arg) (f .entry) (f .there) (f .function) low room (rw (is-kept e) at (body T is)) d)) (w .ends end e ∙ sym (o .ends)) body-same
 
--- a whole term
-module _ {codes s : List ℕ} {marks marks′ : List ℕ} {r : Spent} (w : SpentAt codes s 0 0 0 marks marks′ r) where
-  pub whole-broken : r ≡ Broken → Decides codes s false
-  whole-broken e T is = walked-whole (rw (is-broken e) at (w .walked T is))
+-- whatever the body keeps
+pub lambda-spent : {codes s : List ℕ} {at : ℕ} {h : Node} {code : ℕ} (o : OneAt s at h) → getD codes (h .arg) 0 ≡ code → ¬ (code ≡ 0) → (above floor : ℕ) {under mark : ℕ} →
+    under ≡ code-floor code floor above → mark ≡ code-mark code → (marks : List ℕ) {marks₁ : List ℕ} (k : Bool) (end : ℕ) →
+    SpentAt codes s (at + h .size) (above + 1) under (set marks above mark) marks₁ (spent-of k end) → floor ≤ above → above < length marks →
+    SpentAt codes s at above floor marks marks₁ (spent-of (k && not (eqb (getD marks₁ above 0) 1)) end)
+unfolding spent-of
+lambda-spent o is some above floor u m marks {marks₁} false end w low room = body-broken o is some above floor u m marks w low room refl
+lambda-spent {codes} {s} {at} o is some above floor u m marks {marks₁} true end w low room = go (eqb (getD marks₁ above 0) 1) refl
+  where
+    go : (b : Bool) → eqb (getD marks₁ above 0) 1 ≡ b → SpentAt codes s at above floor marks marks₁ (spent-of (not b) end)
+    go true e = body-unused o is some above floor u m marks w low room refl (eqb-sound _ _ e)
+    go false e = lambda-kept o is some above floor u m marks w low room refl (λ z. false≢true (sym e ∙ eqb-complete _ _ z))
 
-  pub whole-kept : {end : ℕ} → r ≡ To end → Decides codes s true
-  whole-kept e T is = walked-whole (rw (is-kept e) at (w .walked T is))
+-- a whole term
+pub whole-spent : {T : Table} {codes s marks marks′ : List ℕ} (k : Bool) (end : ℕ) → Codes T codes → SpentAt codes s 0 0 0 marks marks′ (spent-of k end) → k ≡ linear T (term-at s 0)
+unfolding spent-of keeps
+whole-spent {T} true end is w = walked-whole (w .walked T is)
+whole-spent {T} false end is w = walked-whole (w .walked T is)

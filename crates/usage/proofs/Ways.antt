@@ -14,16 +14,27 @@ use Rattle.calculus.specs.Theory.Tests.{and-parts, ltb-sound}
 use Rattle.terms.specs.declared.Node.{Node}
 use Rattle.terms.specs.Expressions.{leaf-exp, leaves, nesting, term-at}
 use Rattle.terms.proofs.Views.{LeafAt, OneAt, past-first, TwoAt}
+use Rattle.typing.specs.Walk.{LeafScoped}
 use Rattle.usage.specs.Walk.{InScope, Ready, Whole}
 
 pub leaf-variable : (tag arg : ℕ) → tag ≡ 0 → leaf-exp tag arg ≡ var arg
 unfolding leaf-exp leaves
 leaf-variable tag arg z = rw z
 
-pub ready-whole : {s marks : List ℕ} → Whole s → length marks ≡ max-nesting → Ready s 0 0 0 marks
-ready-whole w long = record { good = w .good; shallow = omega (arith, w .shallow); types = w .types; few = w .few; names = w .names; scope = w .scope; low = omega arith; long = long }
+pub ready-whole : {s env marks : List ℕ} → Whole s → length env ≡ max-nesting → length marks ≡ max-nesting → Ready s 0 0 0 env marks
+ready-whole w wide long = record {
+  good = w .good;
+  shallow = omega (arith, w .shallow);
+  types = w .types;
+  few = w .few;
+  names = w .names;
+  scope = w .scope;
+  low = omega arith;
+  wide = wide;
+  long = long;
+}
 
-module _ {s : List ℕ} {at above floor : ℕ} {marks : List ℕ} {h : Node} (r : Ready s at above floor marks) where
+module _ {s : List ℕ} {at above floor : ℕ} {env marks : List ℕ} {h : Node} (r : Ready s at above floor env marks) where
   -- a node with no subterm
   pub leaf-scope : LeafAt s at h → InScope (h .tag) (h .arg) above marks
   unfolding scoped
@@ -31,6 +42,12 @@ module _ {s : List ℕ} {at above floor : ℕ} {marks : List ℕ} {h : Node} (r 
     bound = λ z. ltb-sound (h .arg) above (rw (l .term, leaf-variable (h .tag) (h .arg) z) at (r .scope));
     room = omega (arith, r .shallow);
     long = r .long;
+  }
+
+  pub leaf-scoped : LeafAt s at h → LeafScoped above (leaf-exp (h .tag) (h .arg))
+  leaf-scoped l = record {
+    count = r .types;
+    scoped = record { entries = r .few; nests = rw (l .term) at (r .shallow); names = r .names; scope = rw (l .term) at (r .scope) };
   }
 
   -- the body of a lambda
@@ -49,8 +66,9 @@ module _ {s : List ℕ} {at above floor : ℕ} {marks : List ℕ} {h : Node} (r 
     pub level-below : above < max-nesting
     level-below = omega (arith, r .shallow, body-nesting)
 
-    pub ready-body : {under : ℕ} {marks′ : List ℕ} → under ≤ above + 1 → length marks′ ≡ length marks → Ready s (at + h .size) (above + 1) under marks′
-    ready-body low same = record {
+    pub ready-body : {under : ℕ} {env′ marks′ : List ℕ} → under ≤ above + 1 → length env′ ≡ length env → length marks′ ≡ length marks →
+        Ready s (at + h .size) (above + 1) under env′ marks′
+    ready-body low wide same = record {
       good = o .good;
       shallow = omega (arith, r .shallow, body-nesting);
       types = r .types;
@@ -58,6 +76,7 @@ module _ {s : List ℕ} {at above floor : ℕ} {marks : List ℕ} {h : Node} (r 
       names = r .names;
       scope = rw (add-one above) (and-parts (ltb (h .arg) (r .types)) _ in-body .1);
       low = low;
+      wide = wide ∙ r .wide;
       long = same ∙ r .long;
     }
 
@@ -71,7 +90,7 @@ module _ {s : List ℕ} {at above floor : ℕ} {marks : List ℕ} {h : Node} (r 
     unfolding nesting
     both-nesting = ap nesting (o .term)
 
-    pub ready-function : Ready s (at + h .size) above floor marks
+    pub ready-function : Ready s (at + h .size) above floor env marks
     ready-function = record {
       good = o .good;
       shallow = omega (arith, r .shallow, both-nesting);
@@ -80,11 +99,13 @@ module _ {s : List ℕ} {at above floor : ℕ} {marks : List ℕ} {h : Node} (r 
       names = r .names;
       scope = and-parts _ _ in-both .0;
       low = r .low;
+      wide = r .wide;
       long = r .long;
     }
 
-    pub ready-argument : {second : ℕ} {marks′ : List ℕ} → second ≡ past-first s at h → length marks′ ≡ length marks → Ready s second above floor marks′
-    ready-argument e same = rw e record {
+    pub ready-argument : {second : ℕ} {env′ marks′ : List ℕ} → second ≡ past-first s at h → length env′ ≡ length env → length marks′ ≡ length marks →
+        Ready s second above floor env′ marks′
+    ready-argument e wide same = rw e record {
       good = o .second;
       shallow = omega (arith, r .shallow, both-nesting);
       types = r .types;
@@ -92,5 +113,6 @@ module _ {s : List ℕ} {at above floor : ℕ} {marks : List ℕ} {h : Node} (r 
       names = r .names;
       scope = and-parts (scoped (r .types) (r .names) above (term-at s (at + h .size))) _ in-both .1;
       low = r .low;
+      wide = wide ∙ r .wide;
       long = same ∙ r .long;
     }

@@ -1,21 +1,14 @@
--- For each type number what a lambda of that type does to the marks: one byte, so that a walk need not have the table.
+-- For each type number what a lambda of that type does to the marks: one number.
 use mathlib.Core.Path.{_≡_}
 use mathlib.Core.Bool.{_||_, cond}
 use mathlib.Core.Option.{Option, none, some}
-use mathlib.Core.List.{List}
-use Prim.Native.Nat.{_+_, _≤_, ℕ}
+use mathlib.Core.List.{List, map}
+use Prim.Native.Nat.{_+_, ℕ}
 use lib.Dec.{eqb, ltb}
 use lib.ListN.{getD}
-use Rattle.calculus.specs.Limits.{max-entries}
 use Rattle.calculus.specs.Syntax.{at}
 use Rattle.calculus.specs.Table as calculus
 use Rattle.spending.specs.Spend.{due-mark, many-mark, new-mark}
-use Rattle.table.specs.declared.Entry.{Entry}
-use Rattle.table.specs.Filled.{as-table}
-
--- the mark of a new variable whose type has this kind
-unfoldable pub kind-mark : ℕ → ℕ
-kind-mark kind = cond (eqb kind 3) due-mark many-mark
 
 -- 0: no function; 1 and 2: usable once, its variable many or once; 3 and 4: usable many times, its variable many or once
 unfoldable pub function-code : ℕ → ℕ → ℕ
@@ -35,11 +28,10 @@ code-mark code = cond (eqb code 1 || eqb code 3) many-mark due-mark
 unfoldable pub code-floor : ℕ → ℕ → ℕ → ℕ
 code-floor code floor above = cond (ltb code 3) floor above
 
--- an array that has the code of each type number
+-- the codes of all type numbers
+unfoldable pub all-codes : calculus.Table → List ℕ
+all-codes T = map (λ (x : calculus.Entry). code-of T (some x)) T
+
+-- a list that has the code of each type number
 pub record Codes (T : calculus.Table) (codes : List ℕ) : Type 0 where
   pub each : (t : ℕ) → getD codes t 0 ≡ lambda-code T t
-
--- a table by value of which cause 4 does not fit
-pub record Lawful (table : List Entry) (count : ℕ) : Type 0 where
-  pub few : count ≤ max-entries
-  pub rule : calculus.TableRule (as-table table count)

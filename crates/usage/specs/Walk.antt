@@ -1,7 +1,7 @@
--- The walk over a term at a position, what it asks and what it answers.
+-- The walk over a term at a position, what it asks and what it answers: document 01's causes 9 and 10.
 use mathlib.Core.Path.{_≡_}
 use mathlib.Core.Bool.{Bool, false, true}
-use mathlib.Core.List.{List}
+use mathlib.Core.List.{List, []}
 use Prim.Native.Nat.{_+_, _<_, _≤_, ℕ}
 use lib.ListN.{length}
 use Rattle.calculus.specs.Limits.{max-entries, max-nesting}
@@ -10,12 +10,15 @@ use Rattle.calculus.specs.Verdict as calculus
 use Rattle.terms.specs.Reader.{end-at, GoodAt}
 use Rattle.terms.specs.Expressions.{leaf-exp, nesting, term-at}
 use Rattle.spending.specs.Levels.{Walked}
-use Rattle.usage.specs.declared.Spent.{Spent}
-use Rattle.usage.specs.declared.Spent.the-variants.{Broken, To}
-use Rattle.usage.specs.Codes.{Codes}
+use Rattle.typing.specs.declared.Typed.{Typed}
+use Rattle.typing.specs.declared.Typed.the-variants as typing
+use Rattle.typing.specs.Walk.{environment, type-at}
+use Rattle.usage.specs.declared.Walked.{Walked as Answer}
+use Rattle.usage.specs.declared.Walked.the-variants.{Has, Nothing}
+use Rattle.usage.specs.Codes.{all-codes, Codes}
 
 -- a term stands at a position, below `above` lambdas whose marks are there; causes 6 and 7 do not fit it
-pub record Ready (s : List ℕ) (at above floor : ℕ) (marks : List ℕ) : Type 0 where
+pub record Ready (s : List ℕ) (at above floor : ℕ) (env marks : List ℕ) : Type 0 where
   pub good : GoodAt s at
   pub shallow : above + nesting (term-at s at) ≤ max-nesting
   pub types : ℕ
@@ -23,6 +26,7 @@ pub record Ready (s : List ℕ) (at above floor : ℕ) (marks : List ℕ) : Type
   pub names : ℕ
   pub scope : calculus.scoped types names above (term-at s at) ≡ true
   pub low : floor ≤ above
+  pub wide : length env ≡ max-nesting
   pub long : length marks ≡ max-nesting
 
 -- the same of a part that is one term
@@ -45,17 +49,46 @@ pub record LeafSpent (tag arg above floor : ℕ) (marks marks′ : List ℕ) (ke
   pub walked : (T : Table) → Walked T floor above marks (leaf-exp tag arg) keeps marks′
   pub same : length marks′ ≡ length marks
 
--- whether a term keeps the rule
+-- a term keeps the rule and ends somewhere, or breaks it
+pub data Spent : Type 0 where
+  To : ℕ → Spent
+  Broken : Spent
+
 unfoldable pub keeps : Spent → Bool
 keeps (To end) = true
 keeps Broken = false
 
--- what the walk answers of the term at a position, with every table that has these codes
+unfoldable pub spent-of : Bool → ℕ → Spent
+spent-of true end = To end
+spent-of false end = Broken
+
+-- what the marks are after the term at a position, with every table that has these codes
 pub record SpentAt (codes s : List ℕ) (at above floor : ℕ) (marks marks′ : List ℕ) (r : Spent) : Type 0 where
   pub walked : (T : Table) → Codes T codes → Walked T floor above marks (term-at s at) (keeps r) marks′
   pub ends : (end : ℕ) → r ≡ To end → end ≡ end-at s at
   pub same : length marks′ ≡ length marks
 
--- whether cause 10 does not fit the term that a part is
-abbrev pub Decides : List ℕ → List ℕ → Bool → Type 0
-Decides codes s r = (T : Table) → Codes T codes → r ≡ calculus.linear T (term-at s 0)
+-- the type that the walk answers, and the walk's answer from a type
+unfoldable pub types-in : Answer → Typed
+types-in (Has n end kept) = typing.Has n end
+types-in Nothing = typing.Nothing
+
+unfoldable pub with-uses : Typed → Bool → Answer
+with-uses (typing.Has n end) kept = Has n end kept
+with-uses typing.Nothing kept = Nothing
+
+-- what the walk leaves of the lent arrays where it answers a type
+pub record Left (T : Table) (s : List ℕ) (at above floor : ℕ) (env env′ marks marks′ : List ℕ) (end : ℕ) (kept : Bool) : Type 0 where
+  pub spent : SpentAt (all-codes T) s at above floor marks marks′ (spent-of kept end)
+  pub around : environment above env′ ≡ environment above env
+  pub wide : length env′ ≡ length env
+
+-- what the walk answers of the term at a position: its type, and whether cause 10 does not fit
+pub record WalkedAt (T : Table) (s : List ℕ) (at above floor : ℕ) (env env′ marks marks′ : List ℕ) (r : Answer) : Type 0 where
+  pub types : types-in r ≡ type-at T (environment above env) s at
+  pub left : (n end : ℕ) (kept : Bool) → r ≡ Has n end kept → Left T s at above floor env env′ marks marks′ end kept
+
+-- the same of the term that a part is
+pub record Decides (T : Table) (s : List ℕ) (r : Answer) : Type 0 where
+  pub types : types-in r ≡ type-at T [] s 0
+  pub uses : (n end : ℕ) (kept : Bool) → r ≡ Has n end kept → kept ≡ calculus.linear T (term-at s 0)

@@ -1,15 +1,20 @@
-// Document 01's cause 10 on the bytes of a term: a walk that has a mark for each lambda above, and is at most 100 deep.
+// The type walk: document 01's causes 9 and 10 on the bytes of a term. It carries the parameter types of the lambdas above and a mark for each, and is at
+// most 100 deep.
 ghost use mathlib.Core.Path.{_≡_};
+ghost use mathlib.Core.Bool.{_&&_, cond, not};
+ghost use mathlib.Core.Option.{some};
 ghost use Prim.Native.Nat.{_≤_};
-ghost use Rattle.calculus.specs.Verdict as calculus;
-ghost use Rattle.terms.specs.Expressions.{term-at};
-ghost use Rattle.table.specs.Filled.{as-table};
-ghost use Rattle.usage.specs.Codes.{kind-mark, function-code, code-mark, code-floor, Codes, Lawful};
-ghost use Rattle.usage.specs.Walk.{InScope, LeafSpent, Ready, SpentAt, Decides, Whole};
+ghost use lib.Dec.{eqb};
+ghost use Rattle.spending.specs.Spend.{due-mark, many-mark};
+ghost use Rattle.table.specs.Entries.{table-of};
+ghost use Rattle.table.specs.Filled.{as-entry};
+ghost use Rattle.usage.specs.Codes.{code-floor, code-mark, code-of, function-code};
+ghost use Rattle.usage.specs.Walk.{Decides, InScope, LeafSpent, Ready, WalkedAt, Whole, with-uses};
 use recipe::Recipe;
 use table::Entry;
 use terms::Head;
 use terms::Node;
+use typing::Typed;
 
 // The mark of a variable: a many-variable, a once-variable still to be used, a once-variable that was used.
 const MANY_MARK: u8 = 0;
@@ -30,20 +35,20 @@ const ONCE_CODE: u8 = 1;
 
 const MANY_CODE: u8 = 3;
 
-// A term keeps the rule and ends here, or breaks it.
-pub enum Spent {
-    To(usize),
-    Broken,
+// A term has a type with this number, it ends here, and whether cause 10 does not fit; or it has no type.
+pub enum Walked {
+    Has(u8, usize, bool),
+    Nothing,
 }
 
-// The mark of a new variable whose type has this kind.
-fn kind_mark(kind: u8) -> u8
-    ensures { λ r. ⌜ (r ≡ kind-mark kind) × (r ≤ 1) ⌝ }
+// The mark of a new variable, whose type is many or not.
+fn new_mark(many: bool) -> u8
+    ensures { λ r. ⌜ (r ≡ cond many many-mark due-mark) × (r ≤ 1) ⌝ }
 {
-    if kind == ONCE_FUNCTION {
-        return DUE_MARK;
+    if many {
+        return MANY_MARK;
     }
-    MANY_MARK
+    DUE_MARK
 }
 
 // What a lambda does whose type has this kind and whose new variable has this mark.
@@ -60,20 +65,14 @@ fn function_code(kind: u8, mark: u8) -> u8
     NO_FUNCTION
 }
 
-// For each type number what a lambda of that type does.
-pub fn codes_of(table: [Entry; Recipe::MAX_ENTRIES], count: usize) -> [u8; Recipe::MAX_ENTRIES]
-    requires { ⌜ Lawful table count ⌝ }
-    ensures { λ r. ⌜ Codes (as-table table count) r ⌝ }
+// What a lambda does whose type has this entry.
+fn code_of(table: &[u8], entry: Entry) -> u8
+    ensures { λ r. ⌜ r ≡ code-of (table-of (now (table .entry))) (some (as-entry entry)) ⌝ }
 {
-    let mut codes = [0u8; Recipe::MAX_ENTRIES];
-    let mut i = 0;
-    while i < count {
-        let it = table[i];
-        let parameter = table[it.p as usize];
-        codes[i] = function_code(it.kind, kind_mark(parameter.kind));
-        i += 1;
-    }
-    codes
+    function_code(
+        entry.kind,
+        new_mark(typing::many_at(table, entry.p as usize)),
+    )
 }
 
 // The mark of a lambda's new variable.
@@ -128,69 +127,94 @@ fn spend_leaf(
     true
 }
 
-// Walks the term at a position, below `above` lambdas whose marks stand outermost first. A once-variable of a level below `floor` is out of reach.
-pub fn spend_at(
-    codes: &[u8; Recipe::MAX_ENTRIES],
+// Both.
+fn both(a: bool, b: bool) -> bool
+    ensures { λ r. ⌜ r ≡ (a && b) ⌝ }
+{
+    a && b
+}
+
+// A lambda keeps the rule if its body does and does not leave its variable due.
+fn leaves(kept: bool, mark: u8) -> bool
+    ensures { λ r. ⌜ r ≡ (kept && not (eqb mark due-mark)) ⌝ }
+{
+    kept && mark != DUE_MARK
+}
+
+// A type, with whether cause 10 does not fit.
+fn with_uses(found: Typed, kept: bool) -> Walked
+    ensures { λ r. ⌜ r ≡ with-uses found kept ⌝ }
+{
+    let Typed::Has(number, end) = found else {
+        return Walked::Nothing;
+    };
+    Walked::Has(number, end, kept)
+}
+
+// Walks the term at a position, below `above` lambdas whose parameter types and marks stand outermost first. A once-variable of a level below `floor`
+// is out of reach. What falls is the part still unread.
+pub fn walk_at(
+    table: &[u8],
     s: &[u8],
     at: usize,
+    env: &mut [u8; Recipe::MAX_NESTING],
     marks: &mut [u8; Recipe::MAX_NESTING],
     above: usize,
     floor: usize,
-) -> Spent
-    requires { ⌜ Ready (now s) at above floor (now marks) ⌝ }
-    ensures { λ r. ⌜ SpentAt (now (codes .entry)) (now (s .entry)) at above floor (now (marks .entry)) (now (marks .exit)) r ⌝ }
+) -> Walked
+    requires { ⌜ Ready (now s) at above floor (now env) (now marks) ⌝ }
+    ensures { λ r. ⌜ WalkedAt (table-of (now (table .entry))) (now (s .entry)) at above floor (now (env .entry)) (now (env .exit)) (now (marks .entry)) (now (marks .exit)) r ⌝ }
 {
     let Head::Is(node) = terms::head_at(s, at) else {
-        return Spent::Broken;
+        return Walked::Nothing;
     };
     let tag = node.tag;
     let arg = node.arg;
     let subterms = node.subterms;
     let next = at + node.size;
     if subterms == 0 {
-        if !spend_leaf(marks, tag, arg, above, floor) {
-            return Spent::Broken;
-        }
-        return Spent::To(next);
+        let number = typing::leaf_type(tag, arg, env, above);
+        return Walked::Has(number, next, spend_leaf(marks, tag, arg, above, floor));
     }
     if subterms == 1 {
-        let code = codes[arg];
+        let entry = typing::entry_at(table, arg);
+        let code = code_of(table, entry);
         if code == NO_FUNCTION {
-            return Spent::Broken;
+            return Walked::Nothing;
         }
         let under = code_floor(code, floor, above);
         marks[above] = code_mark(code);
-        let Spent::To(end) = spend_at(codes, s, next, marks, above + 1, under) else {
-            return Spent::Broken;
+        env[above] = entry.p;
+        let Walked::Has(body, end, kept) = walk_at(table, s, next, env, marks, above + 1, under)
+        else {
+            return Walked::Nothing;
         };
-        if marks[above] == DUE_MARK {
-            return Spent::Broken;
-        }
-        return Spent::To(end);
+        return with_uses(
+            typing::lambda_type(entry, arg as u8, body, end),
+            leaves(kept, marks[above]),
+        );
     }
-    let Spent::To(second) = spend_at(codes, s, next, marks, above, floor) else {
-        return Spent::Broken;
+    let Walked::Has(function, second, first) = walk_at(table, s, next, env, marks, above, floor)
+    else {
+        return Walked::Nothing;
     };
-    spend_at(codes, s, second, marks, above, floor)
+    let Walked::Has(argument, end, kept) = walk_at(table, s, second, env, marks, above, floor)
+    else {
+        return Walked::Nothing;
+    };
+    let entry = typing::entry_at(table, function as usize);
+    with_uses(
+        typing::applied_type(entry, argument, end),
+        both(first, kept),
+    )
 }
 
-// Cause 10 does not fit the term that a part is, with what lambdas of each type do.
-pub fn is_linear(codes: &[u8; Recipe::MAX_ENTRIES], s: &[u8]) -> bool
+// Causes 9 and 10 of the term that a part is.
+pub fn walk(table: &[u8], s: &[u8]) -> Walked
     requires { ⌜ Whole (now s) ⌝ }
-    ensures { λ r. ⌜ Decides (now (codes .entry)) (now (s .entry)) r ⌝ }
+    ensures { λ r. ⌜ Decides (table-of (now (table .entry))) (now (s .entry)) r ⌝ }
 {
+    let mut env = [0u8; Recipe::MAX_NESTING];
     let mut marks = [0u8; Recipe::MAX_NESTING];
-    let Spent::To(_) = spend_at(codes, s, 0, &mut marks, 0, 0) else {
-        return false;
-    };
-    true
-}
-
-// The same with the table.
-pub fn linear(table: [Entry; Recipe::MAX_ENTRIES], count: usize, s: &[u8]) -> bool
-    requires { ⌜ (Lawful table count) × (Whole (now s)) ⌝ }
-    ensures { λ r. ⌜ r ≡ calculus.linear (as-table table count) (term-at (now (s .entry)) 0) ⌝ }
-{
-    let codes = codes_of(table, count);
-    is_linear(&codes, s)
+    walk_at(table, s, 0, &mut env, &mut marks, 0, 0)
 }

@@ -1,29 +1,29 @@
 -- `bays::bay_passes` meets its contract: each test is that of the walk it calls.
 use borrow.Author.Needs.{needs}
 use Rattle.bays.proofs.Known.{count-fits, few-nodes, good-part, has-bay}
-use Rattle.bays.proofs.Answers.{annotations-is, lawful, nesting-is, scope-is, uses-is, whole}
+use Rattle.bays.proofs.Answers.{annotations-is, nesting-is, scope-is}
 use Rattle.bays.proofs.bay_passes.Statement.{statement}
 use Rattle.bays.proofs.bay_passes.Tie as tie
 
 term-bytes-requires : tie.Need-term-bytes-requires
-term-bytes-requires c κs = let p = c .before .pre in has-bay (p .1 .terms) (p .2)
+term-bytes-requires c κs = let p = c .before .pre in has-bay (p .1) (p .2)
 
 enum-told : tie.Need-enum-told
 enum-told c = search needs
 
 nesting-within-requires : tie.Need-nesting-within-requires
-nesting-within-requires c κs = let p = c .before .before .before .before .pre in good-part (p .1 .terms) (p .2) (c .before .before .term-bytes .ensures)
+nesting-within-requires c κs = let p = c .before .before .before .before .pre in good-part (p .1) (p .2) (c .before .before .term-bytes .ensures)
 
 enum-told-2 : tie.Need-enum-told-2
 enum-told-2 c = search needs
 
 bay-count-requires : tie.Need-bay-count-requires
-bay-count-requires c κs = c .before .before .before .before .pre .1 .terms .laid
+bay-count-requires c κs = c .before .before .before .before .pre .1 .laid
 
 scoped-within-requires : tie.Need-scoped-within-requires
 scoped-within-requires c κs =
     let p = c .before .before .before .before .before .pre in
-    let t = p .1 .terms in
+    let t = p .1 in
     let e = c .before .before .before .term-bytes .ensures in
     (good-part t (p .2) e, few-nodes t (p .2) e)
 
@@ -33,17 +33,8 @@ enum-told-3 c = search needs
 annotated-requires : tie.Need-annotated-requires
 annotated-requires c κs =
     let p = c .before .before .before .before .pre in
-    let t = p .1 .terms in
+    let t = p .1 in
     (count-fits t (p .0), good-part t (p .2) (c .before .before .term-bytes .ensures))
-
-enum-told-4 : tie.Need-enum-told-4
-enum-told-4 c = search needs
-
-linear-requires : tie.Need-linear-requires
-linear-requires c κs =
-    let p = c .before .before .before .before .pre in
-    let k = p .1 .scoped (c .enum-told4 .given .1) in
-    (lawful (p .0) (k .terms), whole (p .0) (p .2) (c .before .before .term-bytes .ensures) k)
 
 returns : tie.Need-returns
 returns c =
@@ -60,11 +51,6 @@ returns-3 c =
     let p = c .before .before .before .before .before .pre in
     annotations-is (p .0) (p .2) (c .before .before .before .term-bytes .ensures) _ _ (c .before .enum-told3 .given .1) (c .annotated .ensures)
 
-returns-4 : tie.Need-returns-4
-returns-4 c =
-    let p = c .before .before .before .before .before .pre in
-    uses-is (p .0) (p .2) (c .before .before .before .term-bytes .ensures) _ _ (c .before .enum-told4 .given .1) (c .linear .ensures)
-
 pub bay-passes-spec : {M : Type 1} → statement M
 bay-passes-spec =
     tie.close
@@ -77,9 +63,6 @@ bay-passes-spec =
     scoped-within-requires
     enum-told-3
     annotated-requires
-    enum-told-4
-    linear-requires
     returns
     returns-2
-    returns-3
-    returns-4)
+    returns-3)

@@ -17,7 +17,7 @@ abbrev μ-loop : tie.MeasureT-loop
 μ-loop recipe table count test bays bay₀ bay = bays - bay
 
 bay-count-requires : tie.Need-bay-count-requires Inv-loop μ-loop
-bay-count-requires c κs = c .before .pre .1 .terms .laid
+bay-count-requires c κs = c .before .pre .1 .laid
 
 loop-holds : tie.Need-loop-holds Inv-loop μ-loop
 loop-holds c = passed-none _ _

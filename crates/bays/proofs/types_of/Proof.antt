@@ -1,30 +1,33 @@
 -- `bays::types_of` meets its contract. The loop's invariant: the bays passed have types, and their numbers stand in the array.
-use mathlib.Core.Path.{_∙_, ap, sym}
-use Prim.Native.Nat.{_-_}
+use mathlib.Core.Path.{_∙_, ap, refl}
+use mathlib.Core.List.{List}
+use Prim.Native.Nat.{_-_, ℕ}
 use native.Mathlib.Omega.{arith}
 use borrow.Author.Needs.{needs}
-use Rattle.calculus.specs.Table.{Table}
 use Rattle.calculus.specs.Verdict.{is-many}
 use Rattle.recipe.proofs.Inside.{bays-between}
-use Rattle.bays.proofs.Known.{count-fits}
+use Rattle.table.specs.Entries.{table-of, type-table}
 use Rattle.bays.proofs.Typing.{Typing, typing-all, typing-next, typing-none, typing-not}
 use Rattle.bays.proofs.types_of.Statement.{statement}
 use Rattle.bays.proofs.types_of.Tie as tie
 
 abbrev Inv-loop : tie.InvT-loop
-Inv-loop recipe table count bays numbers₀ many₀ bay₀ numbers many bay = Typing recipe bay many numbers
+Inv-loop recipe bays table numbers₀ many₀ linear₀ bay₀ numbers many linear bay = Typing recipe bay linear many numbers
 
 abbrev μ-loop : tie.MeasureT-loop
-μ-loop recipe table count bays numbers₀ many₀ bay₀ numbers many bay = bays - bay
+μ-loop recipe bays table numbers₀ many₀ linear₀ bay₀ numbers many linear bay = bays - bay
 
 bay-count-requires : tie.Need-bay-count-requires Inv-loop μ-loop
-bay-count-requires c κs = c .before .pre .1 .terms .laid
+bay-count-requires c κs = search needs
+
+table-bytes-requires : tie.Need-table-bytes-requires Inv-loop μ-loop
+table-bytes-requires c κs = search needs
 
 loop-holds : tie.Need-loop-holds Inv-loop μ-loop
 loop-holds c = typing-none _
 
-type-of-requires : tie.Need-type-of-requires Inv-loop μ-loop
-type-of-requires c κs = let p = c .before .before .before .before .pre in (p .0, p .1, omega arith)
+walk-bay-requires : tie.Need-walk-bay-requires Inv-loop μ-loop
+walk-bay-requires c κs = (search needs, omega arith)
 
 enum-known-number : tie.Need-enum-known-number Inv-loop μ-loop
 enum-known-number c = search needs
@@ -33,25 +36,22 @@ enum-told : tie.Need-enum-told Inv-loop μ-loop
 enum-told c = search needs
 
 returns : tie.Need-returns Inv-loop μ-loop
-returns c =
-    let l = c .before .before .before .before in
-    typing-not _ (l .loop .bay) (omega arith) (sym (c .enum-told .given .1) ∙ c .before .before .type-of .ensures)
+returns c = typing-not _ (c .before .before .before .before .loop .bay) (omega arith) (c .before .before .walk-bay .ensures) _ refl (c .enum-told .given .1)
 
-cast-is-many : tie.Need-cast-is-many Inv-loop μ-loop
-cast-is-many c = search needs
+cast-many-at : tie.Need-cast-many-at Inv-loop μ-loop
+cast-many-at c = search needs
 
-is-many-requires : tie.Need-is-many-requires Inv-loop μ-loop
-is-many-requires c κs =
-    let p = c .before .before .before .before .before .before .before .before .pre in
-    count-fits (p .1 .terms) (p .0)
+many-at-requires : tie.Need-many-at-requires Inv-loop μ-loop
+many-at-requires c κs = search needs
 
 both-requires : tie.Need-both-requires Inv-loop μ-loop
 both-requires c κs = search needs
 
+both-requires-2 : tie.Need-both-requires-2 Inv-loop μ-loop
+both-requires-2 c κs = search needs
+
 array-write-numbers : tie.Need-array-write-numbers Inv-loop μ-loop
-array-write-numbers c =
-    let l = c .before .before .before .before .before .before .before in
-    omega (arith, bays-between (l .before .before .before .pre .1 .terms .laid) .high)
+array-write-numbers c = omega (arith, bays-between (c .before .before .before .before .before .before .before .before .before .before .before .before .pre .terms .laid) .high)
 
 add-bay : tie.Need-add-bay Inv-loop μ-loop
 add-bay c = search needs
@@ -60,13 +60,12 @@ loop-less : tie.Need-loop-less Inv-loop μ-loop
 loop-less c = search needs
 
 loop-again : tie.Need-loop-again Inv-loop μ-loop
+unfolding type-table
 loop-again c =
-    let l = c .before .before .before .before .before .before .before in
-    let p = l .before .before .before .pre in
-    typing-next _ (l .loop .bay) (omega arith) _ _ _ _ (l .loop .inv)
-    (sym (c .before .before .before .number .given .1) ∙ c .before .before .before .before .before .type-of .ensures)
-    (c .before .is-many .ensures ∙ ap (λ (T : Table). is-many T (c .before .before .before .number .given .0 .0)) (p .0 .entries))
-    (c .both .ensures)
+    let l = c .before .before .before .before .before .before .before .before in
+    let number = c .before .before .before .before .number .given in
+    typing-next _ (l .loop .bay) (omega arith) (c .before .before .before .before .before .before .walk-bay .ensures) _ _ _ _ _ _ (l .loop .inv) (number .1)
+    (c .before .before .many-at .ensures ∙ ap (λ (t : List ℕ). is-many (table-of t) (number .0 .0)) (l .before .table-bytes .ensures)) (c .before .both .ensures) (c .both2 .ensures)
 
 returns-2 : tie.Need-returns-2 Inv-loop μ-loop
 returns-2 c = typing-all (c .before .loop .inv) (omega arith)
@@ -78,14 +77,16 @@ types-of-spec =
     Inv-loop
     μ-loop
     bay-count-requires
+    table-bytes-requires
     loop-holds
-    type-of-requires
+    walk-bay-requires
     enum-known-number
     enum-told
     returns
-    cast-is-many
-    is-many-requires
+    cast-many-at
+    many-at-requires
     both-requires
+    both-requires-2
     array-write-numbers
     add-bay
     loop-less

@@ -10,11 +10,9 @@ use Rattle.calculus.specs.Table.{TableRule}
 use Rattle.recipe.specs.Laid.{Laid}
 use Rattle.recipe.proofs.Inside.{bays-between}
 use Rattle.table.specs.Entries.{type-table}
-use Rattle.bays.proofs.Known.{reached-annotations, reached-scope, reached-uses}
-use Rattle.bays.specs.declared.Test.the-variants.{Annotations, Scope, Uses}
+use Rattle.bays.specs.declared.Test.the-variants.{Annotations, Scope}
 use Rattle.bays.specs.Tests.{each-passes}
 use Rattle.bays.specs.Stages.{HasTable, Scoped}
-use Rattle.bays.proofs.Typing.{numbered}
 use Rattle.checker.proofs.Verdicts.{Admitted, admitted, all-pass, all-scoped, file-refused, filed, refused-10, refused-11, refused-7, refused-8, refused-9, table-read, terms-refused}
 use Rattle.checker.proofs.check.Statement.{statement}
 use Rattle.checker.proofs.check.Tie as tie
@@ -68,8 +66,8 @@ at-8 c = c .before .before .before
 abbrev at-9 : tie.Else6 → tie.Else5
 at-9 c = c .before .before
 
-tenth : (c : tie.Else6) → each-passes (recipe (at-6 (at-8 (at-9 c)))) Uses ≡ true
-tenth c = sym (c .before .each-passes3 .ensures) ∙ not-false _ (c .if6 .left)
+tenth : (c : tie.Else6) → at-9 c .before .before .types-of .result .linear ≡ true
+tenth c = not-false _ (c .if6 .left)
 
 table-refusal-requires : tie.Need-table-refusal-requires
 table-refusal-requires c κs = search needs
@@ -98,7 +96,7 @@ returns-2 c =
     c .refused2 .ensures ∙ terms-refused _ _ (f .before .table-refusal .ensures) (f .if1 .left) _ (c .before .before .terms-refusal .ensures) (c .before .if2 .taken)
 
 each-passes-requires : tie.Need-each-passes-requires
-each-passes-requires c κs = (table (second c), reached-scope (sixth c .terms))
+each-passes-requires c κs = (table (second c), sixth c .terms)
 
 refused-requires-3 : tie.Need-refused-requires-3
 refused-requires-3 c κs = search needs
@@ -107,7 +105,7 @@ returns-3 : tie.Need-returns-3
 returns-3 c = c .refused3 .ensures ∙ refused-7 (sixth (c .before .before .before)) (sym (c .before .before .each-passes .ensures) ∙ not-true _ (c .before .if3 .taken))
 
 each-passes-requires-2 : tie.Need-each-passes-requires-2
-each-passes-requires-2 c κs = let l = c .before .before in (table (second l), reached-annotations (sixth l .terms))
+each-passes-requires-2 c κs = let l = c .before .before in (table (second l), sixth l .terms)
 
 refused-requires-4 : tie.Need-refused-requires-4
 refused-requires-4 c κs = search needs
@@ -118,7 +116,7 @@ returns-4 c =
     c .refused4 .ensures ∙ refused-8 (sixth (l .before .before)) (seventh l) (sym (c .before .before .each-passes2 .ensures) ∙ not-true _ (c .before .if4 .taken))
 
 types-of-requires : tie.Need-types-of-requires
-types-of-requires c κs = (table (second (at-6 c)), all-in-scope c)
+types-of-requires c κs = all-in-scope c
 
 refused-requires-5 : tie.Need-refused-requires-5
 refused-requires-5 c κs = search needs
@@ -126,10 +124,7 @@ refused-requires-5 c κs = search needs
 returns-5 : tie.Need-returns-5
 returns-5 c =
     let l = c .before .before .before .before in
-    c .refused5 .ensures ∙ refused-9 (sixth (at-6 l)) (seventh (at-7 l)) (eighth l) (numbered (c .before .before .before .types-of .ensures)) (not-true _ (c .before .if5 .taken))
-
-each-passes-requires-3 : tie.Need-each-passes-requires-3
-each-passes-requires-3 c κs = (table (second (at-6 (at-8 c))), reached-uses (all-in-scope (at-8 c)))
+    c .refused5 .ensures ∙ refused-9 (sixth (at-6 l)) (seventh (at-7 l)) (eighth l) (c .before .before .before .types-of .ensures) (not-true _ (c .before .if5 .taken))
 
 refused-requires-6 : tie.Need-refused-requires-6
 refused-requires-6 c κs = search needs
@@ -139,8 +134,8 @@ returns-6 c =
     let k = c .before .before .before in
     let l = at-8 k in
     c .refused6 .ensures
-    ∙ refused-10 (sixth (at-6 l)) (seventh (at-7 l)) (eighth l) (numbered (k .before .before .types-of .ensures)) (not-false _ (k .if5 .left))
-    (sym (c .before .before .each-passes3 .ensures) ∙ not-true _ (c .before .if6 .taken))
+    ∙ refused-10 (sixth (at-6 l)) (seventh (at-7 l)) (eighth l) (k .before .before .types-of .ensures) (not-false _ (k .if5 .left))
+    (not-true _ (c .before .if6 .taken))
 
 refused-requires-7 : tie.Need-refused-requires-7
 refused-requires-7 c κs = search needs
@@ -151,7 +146,7 @@ returns-7 c =
     let k = at-9 j in
     let l = at-8 k in
     c .refused7 .ensures
-    ∙ refused-11 (sixth (at-6 l)) (seventh (at-7 l)) (eighth l) (numbered (k .before .before .types-of .ensures)) (not-false _ (k .if5 .left)) (tenth j)
+    ∙ refused-11 (sixth (at-6 l)) (seventh (at-7 l)) (eighth l) (k .before .before .types-of .ensures) (not-false _ (k .if5 .left)) (tenth j)
     (not-true _ (c .before .if7 .taken))
 
 bay-count-requires : tie.Need-bay-count-requires
@@ -165,7 +160,7 @@ returns-8 c =
     let j = c .before .before .before .before in
     let k = at-9 j in
     let l = at-8 k in
-    all-pass (sixth (at-6 l)) (seventh (at-7 l)) (eighth l) (numbered (k .before .before .types-of .ensures)) (not-false _ (k .if5 .left)) (tenth j)
+    all-pass (sixth (at-6 l)) (seventh (at-7 l)) (eighth l) (k .before .before .types-of .ensures) (not-false _ (k .if5 .left)) (tenth j)
     (not-false _ (c .before .before .if7 .left)) _ (c .bay-count .ensures)
 
 pub check-spec : {M : Type 1} → statement M
@@ -189,7 +184,6 @@ check-spec =
     types-of-requires
     refused-requires-5
     returns-5
-    each-passes-requires-3
     refused-requires-6
     returns-6
     refused-requires-7

@@ -2,7 +2,6 @@
 use mathlib.Core.Path.{_∙_, sym}
 use borrow.Author.Tests.{not-true, not-false}
 use borrow.Author.Needs.{needs}
-use Rattle.bays.proofs.Known.{reached-nesting}
 use Rattle.checker.proofs.Terms.{many-nodes, no-term, none-fits, terms-known, too-deep}
 use Rattle.checker.proofs.terms_refusal.Statement.{statement}
 use Rattle.checker.proofs.terms_refusal.Tie as tie
@@ -26,7 +25,7 @@ each-passes-requires : tie.Need-each-passes-requires
 each-passes-requires c κs =
     let p = c .before .before .before .before .before .before .pre in
     let e = sym (c .before .before .nodes .given .1) ∙ c .before .before .before .before .count-nodes .ensures in
-    (p .2, reached-nesting (terms-known _ _ e (p .0) (p .1) (c .if1 .left)))
+    (p .2, terms-known _ _ e (p .0) (p .1) (c .if1 .left))
 
 returns-3 : tie.Need-returns-3
 returns-3 c =

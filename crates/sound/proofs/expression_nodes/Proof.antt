@@ -1,13 +1,13 @@
 -- `sound::expression_nodes` meets its contract: a law for each return.
 use mathlib.Core.Path.{sym, _∙_}
+use Prim.Native.Nat.{zero-le}
 use borrow.Author.Needs.{needs}
-use borrow.Author.Tests.{not-true, not-false}
-use Rattle.sound.proofs.Expressions.{bytes-over, found, refused, scannable, unscoped}
+use Rattle.sound.proofs.Expressions.{bytes-over, found, refused}
 use Rattle.sound.proofs.expression_nodes.Statement.{statement}
 use Rattle.sound.proofs.expression_nodes.Tie as tie
 
-scan-small-requires : tie.Need-scan-small-requires
-scan-small-requires c κs = search needs
+scan-scoped-requires : tie.Need-scan-scoped-requires
+scan-scoped-requires c κs = (zero-le, c .before .before .before .pre)
 
 enum-known-end : tie.Need-enum-known-end
 enum-known-end c = search needs
@@ -15,40 +15,42 @@ enum-known-end c = search needs
 enum-told : tie.Need-enum-told
 enum-told c = search needs
 
+same-length : tie.Need-same-length
+same-length c = search needs
+
 returns : tie.Need-returns
-returns c = refused _ _ _ (sym (c .enum-told .given .1) ∙ c .before .before .scan-small .ensures)
+returns c =
+    let a = c .before .before .before .before in
+    refused _ _ _ (λ i. a .before .before .before .shared-slice-known .given i .fits) (sym (c .enum-told .given .1) ∙ a .scan-scoped .ensures)
+
+same-length-2 : tie.Need-same-length-2
+same-length-2 c = search needs
 
 returns-2 : tie.Need-returns-2
 returns-2 c =
-    let a = c .before .before in
-    bytes-over _ _ _ _ _ (sym (a .end .given .1) ∙ a .before .before .scan-small .ensures) (c .if1 .taken)
+    let e = c .before .before in
+    let a = e .before .before .before .before in
+    bytes-over _ _ _ (λ i. a .before .before .before .shared-slice-known .given i .fits) _ _ (sym (e .end .given .1) ∙ a .scan-scoped .ensures) (c .if1 .taken)
 
-scoped-within-requires : tie.Need-scoped-within-requires
-scoped-within-requires c κs =
-    let a = c .before .before in
-    scannable _ _ _ _ (sym (a .end .given .1) ∙ a .before .before .scan-small .ensures) (a .before .before .before .before .pre)
+same-length-3 : tie.Need-same-length-3
+same-length-3 c = search needs
 
 returns-3 : tie.Need-returns-3
 returns-3 c =
-    let a = c .before .before .before .before in
-    unscoped _ _ _ _ _ (sym (a .end .given .1) ∙ a .before .before .scan-small .ensures) (λ i. a .before .before .before .shared-slice-known .given i .fits)
-    (sym (c .before .scoped-within .ensures) ∙ not-true _ (c .if2 .taken))
-
-returns-4 : tie.Need-returns-4
-returns-4 c =
-    let a = c .before .before .before .before in
-    found _ _ _ _ _ (sym (a .end .given .1) ∙ a .before .before .scan-small .ensures) (λ i. a .before .before .before .shared-slice-known .given i .fits)
-    (c .before .before .if1 .left) (sym (c .before .scoped-within .ensures) ∙ not-false _ (c .if2 .left))
+    let e = c .before .before in
+    let a = e .before .before .before .before in
+    found _ _ _ (λ i. a .before .before .before .shared-slice-known .given i .fits) _ _ (sym (e .end .given .1) ∙ a .scan-scoped .ensures) (c .if1 .left)
 
 pub expression-nodes-spec : {M : Type 1} → statement M
 expression-nodes-spec =
     tie.close
     (tie.spec
-    scan-small-requires
+    scan-scoped-requires
     enum-known-end
     enum-told
+    same-length
     returns
+    same-length-2
     returns-2
-    scoped-within-requires
-    returns-3
-    returns-4)
+    same-length-3
+    returns-3)

@@ -1,0 +1,20 @@
+-- An entry as one number, so that two entries are compared at once.
+use mathlib.Core.Path.{_≡_}
+use mathlib.Core.Bool.{Bool, _&&_, not, true}
+use mathlib.Core.List.{List}
+use Prim.Native.Nat.{_*_, _+_, _<_, suc, zero, ℕ}
+use lib.Dec.{eqb}
+use lib.ListN.{getD}
+use Rattle.calculus.specs.Limits.{byte-values}
+use Rattle.calculus.specs.Table.{Entry}
+
+-- a number that says an entry of bytes
+pub record Coded (x : Entry) (key : ℕ) : Type 0 where
+  pub code : key ≡ x .kind + 256 * x .p + 65536 * x .q
+  pub kind : x .kind < byte-values
+  pub p : x .p < byte-values
+
+-- a key is not among n of them from place j on
+unfoldable pub absent : ℕ → List ℕ → ℕ → ℕ → Bool
+absent key keys j zero = true
+absent key keys j (suc n) = not (eqb (getD keys j 0) key) && absent key keys (suc j) n
