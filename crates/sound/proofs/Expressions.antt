@@ -1,6 +1,6 @@
 -- What `expression_nodes` answers: one law for each return.
 use mathlib.Core.Path.{_∙_, _≡_, ap, ap₂, refl, sym}
-use mathlib.Core.Bool.{Bool, _&&_, false, false≢true, true}
+use mathlib.Core.Bool.{Bool, _&&_, false≢true, true}
 use mathlib.Core.List.{List, [], _∷_}
 use Prim.Native.Nat.{_+_, _-_, _≤_, zero-le, ℕ}
 use native.Mathlib.Omega.{arith}
