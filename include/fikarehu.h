@@ -7,9 +7,9 @@
  *
  * Overlap. The out buffer must not overlap the recipe or the image.
  *
- * Stack. A check or a load stays within 256 KiB of stack, a step within 1 MiB,
- * on any input. There is no heap and no state between calls: any number of
- * threads may call at once, on buffers of their own.
+ * Stack. Every call stays within 64 KiB of stack, on any input. There is no heap
+ * and no state between calls: any number of threads may call at once, on buffers
+ * of their own.
  *
  * Buffers. A load or a step that writes puts the new image into the first bytes
  * of the out buffer and leaves the bytes beyond as they were. A refusal, done

@@ -4,47 +4,12 @@
  *   cc -std=c11 -O2 -Wall -Wextra -Werror -pthread tests/calls.c target/staticlib/libhost.a -o calls && ./calls
  */
 #define _GNU_SOURCE
-#include "check.h"
+#include "files.h"
 
 #include "../include/fikarehu.h"
 
-enum { LONGEST_FILE = 8192, SMALL_STACK = 256 * 1024, MOST_TABLE = 768 };
-
-/* Case A's table, and with it a many function from unit to unit. */
-static const uint8_t table_a[] = {0, 0, 0, 1, 0, 0, 2, 1, 0};
-static const uint8_t table_unit[] = {0, 0, 0, 1, 0, 0, 2, 1, 0, 4, 0, 0};
 /* T7 of document 01. */
 static const uint8_t table_7[] = {0, 0, 0, 1, 0, 0, 2, 1, 0, 3, 1, 0, 4, 3, 0, 4, 1, 4, 4, 5, 0};
-
-struct file {
-    uint8_t bytes[16 * LONGEST_FILE];
-    size_t length;
-};
-
-static void put_pair(struct file *file, size_t part, size_t offset, size_t length) {
-    uint8_t *pair = file->bytes + 4 + 4 * part;
-    pair[0] = (uint8_t)offset;
-    pair[1] = (uint8_t)(offset >> 8);
-    pair[2] = (uint8_t)length;
-    pair[3] = (uint8_t)(length >> 8);
-}
-
-/* A file whose every bay has the same term. */
-static void make(struct file *file, const uint8_t *table, size_t table_len, const uint8_t *term, size_t term_len,
-                 size_t bays) {
-    size_t at = 4 + 4 * (bays + 1);
-    must(at + table_len + bays * term_len <= sizeof file->bytes, "the file is too long");
-    memcpy(file->bytes, (const uint8_t[]){0x4C, 0x46, 0x01, (uint8_t)(bays + 1)}, 4);
-    put_pair(file, 0, at, table_len);
-    memcpy(file->bytes + at, table, table_len);
-    at += table_len;
-    for (size_t bay = 0; bay < bays; bay++) {
-        put_pair(file, 1 + bay, at, term_len);
-        memcpy(file->bytes + at, term, term_len);
-        at += term_len;
-    }
-    file->length = at;
-}
 
 /* The verdict on bytes placed against a page that traps. */
 static struct fikarehu_verdict check_guarded(const uint8_t *bytes, size_t length) {
@@ -145,52 +110,20 @@ static void nesting_at_the_limit(void) {
     expect_refusal("1,072 nodes", &scratch, 6);
 }
 
-/* A lambda under a hundred lambdas: each takes unit, and its result is the next. */
-static void lambdas_at_the_limit(void) {
-    uint8_t table[MOST_TABLE];
-    uint8_t term[2 * 99 + 1];
-    memcpy(table, table_unit, sizeof table_unit);
-    for (size_t number = 4; number < 256; number++) {
-        memcpy(table + 3 * number, (const uint8_t[]){4, 0, (uint8_t)(number - 1)}, 3);
-    }
-    for (size_t level = 0; level < 99; level++) {
-        term[2 * level] = 1;
-        term[2 * level + 1] = (uint8_t)(101 - level);
-    }
-    term[2 * 99] = 3;
-    make(&scratch, table, sizeof table, term, sizeof term, 10);
-    expect_accepted("99 lambdas in ten bays, 256 entries", &scratch, 10, 101);
-}
-
-/* A file of 8,192 bytes whose one term fills it with that byte, its last byte another one. */
-static void full_of(const char *what, uint8_t tag, uint8_t last, uint32_t refusal) {
-    static uint8_t term[LONGEST_FILE];
-    size_t length = LONGEST_FILE - 12 - sizeof table_a;
-    memset(term, tag, length);
-    term[length - 1] = last;
-    make(&scratch, table_a, sizeof table_a, term, length, 1);
-    must(scratch.length == LONGEST_FILE, "the file has 8,192 bytes");
-    expect_refusal(what, &scratch, refusal);
-}
-
-/* Half applications and half units: one term of 8,171 bytes, nested more than 4,000 deep. */
-static void balanced(void) {
-    static uint8_t term[LONGEST_FILE];
-    size_t length = LONGEST_FILE - 12 - sizeof table_a;
-    memset(term, 2, length / 2);
-    memset(term + length / 2, 3, length - length / 2);
-    make(&scratch, table_a, sizeof table_a, term, length, 1);
-    expect_refusal("applications closed by units", &scratch, 6);
-}
-
 static void worst_files(void) {
-    full_of("applications and nothing else", 2, 2, 5);
-    full_of("applications and an unknown tag", 2, 10, 5);
-    full_of("lambdas and nothing else", 1, 1, 5);
-    full_of("units", 3, 3, 5);
-    balanced();
+    make_full(&scratch, 2, 2);
+    expect_refusal("applications and nothing else", &scratch, 5);
+    make_full(&scratch, 2, 10);
+    expect_refusal("applications and an unknown tag", &scratch, 5);
+    make_full(&scratch, 1, 1);
+    expect_refusal("lambdas and nothing else", &scratch, 5);
+    make_full(&scratch, 3, 3);
+    expect_refusal("units", &scratch, 5);
+    make_balanced(&scratch);
+    expect_refusal("applications closed by units", &scratch, 6);
+    make_lambdas(&scratch);
+    expect_accepted("99 lambdas in ten bays, 256 entries", &scratch, 10, 101);
     nesting_at_the_limit();
-    lambdas_at_the_limit();
 }
 
 static void *worst_files_on_a_thread(void *nothing) {

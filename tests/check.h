@@ -10,6 +10,9 @@
 #include <sys/mman.h>
 #include <unistd.h>
 
+/* The stack that docs/HOST.md asks of a thread that calls. */
+enum { SMALL_STACK = 64 * 1024 };
+
 static unsigned checks, failures;
 
 /* One check; a line for a failure only. */

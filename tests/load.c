@@ -4,12 +4,12 @@
  *   cc -std=c11 -O2 -Wall -Wextra -Werror -pthread tests/load.c target/staticlib/libhost.a -o load && ./load
  */
 #define _GNU_SOURCE
-#include "check.h"
+#include "files.h"
 #include "pattern.h"
 
 #include "../include/fikarehu.h"
 
-enum { LEAST_OUT = 13826, ROOM = 4 * LEAST_OUT, SMALL_STACK = 256 * 1024 };
+enum { LEAST_OUT = 13826, ROOM = 4 * LEAST_OUT };
 
 static const uint8_t case_a[] = {0x4C, 0x46, 1, 2, 0x0C, 0, 9, 0, 0x15, 0, 1, 0, 0, 0, 0, 1, 0, 0, 2, 1, 0, 3};
 static const uint8_t image_a[] = {2, 0, 2, 0, 0x0E, 0, 3, 0, 1, 0, 0x11, 0, 1, 0, 4, 0, 0, 3};
@@ -70,11 +70,28 @@ static void refused_recipes(void) {
     expect_refusal("an unknown tag", changed, sizeof changed, LEAST_OUT, 5);
 }
 
+/* The files that take most of the stack. Ten bays give twenty names: 2 + 120 bytes of heads, a cell's num of three bytes and a term for each. */
+static void worst_recipes(void) {
+    static struct file file;
+    make_full(&file, 2, 2);
+    expect_refusal("applications and nothing else", file.bytes, file.length, LEAST_OUT, 5);
+    make_balanced(&file);
+    expect_refusal("applications closed by units", file.bytes, file.length, LEAST_OUT, 6);
+    make_lambdas(&file);
+    uint8_t *out = out_end() - LEAST_OUT;
+    fill(out, LEAST_OUT);
+    struct fikarehu_loaded loaded = fikarehu_load(file.bytes, file.length, out, LEAST_OUT);
+    CHECK(loaded.refusal == 0 && loaded.bays == 10, "lambdas: refusal %u, %u bays", loaded.refusal, loaded.bays);
+    CHECK(loaded.length == 2 + 6 * 20 + 10 * (3 + 199), "lambdas: length %llu", (unsigned long long)loaded.length);
+    CHECK(kept(out, loaded.length, LEAST_OUT), "lambdas: written beyond the image");
+}
+
 static void *on_a_thread(void *nothing) {
     case_a_into(LEAST_OUT);
     case_a_into(LEAST_OUT + 1);
     case_a_into(ROOM);
     refused_recipes();
+    worst_recipes();
     return nothing;
 }
 

@@ -9,7 +9,7 @@
 
 #include "../include/fikarehu.h"
 
-enum { LEAST_OUT = 13826, MOST_NODES = 4096, ROOM = 1 << 17, SMALL_STACK = 1024 * 1024 };
+enum { LEAST_OUT = 13826, MOST_NODES = 4096, ROOM = 1 << 17 };
 
 /* The image placed against a page that traps. */
 static const uint8_t *place(const uint8_t *image, size_t length) {

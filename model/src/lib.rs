@@ -24,6 +24,7 @@ pub mod reduce;
 pub mod run;
 pub mod step;
 pub mod table;
+pub mod timing;
 pub mod tool;
 pub mod types;
 pub mod typing;

@@ -1,16 +1,18 @@
-//! How fast the library, the plain implementation and the model are on the same inputs.
-//! Without the feature `library` the library is left out, likewise its loader and stepper.
+//! How fast the library, the plain implementation and the model are on the same inputs, in one run.
 
 use model::answers::{Implementation, Model, Plain, RULE};
 use model::draw::Draw;
 use model::examples;
+use model::ffi::Library;
 use model::format::write_parts;
 use model::generate::recipes;
 use model::limits;
-use std::time::{Duration, Instant};
+use model::timing::{fastest, Work};
+use std::time::Duration;
 
-/// How long each measurement takes at least.
-const LEAST: Duration = Duration::from_millis(300);
+/// How often each work is measured, and how long at least.
+const ROUNDS: usize = 15;
+const LEAST: Duration = Duration::from_millis(20);
 
 /// Inputs of one kind.
 struct Corpus {
@@ -57,41 +59,49 @@ fn longest() -> Vec<u8> {
     write_parts(&[table, term])
 }
 
-/// Runs the work over and over: how many times a second, and nanoseconds each.
-fn measure(mut work: impl FnMut() -> u64) -> String {
-    let begin = Instant::now();
-    let mut times = 0;
-    while begin.elapsed() < LEAST {
-        times += work();
-    }
-    let seconds = begin.elapsed().as_secs_f64();
-    let rate = times as f64 / seconds;
-    format!("{rate:>12.0} a second, {:>9.0} ns each", 1e9 / rate)
+/// One row: the library, the plain implementation and the model on the same input.
+fn row(call: &str, input: &str, mut works: [Work; 3]) {
+    let times = fastest(ROUNDS, LEAST, &mut works);
+    let [library, plain, model] = [times[0], times[1], times[2]];
+    let ratio = library / plain;
+    println!("{call:<6} {library:>8.0} {plain:>8.0} {model:>9.0} {ratio:>6.2}  {input}");
 }
 
-fn bench_check(who: &str, implementation: &impl Implementation, corpus: &Corpus) {
-    let measured = measure(|| {
+fn check<'a>(implementation: &'a dyn Implementation, corpus: &'a Corpus) -> Work<'a> {
+    Box::new(|| {
         for file in &corpus.files {
             std::hint::black_box(implementation.check(std::hint::black_box(file)));
         }
         corpus.files.len() as u64
-    });
-    println!("check  {who:<8} {measured}  {}", corpus.name);
+    })
 }
 
-fn bench_load(who: &str, implementation: &impl Implementation, corpus: &Corpus) {
+fn load<'a>(implementation: &'a dyn Implementation, corpus: &'a Corpus) -> Work<'a> {
     let mut out = vec![0; limits::IMAGE_BYTES];
-    if implementation.load(&corpus.files[0], &mut out).is_none() {
-        return;
-    }
-    let measured = measure(|| {
+    Box::new(move || {
         for file in &corpus.files {
             let file = std::hint::black_box(file);
             std::hint::black_box(implementation.load(file, &mut out));
         }
         corpus.files.len() as u64
-    });
-    println!("load   {who:<8} {measured}  {}", corpus.name);
+    })
+}
+
+/// Steps one thread as far as it goes, then begins again.
+fn step<'a>(implementation: &'a dyn Implementation, start: &'a [u8], thread: u64) -> Work<'a> {
+    let mut image = start.to_vec();
+    let mut out = vec![0; limits::IMAGE_BYTES];
+    Box::new(move || {
+        let stepped = implementation.step(std::hint::black_box(&image), thread, &mut out);
+        let stepped = stepped.unwrap_or_default();
+        image.clear();
+        if stepped.outcome == RULE {
+            image.extend_from_slice(&out[..stepped.length as usize]);
+        } else {
+            image.extend_from_slice(start);
+        }
+        1
+    })
 }
 
 /// The starting images of the examples and of some recipes, and an image at the limits.
@@ -120,43 +130,17 @@ fn images() -> Vec<(&'static str, Vec<u8>, u64)> {
     ]
 }
 
-/// Steps one thread as far as it goes, then begins again.
-fn bench_step(who: &str, implementation: &impl Implementation) {
-    for (name, start, thread) in images() {
-        let mut image = start.clone();
-        let mut out = vec![0; limits::IMAGE_BYTES];
-        if implementation.step(&image, thread, &mut out).is_none() {
-            return;
-        }
-        let measured = measure(|| {
-            let stepped = implementation.step(std::hint::black_box(&image), thread, &mut out);
-            let stepped = stepped.unwrap_or_default();
-            image.clear();
-            if stepped.outcome == RULE {
-                image.extend_from_slice(&out[..stepped.length as usize]);
-            } else {
-                image.extend_from_slice(&start);
-            }
-            1
-        });
-        println!("step   {who:<8} {measured}  {name}");
-    }
-}
-
-fn bench(who: &str, implementation: &impl Implementation, corpora: &[Corpus]) {
-    for corpus in corpora {
-        bench_check(who, implementation, corpus);
-    }
-    for corpus in corpora {
-        bench_load(who, implementation, corpus);
-    }
-    bench_step(who, implementation);
-}
-
 fn main() {
     let corpora = corpora();
-    #[cfg(feature = "library")]
-    bench("library", &model::ffi::Library, &corpora);
-    bench("plain", &Plain, &corpora);
-    bench("model", &Model, &corpora);
+    println!("nanoseconds a call: library, plain, model; library / plain; input");
+    let all: [&dyn Implementation; 3] = [&Library, &Plain, &Model];
+    for corpus in &corpora {
+        row("check", corpus.name, all.map(|one| check(one, corpus)));
+    }
+    for corpus in &corpora {
+        row("load", corpus.name, all.map(|one| load(one, corpus)));
+    }
+    for (name, start, thread) in images() {
+        row("step", name, all.map(|one| step(one, &start, thread)));
+    }
 }

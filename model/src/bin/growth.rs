@@ -4,12 +4,13 @@
 use model::answers::{Implementation, Plain};
 use model::ffi::Library;
 use model::format::write_parts;
+use model::timing::{fastest, Work};
 use std::fmt::Write as _;
-use std::time::{Duration, Instant};
+use std::time::Duration;
 
-/// The least time of one measurement, and how many of them, of which the fastest counts.
+/// How long each measurement takes at least, and how often.
 const LEAST: Duration = Duration::from_millis(8);
-const REPEATS: usize = 7;
+const ROUNDS: usize = 7;
 const IMAGE_BYTES: usize = 13_826;
 
 /// One curve: what grows, and the inputs by size.
@@ -72,19 +73,6 @@ fn recipe_of_nesting(nesting: usize) -> Vec<u8> {
         term.splice(0..0, [1, (depth + 2) as u8]);
     }
     write_parts(&[table, term])
-}
-
-/// The fastest of some measurements, in microseconds.
-fn measure(work: impl Fn()) -> f64 {
-    let once = || {
-        let (begin, mut times) = (Instant::now(), 0u32);
-        while begin.elapsed() < LEAST {
-            work();
-            times += 1;
-        }
-        begin.elapsed().as_secs_f64() * 1e6 / f64::from(times)
-    };
-    (0..REPEATS).map(|_| once()).fold(f64::INFINITY, f64::min)
 }
 
 fn curves() -> Vec<Curve> {
@@ -180,8 +168,15 @@ fn main() {
             .iter()
             .map(|&size| {
                 let input = (curve.input)(size);
-                let library = measure(|| (curve.work)(&Library, &input));
-                let plain = measure(|| (curve.work)(&Plain, &input));
+                let all: [&dyn Implementation; 2] = [&Library, &Plain];
+                let mut works = all.map(|one| -> Work {
+                    Box::new(|| {
+                        (curve.work)(one, &input);
+                        1
+                    })
+                });
+                let times = fastest(ROUNDS, LEAST, &mut works);
+                let (library, plain) = (times[0] / 1e3, times[1] / 1e3);
                 println!("{size:>6} {library:>9.2} {plain:>9.2}");
                 (size, library, plain)
             })

@@ -1,0 +1,54 @@
+//! Times of calls by the thread's processor time: what else the machine does counts little. Several works are measured in turn, and of each the
+//! fastest round counts.
+
+use std::time::Duration;
+
+/// `struct timespec` of 64-bit Linux.
+#[repr(C)]
+struct Timespec {
+    seconds: i64,
+    nanoseconds: i64,
+}
+
+const CLOCK_THREAD_CPUTIME_ID: i32 = 3;
+
+extern "C" {
+    fn clock_gettime(clock: i32, time: *mut Timespec) -> i32;
+}
+
+/// The processor time that this thread has had.
+fn processor_time() -> Duration {
+    let mut time = Timespec {
+        seconds: 0,
+        nanoseconds: 0,
+    };
+    // The call writes one timespec, which is ours.
+    unsafe { clock_gettime(CLOCK_THREAD_CPUTIME_ID, &mut time) };
+    Duration::new(time.seconds as u64, time.nanoseconds as u32)
+}
+
+/// Work to be measured; it answers how many calls it made.
+pub type Work<'a> = Box<dyn FnMut() -> u64 + 'a>;
+
+/// Nanoseconds for each call of each work: the fastest of so many rounds, each of at least so long.
+pub fn fastest(rounds: usize, least: Duration, works: &mut [Work]) -> Vec<f64> {
+    let mut best = vec![f64::INFINITY; works.len()];
+    for _ in 0..rounds {
+        for (work, best) in works.iter_mut().zip(&mut best) {
+            *best = best.min(round(least, work));
+        }
+    }
+    best
+}
+
+/// Nanoseconds for each call, in one round.
+fn round(least: Duration, work: &mut Work) -> f64 {
+    let (begin, mut calls) = (processor_time(), 0);
+    loop {
+        calls += work();
+        let taken = processor_time() - begin;
+        if taken >= least {
+            return taken.as_secs_f64() * 1e9 / calls as f64;
+        }
+    }
+}

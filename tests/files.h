@@ -1,0 +1,78 @@
+/* Recipe files that the C tests build, and the worst of them for the stack. */
+#ifndef FIKAREHU_TESTS_FILES_H
+#define FIKAREHU_TESTS_FILES_H
+
+#include "check.h"
+
+enum { LONGEST_FILE = 8192, MOST_TABLE = 768 };
+
+/* Case A's table, and with it a many function from unit to unit. */
+static const uint8_t table_a[] = {0, 0, 0, 1, 0, 0, 2, 1, 0};
+static const uint8_t table_unit[] = {0, 0, 0, 1, 0, 0, 2, 1, 0, 4, 0, 0};
+
+struct file {
+    uint8_t bytes[16 * LONGEST_FILE];
+    size_t length;
+};
+
+static void put_pair(struct file *file, size_t part, size_t offset, size_t length) {
+    uint8_t *pair = file->bytes + 4 + 4 * part;
+    pair[0] = (uint8_t)offset;
+    pair[1] = (uint8_t)(offset >> 8);
+    pair[2] = (uint8_t)length;
+    pair[3] = (uint8_t)(length >> 8);
+}
+
+/* A file whose every bay has the same term. */
+static void make(struct file *file, const uint8_t *table, size_t table_len, const uint8_t *term, size_t term_len,
+                 size_t bays) {
+    size_t at = 4 + 4 * (bays + 1);
+    must(at + table_len + bays * term_len <= sizeof file->bytes, "the file is too long");
+    memcpy(file->bytes, (const uint8_t[]){0x4C, 0x46, 0x01, (uint8_t)(bays + 1)}, 4);
+    put_pair(file, 0, at, table_len);
+    memcpy(file->bytes + at, table, table_len);
+    at += table_len;
+    for (size_t bay = 0; bay < bays; bay++) {
+        put_pair(file, 1 + bay, at, term_len);
+        memcpy(file->bytes + at, term, term_len);
+        at += term_len;
+    }
+    file->length = at;
+}
+
+/* A lambda under a hundred lambdas, in ten bays and with 256 entries: each takes unit, and its result is the next. Each bay has type 101. */
+static void make_lambdas(struct file *file) {
+    uint8_t table[MOST_TABLE];
+    uint8_t term[2 * 99 + 1];
+    memcpy(table, table_unit, sizeof table_unit);
+    for (size_t number = 4; number < 256; number++) {
+        memcpy(table + 3 * number, (const uint8_t[]){4, 0, (uint8_t)(number - 1)}, 3);
+    }
+    for (size_t level = 0; level < 99; level++) {
+        term[2 * level] = 1;
+        term[2 * level + 1] = (uint8_t)(101 - level);
+    }
+    term[2 * 99] = 3;
+    make(file, table, sizeof table, term, sizeof term, 10);
+}
+
+/* A file of 8,192 bytes whose one term fills it with that byte, its last byte another one. */
+static void make_full(struct file *file, uint8_t tag, uint8_t last) {
+    static uint8_t term[LONGEST_FILE];
+    size_t length = LONGEST_FILE - 12 - sizeof table_a;
+    memset(term, tag, length);
+    term[length - 1] = last;
+    make(file, table_a, sizeof table_a, term, length, 1);
+    must(file->length == LONGEST_FILE, "the file has 8,192 bytes");
+}
+
+/* Half applications and half units: one term of 8,171 bytes, nested more than 4,000 deep. */
+static void make_balanced(struct file *file) {
+    static uint8_t term[LONGEST_FILE];
+    size_t length = LONGEST_FILE - 12 - sizeof table_a;
+    memset(term, 2, length / 2);
+    memset(term + length / 2, 3, length - length / 2);
+    make(file, table_a, sizeof table_a, term, length, 1);
+}
+
+#endif
