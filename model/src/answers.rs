@@ -50,9 +50,9 @@ fn sixteen(types: &[u8]) -> [u8; BAYS] {
 /// Something that checks, loads and steps as the C interface does.
 pub trait Implementation {
     fn check(&self, recipe: &[u8]) -> VerdictAnswer;
-    /// `None` where there is no loader yet.
+    /// `None` where a library has no loader.
     fn load(&self, recipe: &[u8], out: &mut [u8]) -> Option<LoadedAnswer>;
-    /// `None` where there is no stepper yet.
+    /// `None` where a library has no stepper.
     fn step(&self, image: &[u8], thread: u64, out: &mut [u8]) -> Option<SteppedAnswer>;
 }
 

@@ -4,14 +4,12 @@ use crate::answers::{Implementation, LoadedAnswer, SteppedAnswer, VerdictAnswer}
 
 extern "C" {
     fn fikarehu_check(recipe: *const u8, recipe_len: usize) -> VerdictAnswer;
-    #[cfg(feature = "load")]
     fn fikarehu_load(
         recipe: *const u8,
         recipe_len: usize,
         out: *mut u8,
         out_len: usize,
     ) -> LoadedAnswer;
-    #[cfg(feature = "step")]
     fn fikarehu_step(
         image: *const u8,
         image_len: usize,
@@ -28,14 +26,12 @@ pub fn check(recipe: &[u8]) -> VerdictAnswer {
 }
 
 /// The starting image of a recipe.
-#[cfg(feature = "load")]
 pub fn load(recipe: &[u8], out: &mut [u8]) -> LoadedAnswer {
     // SAFETY: two slices that are lent meanwhile; the second is lent alone, so they do not overlap.
     unsafe { fikarehu_load(recipe.as_ptr(), recipe.len(), out.as_mut_ptr(), out.len()) }
 }
 
 /// A step of one thread.
-#[cfg(feature = "step")]
 pub fn step(image: &[u8], thread: u64, out: &mut [u8]) -> SteppedAnswer {
     // SAFETY: two slices that are lent meanwhile; the second is lent alone, so they do not overlap.
     unsafe {
@@ -57,23 +53,11 @@ impl Implementation for Library {
         check(recipe)
     }
 
-    #[cfg(feature = "load")]
     fn load(&self, recipe: &[u8], out: &mut [u8]) -> Option<LoadedAnswer> {
         Some(load(recipe, out))
     }
 
-    #[cfg(not(feature = "load"))]
-    fn load(&self, _: &[u8], _: &mut [u8]) -> Option<LoadedAnswer> {
-        None
-    }
-
-    #[cfg(feature = "step")]
     fn step(&self, image: &[u8], thread: u64, out: &mut [u8]) -> Option<SteppedAnswer> {
         Some(step(image, thread, out))
-    }
-
-    #[cfg(not(feature = "step"))]
-    fn step(&self, _: &[u8], _: u64, _: &mut [u8]) -> Option<SteppedAnswer> {
-        None
     }
 }

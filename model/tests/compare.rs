@@ -152,11 +152,10 @@ mod with_the_library {
         assert!(text.ends_with("\nsame\n"), "{text}");
         let steps = text.lines().filter(|line| line.starts_with("step:"));
         let compared = steps.into_iter().all(|line| !line.contains("not compared"));
-        assert!(compared || !cfg!(feature = "step"), "{text}");
+        assert!(compared, "{text}");
     }
 
     /// Steps as the library does, but for the byte after the image when rule 7 was applied.
-    #[cfg(feature = "step")]
     const WRITES_BEYOND: &str = "\
 #include \"fikarehu.h\"
 struct fikarehu_stepped honest_step(const uint8_t *, size_t, uint64_t, uint8_t *, size_t);
@@ -168,7 +167,6 @@ struct fikarehu_stepped fikarehu_step(const uint8_t *image, size_t image_len, ui
 }
 ";
 
-    #[cfg(feature = "step")]
     #[test]
     fn an_impostor_that_writes_beyond_the_image() {
         let folder = Folder::new();

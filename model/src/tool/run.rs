@@ -7,9 +7,9 @@ pub mod report;
 pub mod runner;
 
 use crate::answers::Implementation;
-#[cfg(not(feature = "step"))]
+#[cfg(not(feature = "library"))]
 use crate::answers::Model as Stepper;
-#[cfg(feature = "step")]
+#[cfg(feature = "library")]
 use crate::ffi::Library as Stepper;
 use crate::limits;
 use crate::tool::arguments::{Arguments, Form};
@@ -38,7 +38,7 @@ const FORM: Form = Form {
 const TURNS: u64 = 1_000;
 
 /// Who steps.
-pub const STEPPER: &str = if cfg!(feature = "step") {
+pub const STEPPER: &str = if cfg!(feature = "library") {
     "the proved library"
 } else {
     "the model (this tool is built without the library)"
