@@ -4,7 +4,5 @@
 mod Tests
 -- the types of constants, on the entries
 mod Instances
--- a node apart from its subterms
-mod Leaves
--- terms one after the other, and the law of the loop
-mod Pending
+-- a leaf by its tag
+pub mod Leaves

@@ -1,2 +1,2 @@
--- Document 01, cause 8, node by node.
+-- Document 01, cause 8, entry by entry.
 pub mod Nodes

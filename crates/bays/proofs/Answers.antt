@@ -6,36 +6,28 @@ use Prim.Native.Nat.{_<_, ℕ}
 use lib.Dec.{leb}
 use lib.ListN.{length}
 use Rattle.calculus.specs.Limits.{max-nesting}
-use Rattle.calculus.specs.Verdict.{annotated, scoped}
+use Rattle.calculus.specs.Verdict.{scoped}
 use Rattle.terms.specs.Expressions.{nesting, term-at}
 use Rattle.recipe.specs.File.{bays, table-bytes, term-bytes}
-use Rattle.table.specs.declared.Entry.{Entry}
-use Rattle.table.specs.Filled.{as-table}
 use Rattle.table.specs.Entries.{table-of, type-table}
 use Rattle.table.proofs.Tables.{count-between}
 use Rattle.usage.specs.declared.Walked.{Walked}
 use Rattle.usage.specs.Walk.{Decides, Whole}
 use Rattle.verdict.specs.Bays.{bay-term}
 use Rattle.bays.specs.declared.Test.{Test}
-use Rattle.bays.specs.declared.Test.the-variants.{Nesting, Scope, Annotations}
+use Rattle.bays.specs.declared.Test.the-variants.{Nesting, Scope}
 use Rattle.bays.specs.Tests.{passes, bay-passes}
-use Rattle.bays.specs.Stages.{HasTable, Scoped, Terms}
+use Rattle.bays.specs.Stages.{Scoped}
 use Rattle.bays.proofs.Known.{good-part, scoped-part, shallow-part}
 
-module _ {s : List ℕ} {table : List Entry} {count : ℕ} (h : HasTable s table count) where
-  module _ {bay : ℕ} (b : bay < bays s) {l : List ℕ} (e : l ≡ term-bytes s bay) where
-    module _ (test : Test) (r : Bool) where
-      pub nesting-is : test ≡ Nesting → r ≡ leb (nesting (term-at l 0)) max-nesting → r ≡ bay-passes s test bay
-      unfolding bay-passes passes bay-term
-      nesting-is k q = rw (q, k, e) refl
+module _ (s : List ℕ) (bay : ℕ) {l : List ℕ} (e : l ≡ term-bytes s bay) (test : Test) (r : Bool) where
+  pub nesting-is : test ≡ Nesting → r ≡ leb (nesting (term-at l 0)) max-nesting → r ≡ bay-passes s test bay
+  unfolding bay-passes passes bay-term
+  nesting-is k q = rw (q, k, e) refl
 
-      pub scope-is : test ≡ Scope → (names : ℕ) → names ≡ bays s → r ≡ scoped count names 0 (term-at l 0) → r ≡ bay-passes s test bay
-      unfolding bay-passes passes bay-term
-      scope-is k names m q = rw (q, k, e, m, h .number) refl
-
-      pub annotations-is : test ≡ Annotations → r ≡ annotated (as-table table count) (term-at l 0) → r ≡ bay-passes s test bay
-      unfolding bay-passes passes bay-term
-      annotations-is k q = rw (q, k, e, h .entries) refl
+  pub scope-is : test ≡ Scope → (types names : ℕ) → types ≡ length (type-table s) → names ≡ bays s → r ≡ scoped types names 0 (term-at l 0) → r ≡ bay-passes s test bay
+  unfolding bay-passes passes bay-term
+  scope-is k types names t m q = rw (q, k, e, m, t) refl
 
 -- the walk of one bay
 module _ {s : List ℕ} (c : Scoped s) {bay : ℕ} (b : bay < bays s) {l : List ℕ} (e : l ≡ term-bytes s bay) where

@@ -5,7 +5,7 @@ use mathlib.Core.List.{List, [], _∷_}
 use Prim.Native.Nat.{_<_, _≤_, zero-le, ℕ}
 use native.Mathlib.Omega.{arith}
 use lib.ListN.{length}
-use Rattle.calculus.specs.Limits.{max-entries, max-nesting, max-nodes}
+use Rattle.calculus.specs.Limits.{max-nesting, max-nodes}
 use Rattle.calculus.specs.Image.{nodes}
 use Rattle.calculus.specs.Verdict.{scoped}
 use Rattle.calculus.specs.Theory.Tests.{leb-sound}
@@ -15,17 +15,15 @@ use Rattle.terms.specs.Expressions.{nesting, term-at}
 use Rattle.terms.proofs.Fronts.{is-good}
 use Rattle.recipe.specs.File.{bays, term-bytes}
 use Rattle.recipe.specs.Laid.{HasBay}
-use Rattle.table.specs.declared.Entry.{Entry}
 use Rattle.table.specs.Entries.{type-table}
-use Rattle.table.proofs.Tables.{count-between}
 use Rattle.verdict.specs.Bays.{bay-term}
 use Rattle.bays.specs.declared.Test.the-variants.{Nesting, Scope}
 use Rattle.bays.specs.Terms.{bay-single, bay-nodes}
 use Rattle.bays.specs.Tests.{passes, bay-passes, each-passes}
-use Rattle.bays.specs.Stages.{HasTable, Scoped, Terms}
+use Rattle.bays.specs.Stages.{Scoped, Terms}
 use Rattle.bays.proofs.Each.{part-below}
 
-good-of : (l : List ℕ) (g : Got) → read-term l ≡ g → one-term g ≡ true → Good l
+pub good-of : (l : List ℕ) (g : Got) → read-term l ≡ g → one-term g ≡ true → Good l
 unfolding one-term
 good-of l none r e = absurd (false≢true e)
 good-of l (got t []) r e = is-good l t [] r
@@ -55,7 +53,3 @@ module _ {s : List ℕ} (c : Scoped s) {bay : ℕ} (b : bay < bays s) {l : List 
   pub scoped-part : scoped (length (type-table s)) (bays s) 0 (term-at l 0) ≡ true
   unfolding each-passes bay-passes passes bay-term
   scoped-part = rw e (each-below-sound (bays s) (bay-passes s Scope) (c .scope) bay b)
-
--- the table by value
-pub count-fits : {s : List ℕ} {table : List Entry} {count : ℕ} → Terms s → HasTable s table count → count ≤ max-entries
-count-fits t h = omega (arith, h .number, count-between (t .laid) .high)

@@ -10,3 +10,5 @@ pub mod Counting
 pub mod Answers
 -- the types added one by one
 pub mod Typing
+-- one pass for causes 5 to 8
+pub mod Standing

@@ -2,9 +2,11 @@
 
 -- cause 5: the nodes of all terms
 pub mod Terms
--- causes 6 to 8: one test for all bays
+-- causes 6 and 7: one test for all bays
 pub mod Tests
 -- what the causes already passed give
 pub mod Stages
+-- none of causes 5 to 8 fits
+pub mod Standing
 -- causes 9 to 11: the types
 pub mod Numbers

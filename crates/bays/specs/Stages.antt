@@ -3,23 +3,15 @@ use mathlib.Core.Path.{_≡_}
 use mathlib.Core.Bool.{true}
 use mathlib.Core.List.{List}
 use Prim.Native.Nat.{_≤_, ℕ}
-use lib.ListN.{length}
 use Rattle.calculus.specs.Lists.{each-below, sum-below}
 use Rattle.calculus.specs.Limits.{max-recipe-nodes}
 use Rattle.calculus.specs.Table.{TableRule}
 use Rattle.recipe.specs.File.{bays}
 use Rattle.recipe.specs.Laid.{Laid}
-use Rattle.table.specs.declared.Entry.{Entry}
 use Rattle.table.specs.Entries.{type-table}
-use Rattle.table.specs.Filled.{as-table}
 use Rattle.bays.specs.declared.Test.the-variants.{Nesting, Scope}
 use Rattle.bays.specs.Terms.{bay-single, bay-nodes}
 use Rattle.bays.specs.Tests.{each-passes}
-
--- a table by value is the recipe's
-pub record HasTable (s : List ℕ) (table : List Entry) (count : ℕ) : Type 0 where
-  pub entries : as-table table count ≡ type-table s
-  pub number : count ≡ length (type-table s)
 
 -- no cause up to 5 fits, and the nodes are not above the limit
 pub record Terms (s : List ℕ) : Type 0 where

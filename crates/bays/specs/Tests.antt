@@ -1,4 +1,4 @@
--- Document 01, causes 6 (nesting), 7 and 8, as one test that goes over all bays.
+-- Document 01, causes 6 (nesting) and 7, as one test that goes over all bays.
 use mathlib.Core.Bool.{Bool}
 use mathlib.Core.List.{List}
 use Prim.Native.Nat.{ℕ}
@@ -8,19 +8,18 @@ use Rattle.calculus.specs.Lists.{each-below}
 use Rattle.calculus.specs.Limits.{max-nesting}
 use Rattle.calculus.specs.Syntax.{Exp}
 use Rattle.calculus.specs.Table.{Table}
-use Rattle.calculus.specs.Verdict.{annotated, scoped}
+use Rattle.calculus.specs.Verdict.{scoped}
 use Rattle.terms.specs.Expressions.{nesting}
 use Rattle.recipe.specs.File.{bays}
 use Rattle.table.specs.Entries.{type-table}
 use Rattle.verdict.specs.Bays.{bay-term}
 use Rattle.bays.specs.declared.Test.{Test}
-use Rattle.bays.specs.declared.Test.the-variants.{Nesting, Scope, Annotations}
+use Rattle.bays.specs.declared.Test.the-variants.{Nesting, Scope}
 
 -- what a test asks of a term, by a type table and a number of bays
 unfoldable pub passes : Table → ℕ → Test → Exp → Bool
 passes T names Nesting e = leb (nesting e) max-nesting
 passes T names Scope e = scoped (length T) names 0 e
-passes T names Annotations e = annotated T e
 
 unfoldable pub bay-passes : List ℕ → Test → ℕ → Bool
 bay-passes s test bay = passes (type-table s) (bays s) test (bay-term s bay)

@@ -5,21 +5,20 @@ ghost use Prim.Native.Nat.{_<_};
 ghost use Rattle.recipe.specs.File.{bays, term-bytes};
 ghost use Rattle.recipe.specs.Laid.{Laid};
 ghost use Rattle.bays.specs.Tests.{bay-passes, each-passes};
+ghost use Rattle.bays.specs.Standing.{all-stand};
 ghost use Rattle.bays.specs.Terms.{nodes-in};
-ghost use Rattle.bays.specs.Stages.{HasTable, Scoped, Terms};
+ghost use Rattle.bays.specs.Stages.{Scoped, Terms};
 ghost use Rattle.bays.specs.Numbers.{Numbered};
 ghost use Rattle.table.specs.Entries.{type-table};
 ghost use Rattle.usage.specs.Walk.{Decides};
 use recipe::Recipe;
 use scans::Part;
-use table::Entry;
 use usage::Walked;
 
-// A test of a bay's term: causes 6 (its nesting), 7 and 8.
+// A test of a bay's term: causes 6 (its nesting) and 7.
 pub enum Test {
     Nesting,
     Scope,
-    Annotations,
 }
 
 // The types of the bays: whether each has one, whether cause 10 fits none, whether all are many, and their numbers.
@@ -49,39 +48,49 @@ pub fn count_nodes(recipe: &[u8]) -> Part
     Part::Nodes(total)
 }
 
+// None of causes 5 to 8 fits: all bays in one pass each. Where one fits, it is not said which.
+pub fn each_stands(recipe: &[u8]) -> bool
+    requires { ⌜ Laid (now recipe) ⌝ }
+    ensures { λ r. ⌜ r ≡ all-stand (now (recipe .entry)) ⌝ }
+{
+    let bays = recipe::bay_count(recipe);
+    let table = recipe::table_bytes(recipe);
+    let mut total: usize = 0;
+    let mut bay: usize = 0;
+    while bay < bays {
+        let term = recipe::term_bytes(recipe, bay);
+        let Part::Nodes(nodes) = glance::glance(table, bays, term) else {
+            return false;
+        };
+        total += nodes;
+        bay += 1;
+    }
+    total <= Recipe::MAX_NODES
+}
+
 // The term of a bay passes a test.
-fn bay_passes(
-    recipe: &[u8],
-    bay: usize,
-    table: [Entry; Recipe::MAX_ENTRIES],
-    count: usize,
-    test: Test,
-) -> bool
-    requires { ⌜ HasTable (now recipe) table count × Terms (now recipe) × (bay < bays (now recipe)) ⌝ }
+fn bay_passes(recipe: &[u8], bay: usize, test: Test) -> bool
+    requires { ⌜ Terms (now recipe) × (bay < bays (now recipe)) ⌝ }
     ensures { λ r. ⌜ r ≡ bay-passes (now (recipe .entry)) test bay ⌝ }
 {
+    let types = table::entry_count(recipe);
+    let names = recipe::bay_count(recipe);
     let term = recipe::term_bytes(recipe, bay);
     match test {
         Test::Nesting => scans::nesting_within(term, 0, Recipe::MAX_NESTING),
-        Test::Scope => scans::scoped_within(term, 0, count, recipe::bay_count(recipe)),
-        Test::Annotations => annotations::annotated(table, count, term),
+        Test::Scope => scans::scoped_within(term, 0, types, names),
     }
 }
 
 // The terms of all bays pass a test.
-pub fn each_passes(
-    recipe: &[u8],
-    table: [Entry; Recipe::MAX_ENTRIES],
-    count: usize,
-    test: Test,
-) -> bool
-    requires { ⌜ HasTable (now recipe) table count × Terms (now recipe) ⌝ }
+pub fn each_passes(recipe: &[u8], test: Test) -> bool
+    requires { ⌜ Terms (now recipe) ⌝ }
     ensures { λ r. ⌜ r ≡ each-passes (now (recipe .entry)) test ⌝ }
 {
     let bays = recipe::bay_count(recipe);
     let mut bay: usize = 0;
     while bay < bays {
-        if !bay_passes(recipe, bay, table, count, test) {
+        if !bay_passes(recipe, bay, test) {
             return false;
         }
         bay += 1;

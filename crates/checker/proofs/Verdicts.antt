@@ -12,21 +12,19 @@ use Rattle.calculus.specs.Theory.Tests.{eqb-differ}
 use Rattle.calculus.specs.Theory.Tabulate.{every-tabulate, length-tabulate}
 use Rattle.recipe.specs.File.{bays, cause-1, cause-2, cause-3}
 use Rattle.recipe.specs.Laid.{Laid}
-use Rattle.table.specs.declared.Entry.{Entry}
 use Rattle.table.specs.Entries.{cause-4, table-refusal, type-table}
-use Rattle.table.specs.Filled.{filled}
-use Rattle.table.proofs.Arrays.{as-table-filled}
 use Rattle.table.proofs.Tables.{table-admitted-iff}
 use Rattle.verdict.specs.declared.Verdict.{Verdict}
 use Rattle.verdict.specs.Bays.{bay-term, bay-terms, cause-5, cause-6}
 use Rattle.verdict.specs.Verdict.{accepted, refusal, refused, verdict-of}
 use Rattle.bays.specs.declared.BayTypes.{BayTypes}
-use Rattle.bays.specs.declared.Test.the-variants.{Annotations, Nesting, Scope}
+use Rattle.bays.specs.declared.Test.the-variants.{Scope}
 use Rattle.bays.specs.Tests.{bay-passes, each-passes, passes}
-use Rattle.bays.specs.Stages.{HasTable, Scoped, Terms}
+use Rattle.bays.specs.Standing.{bay-annotated}
+use Rattle.bays.specs.Stages.{Scoped}
 use Rattle.bays.specs.Numbers.{bay-linear, bay-number, has-many, has-type, Numbered}
-use Rattle.checker.specs.Refusals.{terms-refusal}
-use Rattle.checker.proofs.Terms.{neither}
+use Rattle.checker.specs.Refusals.{parts-refusal}
+use Rattle.checker.proofs.Parts.{none-of-parts}
 
 -- the first number that is not 0
 unfoldable first-of : ℕ → ℕ → ℕ
@@ -42,10 +40,22 @@ first-some (suc m) n d = refl
 abbrev lowest : Bool → Bool → Bool → Bool → Bool → ℕ
 lowest a b c d f = cond (not a) 7 (cond (not b) 8 (cond (not c) 9 (cond (not d) 10 (cond (not f) 11 0))))
 
+-- causes 9 to 11
+abbrev late : Bool → Bool → Bool → ℕ
+late c d f = cond (not c) 9 (cond (not d) 10 (cond (not f) 11 0))
+
 module _ (s : List ℕ) where
-  by-bays : verdict (type-table s) (bay-terms s)
-      ≡ lowest (each-passes s Scope) (each-passes s Annotations) (each-below (bays s) (has-type s)) (each-below (bays s) (bay-linear s)) (each-below (bays s) (has-many s))
-  unfolding verdict bay-terms each-passes bay-passes passes has-type has-many bay-linear bay-number
+  abbrev typed : Bool
+  typed = each-below (bays s) (has-type s)
+
+  abbrev kept : Bool
+  kept = each-below (bays s) (bay-linear s)
+
+  abbrev many : Bool
+  many = each-below (bays s) (has-many s)
+
+  by-bays : verdict (type-table s) (bay-terms s) ≡ lowest (each-passes s Scope) (each-below (bays s) (bay-annotated s)) typed kept many
+  unfolding verdict bay-terms each-passes bay-passes passes bay-annotated has-type has-many bay-linear bay-number
   by-bays =
       let f = bay-term s in
       let n = bays s in
@@ -59,19 +69,23 @@ module _ (s : List ℕ) where
         every-tabulate (λ e. on-number (type-number T [] e) (is-many T)) n f,
       ) refl
 
-  by-causes : refusal s ≡ first-of (table-refusal s) (first-of (terms-refusal s) (verdict (type-table s) (bay-terms s)))
-  unfolding refusal table-refusal terms-refusal first-of
-  by-causes = go (cause-1 s) (cause-2 s) (cause-3 s) (cause-4 s) (cause-5 s) (cause-6 s) _
+  by-causes : refusal s ≡ first-of (table-refusal s) (first-of (parts-refusal s) (late typed kept many))
+  unfolding refusal table-refusal parts-refusal first-of
+  by-causes =
+      rw by-bays
+      (go (cause-1 s) (cause-2 s) (cause-3 s) (cause-4 s) (cause-5 s) (cause-6 s) (not (each-passes s Scope)) (not (each-below (bays s) (bay-annotated s))) (late typed kept many))
     where
-      go : (a b c d f g : Bool) (n : ℕ) → cond a 1 (cond b 2 (cond c 3 (cond d 4 (cond f 5 (cond g 6 n)))))
-          ≡ first-of (cond a 1 (cond b 2 (cond c 3 (cond d 4 0)))) (first-of (cond f 5 (cond g 6 0)) n)
-      go true b c d f g n = refl
-      go false true c d f g n = refl
-      go false false true d f g n = refl
-      go false false false true f g n = refl
-      go false false false false true g n = refl
-      go false false false false false true n = refl
-      go false false false false false false n = refl
+      go : (a b c d f g h i : Bool) (n : ℕ) → cond a 1 (cond b 2 (cond c 3 (cond d 4 (cond f 5 (cond g 6 (cond h 7 (cond i 8 n)))))))
+          ≡ first-of (cond a 1 (cond b 2 (cond c 3 (cond d 4 0)))) (first-of (cond f 5 (cond g 6 (cond h 7 (cond i 8 0)))) n)
+      go true b c d f g h i n = refl
+      go false true c d f g h i n = refl
+      go false false true d f g h i n = refl
+      go false false false true f g h i n = refl
+      go false false false false true g h i n = refl
+      go false false false false false true h i n = refl
+      go false false false false false false true i n = refl
+      go false false false false false false false true n = refl
+      go false false false false false false false false n = refl
 
   -- what a refusal's number says
   refused-is : (n : ℕ) → refusal s ≡ n → (n ≡ 0 → ⊥) → refused n ≡ verdict-of s
@@ -91,66 +105,44 @@ module _ (s : List ℕ) (file : ℕ) (e : file ≡ table-refusal s) where
   pub filed : file ≡ 0 → Laid s × TableRule (type-table s)
   filed z = table-admitted-iff s .0 (sym e ∙ z)
 
-pub table-read : (s : List ℕ) (table : List Entry) (count : ℕ) → table ≡ filled (type-table s) → count ≡ length (type-table s) → HasTable s table count
-table-read s table count e n = record { entries = rw e (as-table-filled (type-table s) count n); number = n }
+-- The parts
 
--- The terms
-
--- no cause up to 6 fits
+-- no cause up to 8 fits
 pub record Admitted (s : List ℕ) : Type 0 where
-  pub terms : Terms s
-  pub shallow : each-passes s Nesting ≡ true
-  pub rest : refusal s ≡ verdict (type-table s) (bay-terms s)
+  pub scoped : Scoped s
+  pub rest : refusal s ≡ late (typed s) (kept s) (many s)
 
-module _ (s : List ℕ) (file : ℕ) (e : file ≡ table-refusal s) (z : file ≡ 0) (terms : ℕ) (f : terms ≡ terms-refusal s) where
-  past-file : refusal s ≡ first-of terms (verdict (type-table s) (bay-terms s))
+module _ (s : List ℕ) (file : ℕ) (e : file ≡ table-refusal s) (z : file ≡ 0) (parts : ℕ) (f : parts ≡ parts-refusal s) where
+  past-file : refusal s ≡ first-of parts (late (typed s) (kept s) (many s))
   unfolding first-of
   past-file = by-causes s ∙ rw (← e, z, ← f) refl
 
-  pub terms-refused : (terms ≡ 0 → ⊥) → refused terms ≡ verdict-of s
-  terms-refused d = refused-is s terms (past-file ∙ first-some _ _ d) d
+  pub parts-refused : (parts ≡ 0 → ⊥) → refused parts ≡ verdict-of s
+  parts-refused d = refused-is s parts (past-file ∙ first-some _ _ d) d
 
-  pub admitted : terms ≡ 0 → Admitted s
+  pub admitted : parts ≡ 0 → Admitted s
   unfolding first-of
-  admitted w =
-      let (l, r) = filed s file e z in
-      let (t, n) = neither s l r (sym f ∙ w) in
-      record { terms = t; shallow = n; rest = past-file ∙ rw w refl }
+  admitted w = let (l, r) = filed s file e z in record { scoped = none-of-parts s l r (sym f ∙ w); rest = past-file ∙ rw w refl }
 
--- Causes 7 to 11
+-- Causes 9 to 11
 
 -- an answer that accepts
 abbrev pub accepting : ℕ → List ℕ → Verdict
 accepting b types = record { refusal = 0; bays = b; types = types }
 
-module _ {s : List ℕ} (a : Admitted s) where
-  decided : refusal s
-      ≡ lowest (each-passes s Scope) (each-passes s Annotations) (each-below (bays s) (has-type s)) (each-below (bays s) (bay-linear s)) (each-below (bays s) (has-many s))
-  decided = a .rest ∙ by-bays s
+module _ {s : List ℕ} (a : Admitted s) {types : BayTypes} (n : Numbered s types) where
+  pub refused-9 : types .each ≡ false → refused 9 ≡ verdict-of s
+  refused-9 p = refused-is s 9 (a .rest ∙ rw (← (n .each), p) refl) (λ z. omega arith)
 
-  pub refused-7 : each-passes s Scope ≡ false → refused 7 ≡ verdict-of s
-  refused-7 p = refused-is s 7 (decided ∙ rw p refl) (λ z. omega arith)
+  module _ (p₉ : types .each ≡ true) where
+    pub refused-10 : types .linear ≡ false → refused 10 ≡ verdict-of s
+    refused-10 p = refused-is s 10 (a .rest ∙ rw (← (n .each), p₉, ← (n .linear p₉), p) refl) (λ z. omega arith)
 
-  module _ (p₇ : each-passes s Scope ≡ true) where
-    pub all-scoped : Scoped s
-    all-scoped = record { terms = a .terms; shallow = a .shallow; scope = p₇ }
+    module _ (p₁₀ : types .linear ≡ true) where
+      pub refused-11 : types .many ≡ false → refused 11 ≡ verdict-of s
+      refused-11 p = refused-is s 11 (a .rest ∙ rw (← (n .each), p₉, ← (n .linear p₉), p₁₀, ← (n .many p₉), p) refl) (λ z. omega arith)
 
-    pub refused-8 : each-passes s Annotations ≡ false → refused 8 ≡ verdict-of s
-    refused-8 p = refused-is s 8 (decided ∙ rw (p₇, p) refl) (λ z. omega arith)
-
-    module _ (p₈ : each-passes s Annotations ≡ true) {types : BayTypes} (n : Numbered s types) where
-      pub refused-9 : types .each ≡ false → refused 9 ≡ verdict-of s
-      refused-9 p = refused-is s 9 (decided ∙ rw (p₇, p₈, ← (n .each), p) refl) (λ z. omega arith)
-
-      module _ (p₉ : types .each ≡ true) where
-        pub refused-10 : types .linear ≡ false → refused 10 ≡ verdict-of s
-        refused-10 p = refused-is s 10 (decided ∙ rw (p₇, p₈, ← (n .each), p₉, ← (n .linear p₉), p) refl) (λ z. omega arith)
-
-        module _ (p₁₀ : types .linear ≡ true) where
-          pub refused-11 : types .many ≡ false → refused 11 ≡ verdict-of s
-          refused-11 p = refused-is s 11 (decided ∙ rw (p₇, p₈, ← (n .each), p₉, ← (n .linear p₉), p₁₀, ← (n .many p₉), p) refl) (λ z. omega arith)
-
-          pub all-pass : types .many ≡ true → (b : ℕ) → b ≡ bays s → accepting b (types .numbers) ≡ verdict-of s
-          all-pass p b e =
-              ap₂ accepting e (n .numbers p₉)
-              ∙ accepted-is s (decided ∙ rw (p₇, p₈, ← (n .each), p₉, ← (n .linear p₉), p₁₀, ← (n .many p₉), p) refl)
+      pub all-pass : types .many ≡ true → (b : ℕ) → b ≡ bays s → accepting b (types .numbers) ≡ verdict-of s
+      all-pass p b e =
+          ap₂ accepting e (n .numbers p₉)
+          ∙ accepted-is s (a .rest ∙ rw (← (n .each), p₉, ← (n .linear p₉), p₁₀, ← (n .many p₉), p) refl)

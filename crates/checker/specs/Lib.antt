@@ -1,4 +1,4 @@
 -- Checking a recipe file. What is answered stands in crate verdict.
 
--- causes 5 and 6
+-- causes 5 to 8
 pub mod Refusals

@@ -4,12 +4,10 @@ ghost use Rattle.calculus.specs.Table.{TableRule};
 ghost use Rattle.recipe.specs.Laid.{Laid};
 ghost use Rattle.table.specs.Entries.{type-table};
 ghost use Rattle.verdict.specs.Verdict.{refused, verdict-of};
-ghost use Rattle.bays.specs.Stages.{HasTable};
-ghost use Rattle.checker.specs.Refusals.{terms-refusal};
+ghost use Rattle.checker.specs.Refusals.{parts-refusal, terms-refusal};
 use bays::Test;
 use recipe::Recipe;
 use scans::Part;
-use table::Entry;
 use verdict::Verdict;
 
 // A refusal has its number and nothing else.
@@ -24,8 +22,8 @@ fn refused(number: u8) -> Verdict
 }
 
 // Causes 5 and 6: the number of the lower one that fits, or 0.
-fn terms_refusal(recipe: &[u8], table: [Entry; Recipe::MAX_ENTRIES], count: usize) -> u8
-    requires { ⌜ Laid (now recipe) × TableRule (type-table (now recipe)) × HasTable (now recipe) table count ⌝ }
+fn terms_refusal(recipe: &[u8]) -> u8
+    requires { ⌜ Laid (now recipe) × TableRule (type-table (now recipe)) ⌝ }
     ensures { λ r. ⌜ r ≡ terms-refusal (now (recipe .entry)) ⌝ }
 {
     let Part::Nodes(nodes) = bays::count_nodes(recipe) else {
@@ -34,10 +32,28 @@ fn terms_refusal(recipe: &[u8], table: [Entry; Recipe::MAX_ENTRIES], count: usiz
     if Recipe::MAX_NODES < nodes {
         return 6;
     }
-    if !bays::each_passes(recipe, table, count, Test::Nesting) {
+    if !bays::each_passes(recipe, Test::Nesting) {
         return 6;
     }
     0
+}
+
+// Causes 5 to 8: the number of the lowest that fits, or 0. One pass decides whether one fits; only then is it sought.
+fn parts_refusal(recipe: &[u8]) -> u8
+    requires { ⌜ Laid (now recipe) × TableRule (type-table (now recipe)) ⌝ }
+    ensures { λ r. ⌜ r ≡ parts-refusal (now (recipe .entry)) ⌝ }
+{
+    if bays::each_stands(recipe) {
+        return 0;
+    }
+    let terms = terms_refusal(recipe);
+    if terms != 0 {
+        return terms;
+    }
+    if !bays::each_passes(recipe, Test::Scope) {
+        return 7;
+    }
+    8
 }
 
 // The verdict on a recipe file: the lowest cause that fits, or the bays' types.
@@ -48,17 +64,9 @@ pub fn check(recipe: &[u8]) -> Verdict
     if file != 0 {
         return refused(file);
     }
-    let table = table::table_in(recipe);
-    let count = table::entry_count(recipe);
-    let terms = terms_refusal(recipe, table, count);
-    if terms != 0 {
-        return refused(terms);
-    }
-    if !bays::each_passes(recipe, table, count, Test::Scope) {
-        return refused(7);
-    }
-    if !bays::each_passes(recipe, table, count, Test::Annotations) {
-        return refused(8);
+    let parts = parts_refusal(recipe);
+    if parts != 0 {
+        return refused(parts);
     }
     let found = bays::types_of(recipe);
     if !found.each {

@@ -5,12 +5,12 @@ use table::Entry;
 use terms::Node;
 ghost use mathlib.Core.Path.{_≡_};
 ghost use mathlib.Core.Option.{some};
-ghost use Prim.Native.Nat.{_<_, _≤_};
-ghost use Rattle.calculus.specs.Limits.{byte-values, max-entries};
+ghost use Prim.Native.Nat.{_<_};
+ghost use Rattle.calculus.specs.Limits.{byte-values};
 ghost use Rattle.calculus.specs.Verdict.{is-function-kind, is-many, lambda-number, result-number};
 ghost use Rattle.terms.specs.Expressions.{leaf-exp};
 ghost use Rattle.table.specs.Entries.{table-of};
-ghost use Rattle.table.specs.Filled.{as-entry, as-table};
+ghost use Rattle.table.specs.Filled.{as-entry};
 ghost use Rattle.typing.specs.Entries.{entry-of};
 ghost use Rattle.typing.specs.Walk.{environment, HasNumber, LeafScoped, typed};
 
@@ -34,38 +34,11 @@ impl Typed {
     pub const MANY: u8 = 4;
 }
 
-// The entry with a number; where there is none, an unused one.
-pub fn entry_of(table: [Entry; Recipe::MAX_ENTRIES], count: usize, t: usize) -> Entry
-    requires { ⌜ count ≤ max-entries ⌝ }
-    ensures { λ r. ⌜ as-entry r ≡ entry-of (as-table table count) t ⌝ }
-{
-    if t < count {
-        return table[t];
-    }
-    Entry {
-        kind: 0,
-        p: 0,
-        q: 0,
-    }
-}
-
 // An entry of this kind is a function.
 pub fn is_function(kind: u8) -> bool
     ensures { λ r. ⌜ r ≡ is-function-kind kind ⌝ }
 {
     kind == Typed::ONCE || kind == Typed::MANY
-}
-
-// Document 01, cause 11: whether a type has multiplicity many.
-pub fn is_many(table: [Entry; Recipe::MAX_ENTRIES], count: usize, t: usize) -> bool
-    requires { ⌜ count ≤ max-entries ⌝ }
-    ensures { λ r. ⌜ r ≡ is-many (as-table table count) t ⌝ }
-{
-    if t < count {
-        let kind = table[t].kind;
-        return kind != Typed::ONCE;
-    }
-    false
 }
 
 // The entry with a number, in the bytes of a table; where there is none, an unused one.
@@ -88,7 +61,7 @@ pub fn entry_at(table: &[u8], t: usize) -> Entry
     }
 }
 
-// Document 01, cause 11, by the bytes of a table.
+// Document 01, cause 11: whether a type has multiplicity many, by the bytes of a table.
 pub fn many_at(table: &[u8], t: usize) -> bool
     requires { ⌜ t < byte-values ⌝ }
     ensures { λ r. ⌜ r ≡ is-many (table-of (now (table .entry))) t ⌝ }

@@ -4,33 +4,33 @@ use borrow.Author.Needs.{needs}
 use borrow.Author.Tests.{eq-eqb, ne-eqb}
 use lib.ListN.{drop}
 use Rattle.calculus.specs.Verdict.{is-cell-type}
-use Rattle.table.specs.Filled.{as-table}
+use Rattle.table.specs.Entries.{table-of}
 use Rattle.annotations.proofs.Tests.{Asks, fails, last, pass, refuse, stands}
 use Rattle.annotations.proofs.Instances.{cell-type-list, cell-type-tests}
 use Rattle.annotations.proofs.is_cell_type.Statement.{statement}
 use Rattle.annotations.proofs.is_cell_type.Tie as tie
 
 -- the tests that are left, n of them passed, where the entries are looked up
-abbrev Left : ℕ → tie.After-entry-of2 → Type 0
+abbrev Left : ℕ → tie.After-entry-at2 → Type 0
 Left n l =
-    let a = l .before .before .before .args in
-    let T = as-table (a .table) (a .count) in
-    Asks (is-cell-type T (a .t)) (drop n (cell-type-list T (l .before .before .entry-of .result) (l .entry-of2 .result)))
+    let a = l .before .before .before .before .args in
+    let T = table-of (a .table .now) in
+    Asks (is-cell-type T (a .t)) (drop n (cell-type-list T (l .before .before .entry-at .result) (l .entry-at2 .result)))
 
-tests : (l : tie.After-entry-of2) → Left 0 l
-tests l = cell-type-tests _ _ _ (l .before .before .entry-of .ensures) _ (l .entry-of2 .ensures)
+tests : (l : tie.After-entry-at2) → Left 0 l
+tests l = cell-type-tests _ _ _ (l .before .before .entry-at .ensures) _ (l .entry-at2 .ensures)
 
 function : (f : tie.Else1) → Left 1 (f .before .before)
 function f = pass (tests (f .before .before)) (stands (f .before .is-function .ensures) (f .if1 .left))
 
-entry-of-requires : tie.Need-entry-of-requires
-entry-of-requires c κs = search needs
+entry-at-requires : tie.Need-entry-at-requires
+entry-at-requires c κs = search needs
 
-cast-entry-of : tie.Need-cast-entry-of
-cast-entry-of c = search needs
+cast-entry-at : tie.Need-cast-entry-at
+cast-entry-at c = search needs
 
-entry-of-requires-2 : tie.Need-entry-of-requires-2
-entry-of-requires-2 c κs = search needs
+entry-at-requires-2 : tie.Need-entry-at-requires-2
+entry-at-requires-2 c κs = search needs
 
 is-function-requires : tie.Need-is-function-requires
 is-function-requires c κs = search needs
@@ -58,9 +58,9 @@ pub is-cell-type-spec : {M : Type 1} → statement M
 is-cell-type-spec =
     tie.close
     (tie.spec
-    entry-of-requires
-    cast-entry-of
-    entry-of-requires-2
+    entry-at-requires
+    cast-entry-at
+    entry-at-requires-2
     is-function-requires
     returns
     returns-2

@@ -4,40 +4,40 @@ use borrow.Author.Needs.{needs}
 use borrow.Author.Tests.{eq-eqb, ne-eqb}
 use lib.ListN.{drop}
 use Rattle.calculus.specs.Verdict.{is-exch-type}
-use Rattle.table.specs.Filled.{as-table}
+use Rattle.table.specs.Entries.{table-of}
 use Rattle.annotations.proofs.Tests.{Asks, fails, last, pass, refuse, stands}
 use Rattle.annotations.proofs.Instances.{exch-type-list, exch-type-tests}
 use Rattle.annotations.proofs.is_exch_type.Statement.{statement}
 use Rattle.annotations.proofs.is_exch_type.Tie as tie
 
 -- the tests that are left, n of them passed, where the entries are looked up
-abbrev Left : ℕ → tie.After-entry-of3 → Type 0
+abbrev Left : ℕ → tie.After-entry-at3 → Type 0
 Left n l =
-    let a = l .before .before .before .before .before .args in
-    let T = as-table (a .table) (a .count) in
-    Asks (is-exch-type T (a .t)) (drop n (exch-type-list T (l .before .before .before .before .entry-of .result) (l .before .before .entry-of2 .result) (l .entry-of3 .result)))
+    let a = l .before .before .before .before .before .before .args in
+    let T = table-of (a .table .now) in
+    Asks (is-exch-type T (a .t)) (drop n (exch-type-list T (l .before .before .before .before .entry-at .result) (l .before .before .entry-at2 .result) (l .entry-at3 .result)))
 
-tests : (l : tie.After-entry-of3) → Left 0 l
+tests : (l : tie.After-entry-at3) → Left 0 l
 tests l =
-    exch-type-tests _ _ _ (l .before .before .before .before .entry-of .ensures) _ _ (l .before .before .entry-of2 .ensures) (l .entry-of3 .ensures)
+    exch-type-tests _ _ _ (l .before .before .before .before .entry-at .ensures) _ _ (l .before .before .entry-at2 .ensures) (l .entry-at3 .ensures)
 
 function : (f : tie.Else1) → Left 1 (f .before .before)
 function f = pass (tests (f .before .before)) (stands (f .before .is-function .ensures) (f .if1 .left))
 
-entry-of-requires : tie.Need-entry-of-requires
-entry-of-requires c κs = search needs
+entry-at-requires : tie.Need-entry-at-requires
+entry-at-requires c κs = search needs
 
-cast-entry-of : tie.Need-cast-entry-of
-cast-entry-of c = search needs
+cast-entry-at : tie.Need-cast-entry-at
+cast-entry-at c = search needs
 
-entry-of-requires-2 : tie.Need-entry-of-requires-2
-entry-of-requires-2 c κs = search needs
+entry-at-requires-2 : tie.Need-entry-at-requires-2
+entry-at-requires-2 c κs = search needs
 
-cast-entry-of-2 : tie.Need-cast-entry-of-2
-cast-entry-of-2 c = search needs
+cast-entry-at-2 : tie.Need-cast-entry-at-2
+cast-entry-at-2 c = search needs
 
-entry-of-requires-3 : tie.Need-entry-of-requires-3
-entry-of-requires-3 c κs = search needs
+entry-at-requires-3 : tie.Need-entry-at-requires-3
+entry-at-requires-3 c κs = search needs
 
 is-function-requires : tie.Need-is-function-requires
 is-function-requires c κs = search needs
@@ -69,11 +69,11 @@ pub is-exch-type-spec : {M : Type 1} → statement M
 is-exch-type-spec =
     tie.close
     (tie.spec
-    entry-of-requires
-    cast-entry-of
-    entry-of-requires-2
-    cast-entry-of-2
-    entry-of-requires-3
+    entry-at-requires
+    cast-entry-at
+    entry-at-requires-2
+    cast-entry-at-2
+    entry-at-requires-3
     is-function-requires
     returns
     returns-2

@@ -4,26 +4,26 @@ use borrow.Author.Needs.{needs}
 use borrow.Author.Tests.{eq-eqb, ne-eqb}
 use lib.ListN.{drop}
 use Rattle.calculus.specs.Verdict.{is-handle-type}
-use Rattle.table.specs.Filled.{as-table}
+use Rattle.table.specs.Entries.{table-of}
 use Rattle.annotations.proofs.Tests.{Asks, fails, last, pass, refuse, stands}
 use Rattle.annotations.proofs.Instances.{handle-type-list, handle-type-tests}
 use Rattle.annotations.proofs.is_handle_type.Statement.{statement}
 use Rattle.annotations.proofs.is_handle_type.Tie as tie
 
 -- the tests that are left, n of them passed, where the entries are looked up
-abbrev Left : ℕ → tie.After-entry-of4 → Type 0
+abbrev Left : ℕ → tie.After-entry-at4 → Type 0
 Left n l =
-    let a = l .before .before .before .before .before .before .before .args in
-    let T = as-table (a .table) (a .count) in
-    let w = l .before .before .before .before .before .before .entry-of .result in
-    let o = l .before .before .before .before .entry-of2 .result in
-    let i = l .before .before .entry-of3 .result in
-    Asks (is-handle-type T (a .t)) (drop n (handle-type-list T w o i (l .entry-of4 .result)))
+    let a = l .before .before .before .before .before .before .before .before .args in
+    let T = table-of (a .table .now) in
+    let w = l .before .before .before .before .before .before .entry-at .result in
+    let o = l .before .before .before .before .entry-at2 .result in
+    let i = l .before .before .entry-at3 .result in
+    Asks (is-handle-type T (a .t)) (drop n (handle-type-list T w o i (l .entry-at4 .result)))
 
-tests : (l : tie.After-entry-of4) → Left 0 l
+tests : (l : tie.After-entry-at4) → Left 0 l
 tests l =
-    handle-type-tests _ _ _ (l .before .before .before .before .before .before .entry-of .ensures) _ _ _
-    (l .before .before .before .before .entry-of2 .ensures) (l .before .before .entry-of3 .ensures) (l .entry-of4 .ensures)
+    handle-type-tests _ _ _ (l .before .before .before .before .before .before .entry-at .ensures) _ _ _
+    (l .before .before .before .before .entry-at2 .ensures) (l .before .before .entry-at3 .ensures) (l .entry-at4 .ensures)
 
 function : (f : tie.Else1) → Left 1 (f .before .before)
 function f = pass (tests (f .before .before)) (stands (f .before .is-function .ensures) (f .if1 .left))
@@ -37,26 +37,26 @@ inner f = pass (outer (f .before .before)) (stands (f .before .is-function3 .ens
 handle : (f : tie.Else4) → Left 4 (f .before .before .before .before .before .before .before .before)
 handle f = pass (inner (f .before .before)) (stands (f .before .is-handle-of .ensures) (f .if4 .left))
 
-entry-of-requires : tie.Need-entry-of-requires
-entry-of-requires c κs = search needs
+entry-at-requires : tie.Need-entry-at-requires
+entry-at-requires c κs = search needs
 
-cast-entry-of : tie.Need-cast-entry-of
-cast-entry-of c = search needs
+cast-entry-at : tie.Need-cast-entry-at
+cast-entry-at c = search needs
 
-entry-of-requires-2 : tie.Need-entry-of-requires-2
-entry-of-requires-2 c κs = search needs
+entry-at-requires-2 : tie.Need-entry-at-requires-2
+entry-at-requires-2 c κs = search needs
 
-cast-entry-of-2 : tie.Need-cast-entry-of-2
-cast-entry-of-2 c = search needs
+cast-entry-at-2 : tie.Need-cast-entry-at-2
+cast-entry-at-2 c = search needs
 
-entry-of-requires-3 : tie.Need-entry-of-requires-3
-entry-of-requires-3 c κs = search needs
+entry-at-requires-3 : tie.Need-entry-at-requires-3
+entry-at-requires-3 c κs = search needs
 
-cast-entry-of-3 : tie.Need-cast-entry-of-3
-cast-entry-of-3 c = search needs
+cast-entry-at-3 : tie.Need-cast-entry-at-3
+cast-entry-at-3 c = search needs
 
-entry-of-requires-4 : tie.Need-entry-of-requires-4
-entry-of-requires-4 c κs = search needs
+entry-at-requires-4 : tie.Need-entry-at-requires-4
+entry-at-requires-4 c κs = search needs
 
 is-function-requires : tie.Need-is-function-requires
 is-function-requires c κs = search needs
@@ -85,28 +85,28 @@ returns-4 c = refuse (inner (c .before .before)) (fails (c .before .is-handle-of
 returns-5 : tie.Need-returns-5
 returns-5 c = refuse (handle (c .before .before .before)) (ne-eqb _ _ (c .if5 .taken))
 
-cast-is-many : tie.Need-cast-is-many
-cast-is-many c = search needs
+cast-many-at : tie.Need-cast-many-at
+cast-many-at c = search needs
 
-is-many-requires : tie.Need-is-many-requires
-is-many-requires c κs = search needs
+many-at-requires : tie.Need-many-at-requires
+many-at-requires c κs = search needs
 
 returns-6 : tie.Need-returns-6
 returns-6 c =
     let e = c .before .before in
-    last (pass (handle (e .before .before .before)) (eq-eqb _ _ (e .if5 .left))) (c .is-many .ensures)
+    last (pass (handle (e .before .before .before)) (eq-eqb _ _ (e .if5 .left))) (c .many-at .ensures)
 
 pub is-handle-type-spec : {M : Type 1} → statement M
 is-handle-type-spec =
     tie.close
     (tie.spec
-    entry-of-requires
-    cast-entry-of
-    entry-of-requires-2
-    cast-entry-of-2
-    entry-of-requires-3
-    cast-entry-of-3
-    entry-of-requires-4
+    entry-at-requires
+    cast-entry-at
+    entry-at-requires-2
+    cast-entry-at-2
+    entry-at-requires-3
+    cast-entry-at-3
+    entry-at-requires-4
     is-function-requires
     returns
     is-function-requires-2
@@ -116,6 +116,6 @@ is-handle-type-spec =
     is-handle-of-requires
     returns-4
     returns-5
-    cast-is-many
-    is-many-requires
+    cast-many-at
+    many-at-requires
     returns-6)

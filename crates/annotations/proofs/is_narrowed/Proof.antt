@@ -5,11 +5,11 @@ use Rattle.annotations.proofs.Instances.{narrowed-many}
 use Rattle.annotations.proofs.is_narrowed.Statement.{statement}
 use Rattle.annotations.proofs.is_narrowed.Tie as tie
 
-is-many-requires : tie.Need-is-many-requires
-is-many-requires c κs = search needs
+many-at-requires : tie.Need-many-at-requires
+many-at-requires c κs = search needs
 
 returns : tie.Need-returns
-returns c = c .is-many .ensures ∙ narrowed-many _ _
+returns c = c .many-at .ensures ∙ narrowed-many _ _
 
 pub is-narrowed-spec : {M : Type 1} → statement M
-is-narrowed-spec = tie.close (tie.spec is-many-requires returns)
+is-narrowed-spec = tie.close (tie.spec many-at-requires returns)

@@ -3,33 +3,33 @@ use Prim.Native.Nat.{ℕ}
 use borrow.Author.Needs.{needs}
 use lib.ListN.{drop}
 use Rattle.calculus.specs.Verdict.{is-thread-type}
-use Rattle.table.specs.Filled.{as-table}
+use Rattle.table.specs.Entries.{table-of}
 use Rattle.annotations.proofs.Tests.{Asks, fails, last, pass, refuse, stands}
 use Rattle.annotations.proofs.Instances.{thread-type-list, thread-type-tests}
 use Rattle.annotations.proofs.is_thread_type.Statement.{statement}
 use Rattle.annotations.proofs.is_thread_type.Tie as tie
 
 -- the tests that are left, n of them passed, where the entries are looked up
-abbrev Left : ℕ → tie.After-entry-of2 → Type 0
+abbrev Left : ℕ → tie.After-entry-at2 → Type 0
 Left n l =
-    let a = l .before .before .before .args in
-    let T = as-table (a .table) (a .count) in
-    Asks (is-thread-type T (a .t)) (drop n (thread-type-list T (l .before .before .entry-of .result) (l .entry-of2 .result)))
+    let a = l .before .before .before .before .args in
+    let T = table-of (a .table .now) in
+    Asks (is-thread-type T (a .t)) (drop n (thread-type-list T (l .before .before .entry-at .result) (l .entry-at2 .result)))
 
-tests : (l : tie.After-entry-of2) → Left 0 l
-tests l = thread-type-tests _ _ _ (l .before .before .entry-of .ensures) _ (l .entry-of2 .ensures)
+tests : (l : tie.After-entry-at2) → Left 0 l
+tests l = thread-type-tests _ _ _ (l .before .before .entry-at .ensures) _ (l .entry-at2 .ensures)
 
 function : (f : tie.Else1) → Left 1 (f .before .before)
 function f = pass (tests (f .before .before)) (stands (f .before .is-function .ensures) (f .if1 .left))
 
-entry-of-requires : tie.Need-entry-of-requires
-entry-of-requires c κs = search needs
+entry-at-requires : tie.Need-entry-at-requires
+entry-at-requires c κs = search needs
 
-cast-entry-of : tie.Need-cast-entry-of
-cast-entry-of c = search needs
+cast-entry-at : tie.Need-cast-entry-at
+cast-entry-at c = search needs
 
-entry-of-requires-2 : tie.Need-entry-of-requires-2
-entry-of-requires-2 c κs = search needs
+entry-at-requires-2 : tie.Need-entry-at-requires-2
+entry-at-requires-2 c κs = search needs
 
 is-function-requires : tie.Need-is-function-requires
 is-function-requires c κs = search needs
@@ -43,28 +43,28 @@ is-from-to-requires c κs = search needs
 returns-2 : tie.Need-returns-2
 returns-2 c = refuse (function (c .before .before)) (fails (c .before .is-from-to .ensures) (c .if2 .taken))
 
-cast-is-many : tie.Need-cast-is-many
-cast-is-many c = search needs
+cast-many-at : tie.Need-cast-many-at
+cast-many-at c = search needs
 
-is-many-requires : tie.Need-is-many-requires
-is-many-requires c κs = search needs
+many-at-requires : tie.Need-many-at-requires
+many-at-requires c κs = search needs
 
 returns-3 : tie.Need-returns-3
 returns-3 c =
     let f = c .before .before .before .before in
-    last (pass (function f) (stands (c .before .before .before .is-from-to .ensures) (c .before .before .if2 .left))) (c .is-many .ensures)
+    last (pass (function f) (stands (c .before .before .before .is-from-to .ensures) (c .before .before .if2 .left))) (c .many-at .ensures)
 
 pub is-thread-type-spec : {M : Type 1} → statement M
 is-thread-type-spec =
     tie.close
     (tie.spec
-    entry-of-requires
-    cast-entry-of
-    entry-of-requires-2
+    entry-at-requires
+    cast-entry-at
+    entry-at-requires-2
     is-function-requires
     returns
     is-from-to-requires
     returns-2
-    cast-is-many
-    is-many-requires
+    cast-many-at
+    many-at-requires
     returns-3)

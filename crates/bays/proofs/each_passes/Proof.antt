@@ -11,19 +11,19 @@ use Rattle.bays.proofs.each_passes.Statement.{statement}
 use Rattle.bays.proofs.each_passes.Tie as tie
 
 abbrev Inv-loop : tie.InvT-loop
-Inv-loop recipe table count test bays bay₀ bay = Passed (file.bays recipe) (bay-passes recipe test) bay
+Inv-loop recipe test bays bay₀ bay = Passed (file.bays recipe) (bay-passes recipe test) bay
 
 abbrev μ-loop : tie.MeasureT-loop
-μ-loop recipe table count test bays bay₀ bay = bays - bay
+μ-loop recipe test bays bay₀ bay = bays - bay
 
 bay-count-requires : tie.Need-bay-count-requires Inv-loop μ-loop
-bay-count-requires c κs = c .before .pre .1 .laid
+bay-count-requires c κs = c .before .pre .laid
 
 loop-holds : tie.Need-loop-holds Inv-loop μ-loop
 loop-holds c = passed-none _ _
 
 bay-passes-requires : tie.Need-bay-passes-requires Inv-loop μ-loop
-bay-passes-requires c κs = let p = c .before .before .before .before .pre in (p .0, p .1, omega arith)
+bay-passes-requires c κs = (c .before .before .before .before .pre, omega arith)
 
 returns : tie.Need-returns Inv-loop μ-loop
 unfolding each-passes

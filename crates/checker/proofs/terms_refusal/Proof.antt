@@ -25,7 +25,7 @@ each-passes-requires : tie.Need-each-passes-requires
 each-passes-requires c κs =
     let p = c .before .before .before .before .before .before .pre in
     let e = sym (c .before .before .nodes .given .1) ∙ c .before .before .before .before .count-nodes .ensures in
-    (p .2, terms-known _ _ e (p .0) (p .1) (c .if1 .left))
+    terms-known _ _ e (p .0) (p .1) (c .if1 .left)
 
 returns-3 : tie.Need-returns-3
 returns-3 c =
