@@ -23,11 +23,6 @@ const DUE_MARK: u8 = 1;
 
 const SPENT_MARK: u8 = 2;
 
-// The kinds of functions in the type table.
-const ONCE_FUNCTION: u8 = 3;
-
-const MANY_FUNCTION: u8 = 4;
-
 // What a lambda of a type does: the type is no function, or the mark of its variable goes on top of one of these.
 const NO_FUNCTION: u8 = 0;
 
@@ -56,10 +51,10 @@ fn function_code(kind: u8, mark: u8) -> u8
     requires { ⌜ mark ≤ 1 ⌝ }
     ensures { λ r. ⌜ r ≡ function-code kind mark ⌝ }
 {
-    if kind == ONCE_FUNCTION {
+    if kind == Typed::ONCE {
         return ONCE_CODE + mark;
     }
-    if kind == MANY_FUNCTION {
+    if kind == Typed::MANY {
         return MANY_CODE + mark;
     }
     NO_FUNCTION

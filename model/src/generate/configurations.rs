@@ -24,7 +24,16 @@ const CONSTANTS: [Constant; 4] = [
     Constant::Handle,
 ];
 
-impl Maker<'_> {
+impl<'a> Maker<'a> {
+    fn new(draw: &'a mut Draw, names: usize, fuel: usize) -> Maker<'a> {
+        Maker {
+            draw,
+            names,
+            fuel,
+            nodes: Vec::new(),
+        }
+    }
+
     fn leaf(&mut self, lambdas: usize) {
         let node = match self.draw.below(6) {
             0 => Node::Unit,
@@ -116,13 +125,7 @@ impl Maker<'_> {
 fn thread_nodes(draw: &mut Draw, names: usize, fuel: usize) -> Vec<Node> {
     let layers = draw.pick(&[0, 0, 0, 1, 2, 5]);
     let form = draw.below(5);
-    let nodes = Vec::new();
-    let mut maker = Maker {
-        draw,
-        names,
-        fuel,
-        nodes,
-    };
+    let mut maker = Maker::new(draw, names, fuel);
     match form {
         0 => maker.value(),
         1 => maker.any(0),
@@ -132,13 +135,7 @@ fn thread_nodes(draw: &mut Draw, names: usize, fuel: usize) -> Vec<Node> {
 }
 
 fn value_nodes(draw: &mut Draw, names: usize, fuel: usize) -> Vec<Node> {
-    let nodes = Vec::new();
-    let mut maker = Maker {
-        draw,
-        names,
-        fuel,
-        nodes,
-    };
+    let mut maker = Maker::new(draw, names, fuel);
     maker.value();
     maker.nodes
 }
