@@ -10,16 +10,16 @@ use Rattle.calculus.specs.Image.{nodes}
 use Rattle.calculus.specs.Table.{test-entry, entry-test, entries-test, same-entry, new-to, distinct-test, entry-is, table-test}
 use Rattle.calculus.specs.Narrowing.{narrowed}
 use Rattle.calculus.specs.Verdict.{on-function, on-once-function, on-cell, is-many, scoped-const, scoped, is-cell-type, is-exch-type, is-thread-type, is-handle-type, annotated-const, annotated, const-number, on-number, result-number, applied-number, lambda-number, type-number, outside-many, linear-parameter, linear, every, verdict}
-use Rattle.terms.specs.Numbers.{value-of}
-use Rattle.terms.specs.Forms.{form-of, forms}
-use Rattle.terms.specs.Reader.{first-tree, head-of, one-term, read, read-term, tree-at}
-use Rattle.terms.specs.Expressions.{exp-of, leaf-exp, leaves, nesting, term-at}
-use Rattle.recipe.specs.File.{bays, parts, offset-of, length-of, part, table-bytes, term-bytes, outside, cause-1, opens, edition-known, cause-2, pairs-test, table-length-test, cause-3}
-use Rattle.recipe.specs.Whole.{file-of, joined, pairs-of}
-use Rattle.table.specs.Entries.{cause-4, table-of, type-table}
-use Rattle.verdict.specs.declared.Verdict.{Verdict}
-use Rattle.verdict.specs.Bays.{bay-term, bay-terms, cause-5, cause-6}
-use Rattle.verdict.specs.Verdict.{accepted, bay-type, bay-types, number-in, refusal, refused, verdict-of}
+use Rattle.term.specs.Numbers.{value-of}
+use Rattle.term.specs.Forms.{form-of, forms}
+use Rattle.term.specs.Reader.{first-tree, head-of, one-term, read, read-term, tree-at}
+use Rattle.term.specs.Expressions.{exp-of, leaf-exp, leaves, nesting, term-at}
+use Rattle.recipe_file.specs.File.{bays, parts, offset-of, length-of, part, table-bytes, term-bytes, outside, cause-1, opens, edition-known, cause-2, pairs-test, table-length-test, cause-3}
+use Rattle.recipe_file.specs.Whole.{file-of, joined, pairs-of}
+use Rattle.recipe_table.specs.Entries.{cause-4, table-of, type-table}
+use Rattle.check_spec.specs.declared.Verdict.{Verdict}
+use Rattle.check_spec.specs.Bays.{bay-term, bay-terms, cause-5, cause-6}
+use Rattle.check_spec.specs.Verdict.{bay-type, bay-types, number-in, refusal, verdict-of}
 
 -- the tables: that of three entries, "T5" and "T7"
 abbrev pub T3 : List ℕ

@@ -1,7 +1,6 @@
 -- Document 01, "Bay cases", A, B and C, as rows of one table that is computed: the starting image, the answers of some steps, and the last image.
 use mathlib.Core.Path.{_≡_, refl}
-use mathlib.Core.Bool.{cond}
-use mathlib.Core.List.{List, [], _++_, _∷_, map}
+use mathlib.Core.List.{List, [], _∷_, map}
 use Prim.Native.Nat.{ℕ}
 use lib.ListN.{replicate}
 use Rattle.calculus.specs.Lists.{tabulate, each-below, sum-below}
@@ -12,23 +11,23 @@ use Rattle.calculus.specs.Step.{beside, place-app, place, when-done, step-call,
 use Rattle.calculus.specs.Image.{nodes, sum-in, sum-all, constant-test, expression-test, is-settled, is-awaited, handle-for, handles-for, component-test, each-test, limits-test, image-test}
 use Rattle.calculus.specs.Run.{reply-of}
 use Rattle.calculus.specs.Recipe.{loaded, bay-types, type-found, with-type}
-use Rattle.terms.specs.Numbers.{little-endian, value-of}
-use Rattle.terms.specs.Forms.{form-of, forms}
-use Rattle.terms.specs.Reader.{first-tree, head-of, one-term, read, read-term, tree-at}
-use Rattle.terms.specs.Expressions.{bytes, const-bytes, op-tag, exp-of, leaf-exp, leaves, term-at}
-use Rattle.recipe.specs.File.{bays, parts, offset-of, length-of, part, table-bytes, term-bytes}
-use Rattle.recipe.specs.Whole.{file-of, joined, pairs-of}
-use Rattle.table.specs.Entries.{table-of, type-table}
-use Rattle.verdict.specs.Bays.{bay-term, bay-terms}
-use Rattle.layout.specs.Encoded.{head, heads, expressions, image-bytes}
-use Rattle.layout.specs.Slice.{names, kind-at, companion-at, offset-at as offset-in, length-at, expression-at, encoded-at, encoded-all}
-use Rattle.layout.specs.Layout.{kind-test, companion-test, length-test, head-agrees, head-stands, stand-from, heads-stand}
+use Rattle.term.specs.Numbers.{little-endian, value-of}
+use Rattle.term.specs.Forms.{form-of, forms}
+use Rattle.term.specs.Reader.{first-tree, head-of, one-term, read, read-term, tree-at}
+use Rattle.term.specs.Expressions.{bytes, const-bytes, op-tag, exp-of, leaf-exp, leaves, term-at}
+use Rattle.recipe_file.specs.File.{bays, parts, offset-of, length-of, part, table-bytes, term-bytes}
+use Rattle.recipe_file.specs.Whole.{file-of, joined, pairs-of}
+use Rattle.recipe_table.specs.Entries.{table-of, type-table}
+use Rattle.check_spec.specs.Bays.{bay-term, bay-terms}
+use Rattle.image_layout.specs.Encoded.{head, heads, expressions, image-bytes}
+use Rattle.image_layout.specs.Slice.{names, kind-at, companion-at, offset-at as offset-in, length-at, expression-at, encoded-at, encoded-all}
+use Rattle.image_layout.specs.Layout.{kind-test, companion-test, length-test, head-agrees, head-stands, stand-from, heads-stand}
 use Rattle.image.specs.Configuration.{encode, image-of, components, decode, config-of}
 use Rattle.image.specs.Stands.{terms-stand, image-stands}
-use Rattle.starting.specs.Starting.{starting-image}
-use Rattle.stepping.specs.declared.Outcome.{Outcome}
-use Rattle.stepping.specs.declared.Outcome.the-variants.{Rule, Done, Waiting, Refused}
-use Rattle.stepping.specs.Stepping.{step-reply, answered, written, outcome-of, out-after}
+use Rattle.load_spec.specs.Starting.{starting-image}
+use Rattle.step_spec.specs.declared.Outcome.{Outcome}
+use Rattle.step_spec.specs.declared.Outcome.the-variants.{Rule, Done, Refused}
+use Rattle.step_spec.specs.Stepping.{step-reply, answered, written, outcome-of, out-after}
 use Rattle.runs.specs.Run.{image-left}
 use Rattle.bay_cases.specs.Cases.{T3, T5, T7}
 

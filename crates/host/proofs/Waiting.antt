@@ -16,12 +16,11 @@ use Rattle.calculus.specs.Theory.Tests.{and-parts, clash}
 use Rattle.calculus.specs.Theory.Lists.{at-bound}
 use Rattle.calculus.specs.Theory.Step.{waiting-iff}
 use Rattle.calculus.specs.Theory.ImageTest.{image-test-iff}
-use Rattle.layout.specs.Layout.{heads-stand}
+use Rattle.image_layout.specs.Layout.{heads-stand}
 use Rattle.image.specs.Configuration.{config-of}
 use Rattle.image.specs.Stands.{image-stands, terms-stand}
-use Rattle.stepping.specs.declared.Outcome.{Outcome}
-use Rattle.stepping.specs.declared.Outcome.the-variants.{Waiting}
-use Rattle.stepping.specs.Stepping.{answered, outcome-of, step-reply}
+use Rattle.step_spec.specs.declared.Outcome.the-variants.{Waiting}
+use Rattle.step_spec.specs.Stepping.{answered, outcome-of, step-reply}
 use Rattle.host.specs.Numbers.{NameSmall}
 
 unready-below : (C : Config) (y : ℕ) → Unready C y → y < length C

@@ -1,8 +1,8 @@
 -- An outcome of a step in numbers, as include/fikarehu.h has it: 0 done, 1 a rule, 2 waiting, 3 refused; the number that goes with it; the new image's length.
 use mathlib.Core.Path.{_≡_}
 use Prim.Native.Nat.{_<_, ℕ}
-use Rattle.stepping.specs.declared.Outcome.{Outcome}
-use Rattle.stepping.specs.declared.Outcome.the-variants.{Rule, Done, Waiting, Refused}
+use Rattle.step_spec.specs.declared.Outcome.{Outcome}
+use Rattle.step_spec.specs.declared.Outcome.the-variants.{Rule, Done, Waiting, Refused}
 use Rattle.host.specs.declared.Stepped.{Stepped}
 
 unfoldable pub numbers : Outcome → Stepped

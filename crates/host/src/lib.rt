@@ -1,12 +1,12 @@
 // The supplier's host: the functions of include/fikarehu.h, thin over the proved library. Numbers pass as themselves, a slice as a pointer and a length.
-use loader::Loaded;
-use stepping::Outcome;
-use verdict::Verdict;
+use load_spec::Loaded;
+use step_spec::Outcome;
+use check_spec::Verdict;
 ghost use mathlib.Core.Path.{_≡_};
 ghost use lib.ListN.{length};
-ghost use Rattle.verdict.specs.Verdict.{verdict-of};
-ghost use Rattle.loader.specs.Loading as load;
-ghost use Rattle.stepping.specs.Stepping.{out-after, outcome-of};
+ghost use Rattle.check_spec.specs.Verdict.{verdict-of};
+ghost use Rattle.load_spec.specs.Loading as load;
+ghost use Rattle.step_spec.specs.Stepping.{out-after, outcome-of};
 ghost use Rattle.host.specs.Numbers.{NameSmall, numbers};
 
 // What a step came to, in document 01's numbers: 0 done; 1 and the rule, with the new image's length; 2 and the awaited name; 3 and the refusal.
@@ -22,7 +22,7 @@ pub struct Stepped {
 pub extern "C" fn fikarehu_check(recipe: &[u8]) -> Verdict
     ensures { λ r. ⌜ r ≡ verdict-of (now (recipe .entry)) ⌝ }
 {
-    checker::check(recipe)
+    check_recipe::check(recipe)
 }
 
 // "loading also the image's length". The out buffer must not overlap the recipe.
@@ -31,7 +31,7 @@ pub extern "C" fn fikarehu_load(recipe: &[u8], out: &mut [u8]) -> Loaded
     ensures { λ r. ⌜ r ≡ load.loaded-of (now (recipe .entry)) (length (now (out .entry))) ⌝ }
     ensures { λ r. ⌜ now (out .exit) ≡ load.out-after (now (recipe .entry)) (now (out .entry)) ⌝ }
 {
-    loader::load(recipe, out)
+    load_recipe::load(recipe, out)
 }
 
 // An outcome in numbers.
@@ -69,5 +69,5 @@ pub extern "C" fn fikarehu_step(image: &[u8], thread: u64, out: &mut [u8]) -> St
     ensures { λ r. ⌜ r ≡ numbers (outcome-of (now (image .entry)) thread (now (out .entry))) ⌝ }
     ensures { λ r. ⌜ now (out .exit) ≡ out-after (now (image .entry)) thread (now (out .entry)) ⌝ }
 {
-    numbers_of(stepper::step(image, thread as usize, out))
+    numbers_of(step_thread::step(image, thread as usize, out))
 }

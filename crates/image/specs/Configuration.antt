@@ -3,10 +3,10 @@ use mathlib.Core.List.{List, [], _∷_, map}
 use Prim.Native.Nat.{ℕ}
 use lib.ListN.{getD}
 use Rattle.calculus.specs.Syntax.{Component, thread-of, holds, open-for, used, awaited, Config}
-use Rattle.terms.specs.Expressions.{bytes, term-at}
-use Rattle.layout.specs.Kinds.{thread-kind, cell-kind, open-handle-kind, used-handle-kind, future-kind}
-use Rattle.layout.specs.Encoded.{Encoded, image-bytes}
-use Rattle.layout.specs.Slice.{encoded-all}
+use Rattle.term.specs.Expressions.{bytes, term-at}
+use Rattle.image_layout.specs.Kinds.{thread-kind, cell-kind, open-handle-kind, used-handle-kind, future-kind}
+use Rattle.image_layout.specs.Encoded.{Encoded, image-bytes}
+use Rattle.image_layout.specs.Slice.{encoded-all}
 
 -- "Kinds: 1 thread (its expression), 2 cell (its value), 3 open handle (companion is its future's number), 4 used handle, 5 future not yet bound"
 unfoldable pub encode : Component → Encoded

@@ -5,10 +5,10 @@ use Prim.Native.Nat.{ℕ}
 use lib.Dec.{leb}
 use Rattle.calculus.specs.Lists.{each-below}
 use Rattle.calculus.specs.Image.{image-test}
-use Rattle.terms.specs.Reader.{one-term, read-term}
-use Rattle.layout.specs.Kinds.{open-handle-kind}
-use Rattle.layout.specs.Slice.{names, kind-at, expression-at}
-use Rattle.layout.specs.Layout.{heads-stand}
+use Rattle.term.specs.Reader.{one-term, read-term}
+use Rattle.image_layout.specs.Kinds.{open-handle-kind}
+use Rattle.image_layout.specs.Slice.{names, kind-at, expression-at}
+use Rattle.image_layout.specs.Layout.{heads-stand}
 use Rattle.image.specs.Configuration.{config-of}
 
 -- "Expressions use the node forms": a thread's and a cell's expression is exactly one term

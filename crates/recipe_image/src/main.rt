@@ -1,9 +1,9 @@
 // Reads a recipe from standard input and writes document 01's two lines: the word verdict and the number, 0 for accepted; then, if accepted, the word image and
 // the starting image in upper-case hexadecimal.
-use layout::Image;
+use image_layout::Image;
 use libc::STDIN_FILENO;
 use libc::STDOUT_FILENO;
-use recipe::Recipe;
+use recipe_file::Recipe;
 ghost use Prim.Native.Nat.{_<_};
 ghost use Rattle.io.specs.Counts.{Counts};
 
@@ -52,7 +52,7 @@ fn main() {
     let mut file = [0u8; Recipe::MAX_FILE + 1];
     let length = io::read_full(STDIN_FILENO, &mut file);
     let mut out = [0u8; Image::MAX_LENGTH];
-    let loaded = loader::load(&file[..length], &mut out);
+    let loaded = load_recipe::load(&file[..length], &mut out);
     io::write_all(STDOUT_FILENO, b"verdict ");
     io::print_decimal(STDOUT_FILENO, loaded.refusal as u64);
     io::write_all(STDOUT_FILENO, b"\n");

@@ -12,18 +12,18 @@ use Rattle.calculus.specs.Syntax.{Exp, name, thread-of, open-for, at}
 use Rattle.calculus.specs.Typing.{TypeNumbers}
 use Rattle.calculus.specs.NewTypes.{function-at, new-types}
 use Rattle.calculus.specs.Limits.{max-image-length}
-use Rattle.calculus.specs.Run.{State, ValuesTyped}
+use Rattle.calculus.specs.Run.{ValuesTyped}
 use Rattle.calculus.specs.Bytes.{Bytes}
 use Rattle.calculus.specs.Table.{type-at}
 use Rattle.calculus.specs.Recipe.{start}
-use Rattle.table.specs.Entries.{type-table}
-use Rattle.verdict.specs.Bays.{bay-terms}
-use Rattle.verdict.specs.Verdict.{verdict-of}
+use Rattle.recipe_table.specs.Entries.{type-table}
+use Rattle.check_spec.specs.Bays.{bay-terms}
+use Rattle.check_spec.specs.Verdict.{verdict-of}
 use Rattle.image.specs.Configuration.{config-of}
-use Rattle.loader.specs.Loading as load
-use Rattle.stepping.specs.declared.Outcome.{Outcome}
-use Rattle.stepping.specs.declared.Outcome.the-variants.{Rule, Done, Waiting, Refused}
-use Rattle.stepping.specs.Stepping.{outcome-of, out-after}
+use Rattle.load_spec.specs.Loading as load
+use Rattle.step_spec.specs.declared.Outcome.{Outcome}
+use Rattle.step_spec.specs.declared.Outcome.the-variants.{Rule, Done, Waiting, Refused}
+use Rattle.step_spec.specs.Stepping.{outcome-of, out-after}
 
 -- document 01, "Each step has any thread number and any out buffer, of any length and holding any bytes"
 pub record Call : Type 0 where

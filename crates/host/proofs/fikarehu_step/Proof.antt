@@ -7,7 +7,7 @@ use Rattle.host.proofs.fikarehu_step.Tie as tie
 use Rattle.host.proofs.fikarehu_step.Reads as reads
 use Rattle.host.proofs.fikarehu_step.Lts as lts
 use Rattle.host.proofs.numbers_of.Reads as numbers-of-reads
-use Rattle.stepper.proofs.step.Reads as step-reads
+use Rattle.step_thread.proofs.step.Reads as step-reads
 
 -- src/lib.rt:72:16
 step-requires : tie.Need-step-requires

@@ -8,11 +8,11 @@ use Rattle.calculus.specs.Syntax.{Component, thread-of, holds, open-for, used, 
 use Rattle.calculus.specs.Names.{count-in}
 use Rattle.calculus.specs.Limits.{byte-values}
 use Rattle.calculus.specs.Image.{Writable}
-use Rattle.terms.specs.Expressions.{bytes, Fits, term-at}
-use Rattle.terms.proofs.Expressions.{term-of-bytes}
-use Rattle.layout.specs.Kinds.{open-handle-kind}
-use Rattle.layout.specs.Encoded.{Encoded}
-use Rattle.layout.specs.Layout.{HeadRule}
+use Rattle.term.specs.Expressions.{bytes, Fits, term-at}
+use Rattle.term.proofs.Expressions.{term-of-bytes}
+use Rattle.image_layout.specs.Kinds.{open-handle-kind}
+use Rattle.image_layout.specs.Encoded.{Encoded}
+use Rattle.image_layout.specs.Layout.{HeadRule}
 use Rattle.image.specs.Configuration.{encode, components, decode}
 
 -- the node forms can write a component's expression

@@ -17,17 +17,17 @@ use Rattle.calculus.specs.Theory.Tests.{and-true, and-parts, leb-sound, leb-com
 use Rattle.calculus.specs.Theory.Lists.{at-bound, at-below, same-at}
 use Rattle.calculus.specs.Theory.Tabulate.{each-below-sound, each-below-complete}
 use Rattle.calculus.specs.Theory.ImageTest.{image-test-iff}
-use Rattle.terms.specs.Reader.{one-term, read-term}
-use Rattle.terms.specs.Expressions.{bytes, Fits, term-at}
-use Rattle.terms.proofs.Terms.{bytes-drop, bytes-take}
-use Rattle.terms.proofs.Expressions.{one-term-sound, one-term-complete}
-use Rattle.layout.specs.Kinds.{open-handle-kind}
-use Rattle.layout.specs.Encoded.{Encoded, image-bytes}
-use Rattle.layout.specs.Slice.{names, kind-at, offset-at, length-at, expression-at, encoded-at, encoded-all}
+use Rattle.term.specs.Reader.{one-term, read-term}
+use Rattle.term.specs.Expressions.{bytes, Fits, term-at}
+use Rattle.term.proofs.Terms.{bytes-drop, bytes-take}
+use Rattle.term.proofs.Expressions.{one-term-sound, one-term-complete}
+use Rattle.image_layout.specs.Kinds.{open-handle-kind}
+use Rattle.image_layout.specs.Encoded.{Encoded, image-bytes}
+use Rattle.image_layout.specs.Slice.{names, kind-at, offset-at, length-at, expression-at, encoded-at, encoded-all}
 use Rattle.calculus.specs.Theory.Tabulate.{tabulate-parts}
-use Rattle.layout.specs.Layout.{heads-stand, EachHead}
-use Rattle.layout.specs.Theory.ReadBack.{names-read, component-read}
-use Rattle.layout.specs.Theory.Exactly.{exactly, image-stands as layout-stands, one-reading}
+use Rattle.image_layout.specs.Layout.{heads-stand, EachHead}
+use Rattle.image_layout.specs.Theory.ReadBack.{names-read, component-read}
+use Rattle.image_layout.specs.Theory.Exactly.{exactly, image-stands as layout-stands, one-reading}
 use Rattle.image.specs.Configuration.{encode, image-of, decode, config-of}
 use Rattle.image.specs.Stands.{terms-stand, image-stands}
 use Rattle.image.specs.Theory.Components.{FitsIn, decode-encode, encode-rule, Said, encode-decode, decode-fits, fits-writable, writable-fits}

@@ -11,9 +11,9 @@ use Rattle.calculus.specs.Limits.{max-image-length}
 use Rattle.calculus.specs.Image.{image-length, size, sum-all, sum-in, WithinLimits}
 use Rattle.calculus.specs.Theory.ImageTest.{image-test-iff}
 use Rattle.calculus.specs.Theory.Images.{image-fits}
-use Rattle.terms.proofs.Sizes.{length-bytes}
-use Rattle.layout.specs.Encoded.{expressions}
-use Rattle.layout.specs.Theory.Components.{length-image}
+use Rattle.term.proofs.Sizes.{length-bytes}
+use Rattle.image_layout.specs.Encoded.{expressions}
+use Rattle.image_layout.specs.Theory.Components.{length-image}
 use Rattle.image.specs.Configuration.{config-of, encode, image-of}
 use Rattle.image.specs.Stands.{image-stands}
 use Rattle.image.specs.Theory.Exactly.{image-tested, is-image}

@@ -1,17 +1,14 @@
 -- The third demand, of every run of every accepted recipe: from the calculus's claim, step by step.
-use mathlib.Core.Path.{_∙_, _≡_, ap, refl, sym}
+use mathlib.Core.Path.{_∙_, _≡_, refl, sym}
 use mathlib.Core.Logic.{_↔_}
 use mathlib.Core.Bool.{Bool, cond, false, true}
-use mathlib.Core.Option.{some}
 use mathlib.Core.List.{List, map}
-use Prim.Native.Nat.{_<_, _≤_, ℕ}
+use Prim.Native.Nat.{_≤_, ℕ}
 use lib.Dec.{eqb}
 use lib.ListN.{drop, length}
 use lib.Seq.{take-append-seam}
-use Rattle.calculus.specs.Types.{LinType}
-use Rattle.calculus.specs.Syntax.{Exp, Config, at, thread-of}
+use Rattle.calculus.specs.Syntax.{Config, at}
 use Rattle.calculus.specs.Typing.{TypeNumbers}
-use Rattle.calculus.specs.NewTypes.{function-at}
 use Rattle.calculus.specs.Limits.{max-image-length}
 use Rattle.calculus.specs.Run as calculus
 use Rattle.calculus.specs.Run.{State, ValuesTyped, after, reply, refuses}
@@ -20,17 +17,17 @@ use Rattle.calculus.specs.Table.{type-at}
 use Rattle.calculus.specs.Recipe.{start}
 use Rattle.calculus.specs.Theory.Tests.{eqb-sound, ltb-not}
 use Rattle.calculus.specs.Theory.Claim.{demand, images}
-use Rattle.table.specs.Entries.{type-table}
-use Rattle.verdict.specs.Bays.{bay-terms}
-use Rattle.verdict.specs.Verdict.{accepted, refusal, refused as refused-by, verdict-of}
-use Rattle.verdict.specs.Recipe.{Recipe}
-use Rattle.verdict.specs.Theory.Accepted.{accepted-exactly, admitted, table-is, terms-are}
-use Rattle.starting.specs.Starting.{starting-image}
-use Rattle.loader.specs.Loading as load
+use Rattle.recipe_table.specs.Entries.{type-table}
+use Rattle.check_spec.specs.Bays.{bay-terms}
+use Rattle.check_spec.specs.Verdict.{accepted, refusal, refused as refused-by, verdict-of}
+use Rattle.check_spec.specs.Recipe.{Recipe}
+use Rattle.check_spec.specs.Theory.Accepted.{accepted-exactly, admitted, table-is, terms-are}
+use Rattle.load_spec.specs.Starting.{starting-image}
+use Rattle.load_spec.specs.Loading as load
 use Rattle.image.specs.Configuration.{image-of, config-of}
 use Rattle.image.specs.Theory.Exactly.{read-again}
-use Rattle.stepping.specs.declared.Outcome.the-variants.{Refused}
-use Rattle.runs.specs.Run.{Call, Step, answer, left, types-left, steps, Applies, Binds, IsThread, Goes, Typed, Demand, image-loaded, ThirdDemand}
+use Rattle.step_spec.specs.declared.Outcome.the-variants.{Refused}
+use Rattle.runs.specs.Run.{Call, Step, answer, left, types-left, Applies, Binds, IsThread, Goes, Typed, Demand, image-loaded, ThirdDemand}
 use Rattle.runs.specs.Theory.Steps.{call-of, answered-rule, answered-refused, answered-goes, answers, leaves-image, leaves-types}
 use Rattle.runs.specs.Theory.Simulates.{Kept, AllKept, kept-first, Simulates, same, simulates}
 

@@ -1,9 +1,8 @@
 -- A run in bytes is the calculus's run, image for configuration, where every image of the run keeps its rules and can be written.
-use mathlib.Core.Path.{_∙_, _≡_, ap, refl, sym}
+use mathlib.Core.Path.{_≡_, refl}
 use mathlib.Core.Option.{some}
 use mathlib.Core.List.{List, [], _∷_, map}
 use Prim.Native.Nat.{suc, zero, ℕ}
-use Rattle.calculus.specs.Types.{LinType}
 use Rattle.calculus.specs.Syntax.{Config, at, EachAll}
 use Rattle.calculus.specs.Typing.{TypeNumbers}
 use Rattle.calculus.specs.Image.{ImageRule, Writable}
@@ -11,7 +10,7 @@ use Rattle.calculus.specs.Run as calculus
 use Rattle.calculus.specs.Run.{State, after}
 use Rattle.calculus.specs.Theory.Tests.{clash}
 use Rattle.image.specs.Configuration.{image-of}
-use Rattle.runs.specs.Run.{Call, Step, left, types-left, steps}
+use Rattle.runs.specs.Run.{Call, Step, steps}
 use Rattle.runs.specs.Theory.Steps.{call-of, leaves-image, leaves-types}
 
 -- a configuration whose image can be read again

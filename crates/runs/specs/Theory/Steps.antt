@@ -1,11 +1,9 @@
 -- A step on the image of a configuration is the calculus's step of that configuration.
-use mathlib.Core.Path.{_∙_, _≡_, ap, refl, sym}
+use mathlib.Core.Path.{_∙_, _≡_, ap, refl}
 use mathlib.Core.Logic.{_↔_}
-use mathlib.Core.List.{List, _++_}
 use Prim.Native.Nat.{ℕ}
-use lib.ListN.{drop, length, take}
+use lib.ListN.{drop, length}
 use lib.Seq.{take-append-seam}
-use Rattle.calculus.specs.Types.{LinType}
 use Rattle.calculus.specs.Syntax.{Config, EachAll}
 use Rattle.calculus.specs.Typing.{TypeNumbers}
 use Rattle.calculus.specs.NewTypes.{new-types}
@@ -16,9 +14,8 @@ use Rattle.calculus.specs.Theory.Tests.{clash}
 use Rattle.calculus.specs.Theory.ImageTest.{image-test-iff}
 use Rattle.image.specs.Configuration.{image-of, config-of}
 use Rattle.image.specs.Theory.Exactly.{read-again, image-written}
-use Rattle.stepping.specs.declared.Outcome.{Outcome}
-use Rattle.stepping.specs.declared.Outcome.the-variants.{Rule, Refused}
-use Rattle.stepping.specs.Stepping.{step-reply, answered, written, outcome-of, out-after}
+use Rattle.step_spec.specs.declared.Outcome.the-variants.{Rule, Refused}
+use Rattle.step_spec.specs.Stepping.{step-reply, answered, written, outcome-of, out-after}
 use Rattle.runs.specs.Run.{Call, Step, answer, image-left, left, types-by, types-left, Goes}
 
 -- the calculus's call: a buffer's length is all that counts

@@ -1,0 +1,48 @@
+// Writers into a lent buffer. Each writes at a place, answers the next place, and promises by `Wrote` what the buffer holds then.
+ghost use Prim.Native.Nat.{_+_, _-_, _<_, _≤_};
+ghost use mathlib.Core.List.{_∷_, []};
+ghost use lib.ListN.{length, take, drop};
+ghost use Rattle.calculus.specs.Bytes.{two-byte-values, two-bytes};
+ghost use Rattle.buffer.specs.Written.{Wrote};
+
+// Writes one byte.
+pub fn put_byte(out: &mut [u8], at: usize, byte: u8) -> usize
+    requires { ⌜ at < length (now out) ⌝ }
+    ensures { λ r. ⌜ Wrote (now (out .entry)) at (byte ∷ []) (now (out .exit)) r ⌝ }
+{
+    out[at] = byte;
+    at + 1
+}
+
+// Writes n in two bytes, the lower first.
+pub fn put_u16(out: &mut [u8], at: usize, n: usize) -> usize
+    requires { ⌜ (at + 2 ≤ length (now out)) × (n < two-byte-values) ⌝ }
+    ensures { λ r. ⌜ Wrote (now (out .entry)) at (two-bytes n) (now (out .exit)) r ⌝ }
+{
+    out[at] = (n % 256) as u8;
+    out[at + 1] = (n / 256) as u8;
+    at + 2
+}
+
+// Writes all of src.
+pub fn put_bytes(out: &mut [u8], at: usize, src: &[u8]) -> usize
+    requires { ⌜ at + length (now src) ≤ length (now out) ⌝ }
+    ensures { λ r. ⌜ Wrote (now (out .entry)) at (now (src .entry)) (now (out .exit)) r ⌝ }
+{
+    let mut next = at;
+    let mut copied = 0;
+    while copied < src.len() {
+        out[next] = src[copied];
+        next += 1;
+        copied += 1;
+    }
+    next
+}
+
+// Writes the part of src from `from` to `to`.
+pub fn put_part(out: &mut [u8], at: usize, src: &[u8], from: usize, to: usize) -> usize
+    requires { ⌜ (from ≤ to) × ((to ≤ length (now src)) × (at + (to - from) ≤ length (now out))) ⌝ }
+    ensures { λ r. ⌜ Wrote (now (out .entry)) at (take (to - from) (drop from (now (src .entry)))) (now (out .exit)) r ⌝ }
+{
+    put_bytes(out, at, &src[from..to])
+}

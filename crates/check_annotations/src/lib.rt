@@ -1,0 +1,150 @@
+// Document 01, cause 8: the types that lambdas and constants are annotated with.
+use recipe_table::Entry;
+use term::Node;
+use check_types::Typed;
+ghost use mathlib.Core.Path.{_≡_};
+ghost use Prim.Native.Nat.{_<_};
+ghost use Rattle.calculus.specs.Limits.{byte-values};
+ghost use Rattle.calculus.specs.Narrowing.{narrowed};
+ghost use Rattle.calculus.specs.Verdict.{annotated, is-cell-type, is-exch-type, is-handle-type, is-thread-type};
+ghost use Rattle.term.specs.Expressions.{leaf-exp};
+ghost use Rattle.recipe_table.specs.Entries.{table-of};
+ghost use Rattle.check_annotations.specs.Nodes.{handle-of, maps};
+
+// Document 01, kinds of entries: "2 cell of p".
+const CELL_KIND: u8 = 2;
+
+// Document 01, the narrowing: contents of multiplicity many.
+fn is_narrowed(table: &[u8], a: u8) -> bool
+    ensures { λ r. ⌜ r ≡ narrowed (table-of (now (table .entry))) a ⌝ }
+{
+    check_types::many_at(table, a as usize)
+}
+
+// An entry is a function from p to q.
+fn is_from_to(entry: Entry, p: u8, q: u8) -> bool
+    ensures { λ r. ⌜ r ≡ maps entry p q ⌝ }
+{
+    if !check_types::is_function(entry.kind) {
+        return false;
+    }
+    if entry.p != p {
+        return false;
+    }
+    entry.q == q
+}
+
+// An entry is a function from a to unit, usable once.
+fn is_handle_of(entry: Entry, a: u8) -> bool
+    ensures { λ r. ⌜ r ≡ handle-of entry a ⌝ }
+{
+    if entry.kind != Typed::ONCE {
+        return false;
+    }
+    if entry.p != a {
+        return false;
+    }
+    entry.q == Typed::UNIT
+}
+
+// Fig. 8: a to a ref.
+pub fn is_cell_type(table: &[u8], t: usize) -> bool
+    requires { ⌜ t < byte-values ⌝ }
+    ensures { λ r. ⌜ r ≡ is-cell-type (table-of (now (table .entry))) t ⌝ }
+{
+    let whole = check_types::entry_at(table, t);
+    let result = check_types::entry_at(table, whole.q as usize);
+    if !check_types::is_function(whole.kind) {
+        return false;
+    }
+    if result.kind != CELL_KIND {
+        return false;
+    }
+    if result.p != whole.p {
+        return false;
+    }
+    is_narrowed(table, whole.p)
+}
+
+// Fig. 8: a ref to (a to a).
+pub fn is_exch_type(table: &[u8], t: usize) -> bool
+    requires { ⌜ t < byte-values ⌝ }
+    ensures { λ r. ⌜ r ≡ is-exch-type (table-of (now (table .entry))) t ⌝ }
+{
+    let whole = check_types::entry_at(table, t);
+    let parameter = check_types::entry_at(table, whole.p as usize);
+    let result = check_types::entry_at(table, whole.q as usize);
+    if !check_types::is_function(whole.kind) {
+        return false;
+    }
+    if parameter.kind != CELL_KIND {
+        return false;
+    }
+    if !is_from_to(result, parameter.p, parameter.p) {
+        return false;
+    }
+    is_narrowed(table, parameter.p)
+}
+
+// Fig. 8: (a to a) to a, a of multiplicity many.
+pub fn is_thread_type(table: &[u8], t: usize) -> bool
+    requires { ⌜ t < byte-values ⌝ }
+    ensures { λ r. ⌜ r ≡ is-thread-type (table-of (now (table .entry))) t ⌝ }
+{
+    let whole = check_types::entry_at(table, t);
+    let parameter = check_types::entry_at(table, whole.p as usize);
+    if !check_types::is_function(whole.kind) {
+        return false;
+    }
+    if !is_from_to(parameter, whole.q, whole.q) {
+        return false;
+    }
+    check_types::many_at(table, whole.q as usize)
+}
+
+// Document 01: "(a to ((a once to unit) to r)) to r, .. a of multiplicity many".
+pub fn is_handle_type(table: &[u8], t: usize) -> bool
+    requires { ⌜ t < byte-values ⌝ }
+    ensures { λ r. ⌜ r ≡ is-handle-type (table-of (now (table .entry))) t ⌝ }
+{
+    let whole = check_types::entry_at(table, t);
+    let outer = check_types::entry_at(table, whole.p as usize);
+    let inner = check_types::entry_at(table, outer.q as usize);
+    let handle = check_types::entry_at(table, inner.p as usize);
+    if !check_types::is_function(whole.kind) {
+        return false;
+    }
+    if !check_types::is_function(outer.kind) {
+        return false;
+    }
+    if !check_types::is_function(inner.kind) {
+        return false;
+    }
+    if !is_handle_of(handle, outer.p) {
+        return false;
+    }
+    if inner.q != whole.q {
+        return false;
+    }
+    check_types::many_at(table, outer.p as usize)
+}
+
+// The test of a term with no subterm.
+pub fn leaf_annotated(table: &[u8], tag: u8, arg: usize) -> bool
+    requires { ⌜ arg < byte-values ⌝ }
+    ensures { λ r. ⌜ r ≡ annotated (table-of (now (table .entry))) (leaf-exp tag arg) ⌝ }
+{
+    if tag == Node::CELL {
+        return is_cell_type(table, arg);
+    }
+    if tag == Node::EXCH {
+        return is_exch_type(table, arg);
+    }
+    if tag == Node::THREAD {
+        return is_thread_type(table, arg);
+    }
+    if tag == Node::HANDLE {
+        return is_handle_type(table, arg);
+    }
+    true
+}

@@ -1,0 +1,74 @@
+-- Cause 5 by a loop that adds up the nodes.
+use mathlib.Core.Path.{_∙_, _≡_, ap, refl, sym}
+use mathlib.Core.Bool.{false, true}
+use mathlib.Core.List.{List, [], _∷_}
+use Prim.Native.Nat.{_*_, _+_, _<_, _≤_, zero-le, ℕ}
+use native.Mathlib.Numerals.{add-one}
+use native.Mathlib.Omega.{arith}
+use lib.ListN.{length, length-drop, length-take}
+use Rattle.calculus.specs.Lists.{sum-below}
+use Rattle.calculus.specs.Limits.{max-file-length}
+use Rattle.calculus.specs.Theory.Tests.{clash}
+use Rattle.term.specs.Reader.{Got, got, none, one-term, read-term, tree-at}
+use Rattle.term.specs.Expressions.{term-at}
+use Rattle.term.proofs.Sizes.{nodes-exp}
+use Rattle.term.proofs.Views.{end-inside, nodes-inside}
+use Rattle.recipe_file.specs.File.{bays, part, term-bytes}
+use Rattle.recipe_file.specs.Laid.{Laid}
+use Rattle.term_scan.specs.declared.Part.the-variants.{Nodes, NoTerm}
+use Rattle.term_scan.specs.Extents.{exactly, part-of}
+use Rattle.term_scan.proofs.Answers.{part-single, Single}
+use Rattle.check_spec.specs.Bays.{bay-term}
+use Rattle.check_bays.specs.Terms.{bay-single, bay-nodes, nodes-in}
+use Rattle.check_bays.proofs.Each.{failed, Passed, passed-all, passed-next, passed-none}
+
+-- the loop stands at a bay, all parts before are terms, and these are their nodes
+pub record Counted (s : List ℕ) (bay total : ℕ) : Type 0 where
+  pub passed : Passed (bays s) (bay-single s) bay
+  pub sum : total ≡ sum-below bay (bay-nodes s)
+  pub bound : total ≤ bay * max-file-length
+
+pub counted-none : (s : List ℕ) → Counted s 0 0
+unfolding sum-below
+counted-none s = record { passed = passed-none _ _; sum = refl; bound = zero-le }
+
+short : (s : List ℕ) (bay : ℕ) → length (term-bytes s bay) ≤ length s
+unfolding term-bytes part
+short s bay = simp (length-take, length-drop) (omega arith)
+
+-- a part that is one term has no more nodes than the file has bytes
+part-nodes : (s : List ℕ) (bay n : ℕ) → Laid s → Single (term-bytes s bay) n → n ≤ max-file-length
+unfolding term-at
+part-nodes s bay n l h =
+    let p = term-bytes s bay in
+    omega (arith, h .count, nodes-exp (tree-at p 0), nodes-inside p 0, end-inside (h .good), short s bay, l .size .high)
+
+one-part : (s : List ℕ) (bay n : ℕ) → Single (term-bytes s bay) n → bay-single s bay ≡ true
+unfolding bay-single one-term
+one-part s bay n h = rw (h .reads) refl
+
+module _ {s : List ℕ} {bay : ℕ} (l : Laid s) (b : bay < bays s) {p : List ℕ} (is : p ≡ term-bytes s bay) where
+  pub counted-next : {total : ℕ} (n : ℕ) → Counted s bay total → Nodes n ≡ part-of p → Counted s (bay + 1) (total + n)
+  unfolding sum-below bay-nodes bay-term
+  counted-next {total} n c e =
+      let h : Single (term-bytes s bay) n = part-single (term-bytes s bay) n (e ∙ ap part-of is) in
+      record {
+        passed = passed-next (c .passed) b true (sym (one-part s bay n h)) refl;
+        sum = rw (add-one bay) (omega (arith, c .sum, h .count));
+        bound = omega (arith, c .bound, part-nodes s bay n l h);
+      }
+
+  pub counted-not : NoTerm ≡ part-of p → NoTerm ≡ nodes-in s
+  unfolding nodes-in part-of bay-single one-term
+  counted-not e = rw (failed (bays s) (bay-single s) bay b (bay-single s bay) refl (over (read-term (term-bytes s bay)) refl (e ∙ ap part-of is))) refl
+    where
+      over : (g : Got) → read-term (term-bytes s bay) ≡ g → NoTerm ≡ part-of (term-bytes s bay) → bay-single s bay ≡ false
+      over none r q = rw r refl
+      over (got t []) r q = absurd (clash (let z : NoTerm ≡ exactly (got t []) = q ∙ ap exactly r in cc))
+      over (got t (x ∷ rest)) r q = rw r refl
+
+pub counted-all : {s : List ℕ} {bay total : ℕ} → Counted s bay total → bays s ≤ bay → Nodes total ≡ nodes-in s
+unfolding nodes-in
+counted-all {s} {bay} {total} c h =
+    let z : bays s ≡ bay = omega (arith, c .passed .inside) in
+    rw (passed-all (c .passed) h, z, c .sum) refl

@@ -1,0 +1,86 @@
+-- `bays::count_nodes` meets its contract. The loop's invariant: the parts passed are terms, and `total` is the sum of their nodes.
+use mathlib.Core.Path.{_∙_, sym}
+use Prim.Native.Nat.{_+_, _-_}
+use native.Mathlib.Omega.{arith}
+use borrow.Author.Needs.{needs}
+use Rattle.recipe_file.proofs.Inside.{bays-between}
+use Rattle.check_bays.proofs.Counting.{Counted, counted-all, counted-next, counted-none, counted-not}
+use Rattle.check_bays.proofs.count_nodes.Statement.{statement}
+use Rattle.check_bays.proofs.count_nodes.Tie as tie
+
+abbrev Inv-loop : tie.InvT-loop
+Inv-loop recipe bays total₀ bay₀ total bay = Counted recipe bay total
+
+abbrev μ-loop : tie.MeasureT-loop
+μ-loop recipe bays total₀ bay₀ total bay = bays - bay
+
+bay-count-requires : tie.Need-bay-count-requires Inv-loop μ-loop
+bay-count-requires c κs = search needs
+
+loop-holds : tie.Need-loop-holds Inv-loop μ-loop
+loop-holds c = counted-none _
+
+term-bytes-requires : tie.Need-term-bytes-requires Inv-loop μ-loop
+term-bytes-requires c κs = search needs
+
+scan-part-requires : tie.Need-scan-part-requires Inv-loop μ-loop
+scan-part-requires c κs = search needs
+
+enum-known-nodes : tie.Need-enum-known-nodes Inv-loop μ-loop
+enum-known-nodes c = search needs
+
+enum-told : tie.Need-enum-told Inv-loop μ-loop
+enum-told c = search needs
+
+returns : tie.Need-returns Inv-loop μ-loop
+returns c =
+    let l = c .before .before .before .before .before in
+    counted-not (l .before .before .before .pre) (omega arith) (c .before .before .before .term-bytes .ensures)
+    (sym (c .enum-told .given .1) ∙ c .before .before .scan-part .ensures)
+
+-- the next turn
+abbrev AtNodes : Type 0
+AtNodes = tie.After-known-told Inv-loop μ-loop
+
+abbrev loop : AtNodes → tie.At-loop Inv-loop μ-loop
+loop c = c .before .before .before .before .before .before
+
+next : (c : AtNodes) → Counted (loop c .before .before .before .args .recipe .now) (loop c .loop .bay + 1) (loop c .loop .total + c .before .nodes .given .0 .0)
+next c =
+    let l = loop c in
+    counted-next (l .before .before .before .pre) (omega arith) (c .before .before .before .before .term-bytes .ensures) _ (l .loop .inv)
+    (sym (c .before .nodes .given .1) ∙ c .before .before .before .scan-part .ensures)
+
+add-total : tie.Need-add-total Inv-loop μ-loop
+add-total c = omega (arith, next c .bound, bays-between (c .before .before .before .before .before .before .before .before .before .pre) .high)
+
+add-bay : tie.Need-add-bay Inv-loop μ-loop
+add-bay c = search needs
+
+loop-less : tie.Need-loop-less Inv-loop μ-loop
+loop-less c = search needs
+
+loop-again : tie.Need-loop-again Inv-loop μ-loop
+loop-again c = next c
+
+returns-2 : tie.Need-returns-2 Inv-loop μ-loop
+returns-2 c = counted-all (c .before .loop .inv) (omega arith)
+
+pub count-nodes-spec : {M : Type 1} → statement M
+count-nodes-spec =
+    tie.close
+    (tie.spec
+    Inv-loop
+    μ-loop
+    bay-count-requires
+    loop-holds
+    term-bytes-requires
+    scan-part-requires
+    enum-known-nodes
+    enum-told
+    returns
+    add-total
+    add-bay
+    loop-less
+    loop-again
+    returns-2)

@@ -1,0 +1,58 @@
+-- `bays::each_passes` meets its contract. The loop's invariant: the bays passed pass the test.
+use mathlib.Core.Path.{sym}
+use Prim.Native.Nat.{_-_}
+use native.Mathlib.Omega.{arith}
+use borrow.Author.Tests.{not-true, not-false}
+use borrow.Author.Needs.{needs}
+use Rattle.recipe_file.specs.File as file
+use Rattle.check_bays.specs.Tests.{bay-passes, each-passes}
+use Rattle.check_bays.proofs.Each.{failed, Passed, passed-all, passed-next, passed-none}
+use Rattle.check_bays.proofs.each_passes.Statement.{statement}
+use Rattle.check_bays.proofs.each_passes.Tie as tie
+
+abbrev Inv-loop : tie.InvT-loop
+Inv-loop recipe test bays bay₀ bay = Passed (file.bays recipe) (bay-passes recipe test) bay
+
+abbrev μ-loop : tie.MeasureT-loop
+μ-loop recipe test bays bay₀ bay = bays - bay
+
+bay-count-requires : tie.Need-bay-count-requires Inv-loop μ-loop
+bay-count-requires c κs = c .before .pre .laid
+
+loop-holds : tie.Need-loop-holds Inv-loop μ-loop
+loop-holds c = passed-none _ _
+
+bay-passes-requires : tie.Need-bay-passes-requires Inv-loop μ-loop
+bay-passes-requires c κs = (c .before .before .before .before .pre, omega arith)
+
+returns : tie.Need-returns Inv-loop μ-loop
+unfolding each-passes
+returns c = sym (failed _ _ (c .before .before .before .loop .bay) (omega arith) _ (c .before .bay-passes .ensures) (not-true _ (c .if1 .taken)))
+
+add-bay : tie.Need-add-bay Inv-loop μ-loop
+add-bay c = search needs
+
+loop-less : tie.Need-loop-less Inv-loop μ-loop
+loop-less c = search needs
+
+loop-again : tie.Need-loop-again Inv-loop μ-loop
+loop-again c = passed-next (c .before .before .before .loop .inv) (omega arith) _ (c .before .bay-passes .ensures) (not-false _ (c .if1 .left))
+
+returns-2 : tie.Need-returns-2 Inv-loop μ-loop
+unfolding each-passes
+returns-2 c = sym (passed-all (c .before .loop .inv) (omega arith))
+
+pub each-passes-spec : {M : Type 1} → statement M
+each-passes-spec =
+    tie.close
+    (tie.spec
+    Inv-loop
+    μ-loop
+    bay-count-requires
+    loop-holds
+    bay-passes-requires
+    returns
+    add-bay
+    loop-less
+    loop-again
+    returns-2)

@@ -1,0 +1,36 @@
+-- A part to which none of causes 5 to 8 fits, apart from the number of nodes in all.
+use mathlib.Core.Bool.{Bool, _&&_, cond}
+use mathlib.Core.List.{List, [], _∷_}
+use Prim.Native.Nat.{_+_, ℕ}
+use lib.Dec.{leb, ltb}
+use lib.ListN.{drop, length}
+use Rattle.calculus.specs.Limits.{max-nesting}
+use Rattle.calculus.specs.Syntax.{Exp}
+use Rattle.calculus.specs.Table.{Table}
+use Rattle.calculus.specs.Verdict.{annotated, scoped}
+use Rattle.term.specs.Tree.{tree-nodes}
+use Rattle.term.specs.Reader.{Got, got, none, read-term}
+use Rattle.term.specs.Expressions.{exp-of, nesting}
+use Rattle.term_scan.specs.declared.Part.{Part}
+use Rattle.term_scan.specs.declared.Part.the-variants.{Nodes, NoTerm}
+
+-- causes 7 and 8 do not fit a term below so many lambdas
+unfoldable pub leaf-stands : Table → ℕ → ℕ → Exp → Bool
+leaf-stands T names lambdas e = scoped (length T) names lambdas e && annotated T e
+
+-- nor does cause 6, where so many nodes are above it
+unfoldable pub stands : Table → ℕ → ℕ → ℕ → Exp → Bool
+stands T names level lambdas e = leb (level + nesting e) max-nesting && leaf-stands T names lambdas e
+
+-- a part that is one such term has so many nodes
+abbrev pub exactly : Table → ℕ → Got → Part
+exactly T names none = NoTerm
+exactly T names (got t []) = cond (stands T names 0 0 (exp-of t)) (Nodes (tree-nodes t)) NoTerm
+exactly T names (got t (x ∷ rest)) = NoTerm
+
+unfoldable pub glance : Table → ℕ → List ℕ → Part
+glance T names l = exactly T names (read-term l)
+
+-- behind the last node
+unfoldable pub ended : List ℕ → ℕ → ℕ → Part
+ended l here nodes = cond (ltb here (length l)) NoTerm (Nodes nodes)

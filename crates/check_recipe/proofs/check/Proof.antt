@@ -1,0 +1,118 @@
+-- `checker::check` meets its contract. Behind each cause it is known that the causes up to it do not fit.
+use mathlib.Core.Path.{_∙_, _≡_}
+use mathlib.Core.Bool.{true}
+use mathlib.Core.List.{List}
+use Prim.Native.Nat.{ℕ}
+use native.Mathlib.Omega.{arith}
+use borrow.Author.Tests.{not-true, not-false}
+use borrow.Author.Needs.{needs}
+use Rattle.recipe_file.proofs.Inside.{bays-between}
+use Rattle.check_recipe.proofs.Verdicts.{Admitted, admitted, all-pass, file-refused, filed, parts-refused, refused-10, refused-11, refused-9}
+use Rattle.check_recipe.proofs.check.Statement.{statement}
+use Rattle.check_recipe.proofs.check.Tie as tie
+
+-- past cause 4
+abbrev file : tie.Else1 → List ℕ
+file c = c .before .before .before .args .recipe .now
+
+-- past cause 8
+abbrev first : tie.Else2 → tie.Else1
+first c = c .before .before
+
+eighth : (c : tie.Else2) → Admitted (file (first c))
+eighth c = let f = first c in admitted _ _ (f .before .table-refusal .ensures) (f .if1 .left) _ (c .before .parts-refusal .ensures) (c .if2 .left)
+
+-- past cause 9
+abbrev at-8 : tie.Else3 → tie.Else2
+at-8 c = c .before .before .before
+
+-- past cause 10
+abbrev at-9 : tie.Else4 → tie.Else3
+at-9 c = c .before .before
+
+tenth : (c : tie.Else4) → at-9 c .before .before .types-of .result .linear ≡ true
+tenth c = not-false _ (c .if4 .left)
+
+table-refusal-requires : tie.Need-table-refusal-requires
+table-refusal-requires c κs = search needs
+
+refused-requires : tie.Need-refused-requires
+refused-requires c κs = search needs
+
+returns : tie.Need-returns
+returns c = c .refused .ensures ∙ file-refused _ _ (c .before .before .table-refusal .ensures) (c .before .if1 .taken)
+
+parts-refusal-requires : tie.Need-parts-refusal-requires
+parts-refusal-requires c κs = filed _ _ (c .before .table-refusal .ensures) (c .if1 .left)
+
+refused-requires-2 : tie.Need-refused-requires-2
+refused-requires-2 c κs = search needs
+
+returns-2 : tie.Need-returns-2
+returns-2 c =
+    let f = c .before .before .before in
+    c .refused2 .ensures ∙ parts-refused _ _ (f .before .table-refusal .ensures) (f .if1 .left) _ (c .before .before .parts-refusal .ensures) (c .before .if2 .taken)
+
+types-of-requires : tie.Need-types-of-requires
+types-of-requires c κs = eighth c .scoped
+
+refused-requires-3 : tie.Need-refused-requires-3
+refused-requires-3 c κs = search needs
+
+returns-3 : tie.Need-returns-3
+returns-3 c =
+    let l = c .before .before .before .before in
+    c .refused3 .ensures ∙ refused-9 (eighth l) (c .before .before .before .types-of .ensures) (not-true _ (c .before .if3 .taken))
+
+refused-requires-4 : tie.Need-refused-requires-4
+refused-requires-4 c κs = search needs
+
+returns-4 : tie.Need-returns-4
+returns-4 c =
+    let k = c .before .before .before in
+    c .refused4 .ensures
+    ∙ refused-10 (eighth (at-8 k)) (k .before .before .types-of .ensures) (not-false _ (k .if3 .left)) (not-true _ (c .before .if4 .taken))
+
+refused-requires-5 : tie.Need-refused-requires-5
+refused-requires-5 c κs = search needs
+
+returns-5 : tie.Need-returns-5
+returns-5 c =
+    let j = c .before .before .before in
+    let k = at-9 j in
+    c .refused5 .ensures
+    ∙ refused-11 (eighth (at-8 k)) (k .before .before .types-of .ensures) (not-false _ (k .if3 .left)) (tenth j) (not-true _ (c .before .if5 .taken))
+
+bay-count-requires : tie.Need-bay-count-requires
+bay-count-requires c κs = eighth (at-8 (at-9 (c .before .before .before))) .scoped .terms .laid
+
+cast-t8 : tie.Need-cast-t8
+cast-t8 c = omega (arith, bays-between (eighth (at-8 (at-9 (c .before .before .before .before))) .scoped .terms .laid) .high, c .bay-count .ensures)
+
+returns-6 : tie.Need-returns-6
+returns-6 c =
+    let j = c .before .before .before .before in
+    let k = at-9 j in
+    all-pass (eighth (at-8 k)) (k .before .before .types-of .ensures) (not-false _ (k .if3 .left)) (tenth j)
+    (not-false _ (c .before .before .if5 .left)) _ (c .bay-count .ensures)
+
+pub check-spec : {M : Type 1} → statement M
+check-spec =
+    tie.close
+    (tie.spec
+    table-refusal-requires
+    refused-requires
+    returns
+    parts-refusal-requires
+    refused-requires-2
+    returns-2
+    types-of-requires
+    refused-requires-3
+    returns-3
+    refused-requires-4
+    returns-4
+    refused-requires-5
+    returns-5
+    bay-count-requires
+    cast-t8
+    returns-6)

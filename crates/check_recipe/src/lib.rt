@@ -1,0 +1,87 @@
+// Checking a recipe file: each cause over the whole file before the next, and the lowest number is answered.
+ghost use mathlib.Core.Path.{_≡_};
+ghost use Rattle.calculus.specs.Table.{TableRule};
+ghost use Rattle.recipe_file.specs.Laid.{Laid};
+ghost use Rattle.recipe_table.specs.Entries.{type-table};
+ghost use Rattle.check_spec.specs.Verdict.{refused, verdict-of};
+ghost use Rattle.check_recipe.specs.Refusals.{parts-refusal, terms-refusal};
+use check_bays::Test;
+use recipe_file::Recipe;
+use term_scan::Part;
+use check_spec::Verdict;
+
+// A refusal has its number and nothing else.
+fn refused(number: u8) -> Verdict
+    ensures { λ r. ⌜ r ≡ refused number ⌝ }
+{
+    Verdict {
+        refusal: number as u32,
+        bays: 0,
+        types: [0u8; Recipe::MAX_BAYS],
+    }
+}
+
+// Causes 5 and 6: the number of the lower one that fits, or 0.
+fn terms_refusal(recipe: &[u8]) -> u8
+    requires { ⌜ Laid (now recipe) × TableRule (type-table (now recipe)) ⌝ }
+    ensures { λ r. ⌜ r ≡ terms-refusal (now (recipe .entry)) ⌝ }
+{
+    let Part::Nodes(nodes) = check_bays::count_nodes(recipe) else {
+        return 5;
+    };
+    if Recipe::MAX_NODES < nodes {
+        return 6;
+    }
+    if !check_bays::each_passes(recipe, Test::Nesting) {
+        return 6;
+    }
+    0
+}
+
+// Causes 5 to 8: the number of the lowest that fits, or 0. One pass decides whether one fits; only then is it sought.
+fn parts_refusal(recipe: &[u8]) -> u8
+    requires { ⌜ Laid (now recipe) × TableRule (type-table (now recipe)) ⌝ }
+    ensures { λ r. ⌜ r ≡ parts-refusal (now (recipe .entry)) ⌝ }
+{
+    if check_bays::each_stands(recipe) {
+        return 0;
+    }
+    let terms = terms_refusal(recipe);
+    if terms != 0 {
+        return terms;
+    }
+    if !check_bays::each_passes(recipe, Test::Scope) {
+        return 7;
+    }
+    8
+}
+
+// The verdict on a recipe file: the lowest cause that fits, or the bays' types.
+pub fn check(recipe: &[u8]) -> Verdict
+    ensures { λ r. ⌜ r ≡ verdict-of (now (recipe .entry)) ⌝ }
+{
+    let file = recipe_table::table_refusal(recipe);
+    if file != 0 {
+        return refused(file);
+    }
+    let parts = parts_refusal(recipe);
+    if parts != 0 {
+        return refused(parts);
+    }
+    let found = check_bays::types_of(recipe);
+    if !found.each {
+        return refused(9);
+    }
+    if !found.linear {
+        return refused(10);
+    }
+    if !found.many {
+        return refused(11);
+    }
+    let types = found.numbers;
+    Verdict {
+        refusal: 0,
+        bays: recipe_file::bay_count(recipe) as u32,
+        types: types,
+    }
+}

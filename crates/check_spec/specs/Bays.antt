@@ -1,0 +1,29 @@
+-- Document 01, "one term for each of b = n − 1 bays": the bays' terms; causes 5 and 6.
+use mathlib.Core.Bool.{Bool, _||_, not}
+use mathlib.Core.List.{List}
+use Prim.Native.Nat.{ℕ}
+use lib.Dec.{leb, ltb}
+use Rattle.calculus.specs.Lists.{tabulate, each-below, sum-below}
+use Rattle.calculus.specs.Syntax.{Exp}
+use Rattle.calculus.specs.Limits.{max-nesting, max-recipe-nodes}
+use Rattle.calculus.specs.Image.{nodes}
+use Rattle.term.specs.Reader.{one-term, read-term}
+use Rattle.term.specs.Expressions.{nesting, term-at}
+use Rattle.recipe_file.specs.File.{bays, term-bytes}
+
+-- the expression that a bay's part says
+unfoldable pub bay-term : List ℕ → ℕ → Exp
+bay-term s bay = term-at (term-bytes s bay) 0
+
+unfoldable pub bay-terms : List ℕ → List Exp
+bay-terms s = tabulate (bays s) (bay-term s)
+
+-- document 01, cause 5: "a part is not exactly one term"
+unfoldable pub cause-5 : List ℕ → Bool
+cause-5 s = not (each-below (bays s) (λ bay. one-term (read-term (term-bytes s bay))))
+
+-- document 01, cause 6: "nesting or nodes above the limit", "1,024 nodes over all terms"
+unfoldable pub cause-6 : List ℕ → Bool
+cause-6 s =
+    not (each-below (bays s) (λ bay. leb (nesting (bay-term s bay)) max-nesting))
+    || ltb max-recipe-nodes (sum-below (bays s) (λ bay. nodes (bay-term s bay)))

@@ -1,0 +1,42 @@
+-- What document 01 and the paper ask of a recipe, with no reader in it: the file s says the type table T and the terms es. It is accepted exactly when there
+-- are such T and es, and then there is one of each (Theory.Accepted).
+use mathlib.Core.Path.{_≡_}
+use mathlib.Core.Option.{some}
+use mathlib.Core.List.{List, [], _∷_, map}
+use Prim.Native.Nat.{_≤_, ℕ}
+use lib.ListN.{length}
+use Rattle.calculus.specs.Types.{many, LinType, multiplicity}
+use Rattle.calculus.specs.Syntax.{Exp, thread-of, at}
+use Rattle.calculus.specs.Typing.{Derivation}
+use Rattle.calculus.specs.Narrowing.{Narrow}
+use Rattle.calculus.specs.Limits.{max-nesting, max-recipe-nodes}
+use Rattle.calculus.specs.Image.{nodes-all}
+use Rattle.calculus.specs.Table.{Table, TableRule, type-at}
+use Rattle.calculus.specs.Recipe.{setting-types}
+use Rattle.term.specs.Expressions.{bytes, Fits, nesting}
+use Rattle.recipe_file.specs.File.{bays, table-bytes, term-bytes}
+use Rattle.recipe_file.specs.Laid.{Laid}
+
+-- document 01, "entries of three bytes: kind, p, q"
+unfoldable pub entry-bytes : Table → List ℕ
+entry-bytes [] = []
+entry-bytes (x ∷ T) = x .kind ∷ x .p ∷ x .q ∷ entry-bytes T
+
+-- the paper: a bay's term has a derivation by Figs. 8 and 9, with document 01's handle type, narrowing and a many type
+abbrev pub Derived : Table → ℕ → Exp → Type 0
+Derived T b e = (α : LinType) × Derivation (type-at T) (setting-types b) [] e α × (multiplicity α ≡ many) × Narrow (type-at T) e
+
+pub record Recipe (s : List ℕ) (T : Table) (es : List Exp) : Type 0 where
+  -- causes 1 to 3: the layout and its limits
+  pub laid : Laid s
+  -- cause 4: the first part is the table, and it keeps its rule
+  pub table : table-bytes s ≡ entry-bytes T
+  pub table-rule : TableRule T
+  -- cause 5: each other part is the bytes of an expression that the node forms can write
+  pub count : length es ≡ bays s
+  pub terms : (bay : ℕ) (e : Exp) → at es bay ≡ some e → (term-bytes s bay ≡ bytes e) × Fits e
+  -- cause 6: nesting, and nodes over all terms
+  pub shallow : (bay : ℕ) (e : Exp) → at es bay ≡ some e → nesting e ≤ max-nesting
+  pub few-nodes : nodes-all (map thread-of es) ≤ max-recipe-nodes
+  -- causes 7 to 11
+  pub derived : (bay : ℕ) (e : Exp) → at es bay ≡ some e → Derived T (length es) e

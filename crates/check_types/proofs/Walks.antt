@@ -1,0 +1,159 @@
+-- The type of a term from those of its subterms, and that subterms of a term in scope are in scope.
+use mathlib.Core.Path.{_≡_, ap, refl, subst, sym, _∙_}
+use mathlib.Core.Bool.{_&&_, and-false, and-true, false, true}
+use mathlib.Core.Option.{Option, none, some}
+use mathlib.Core.List.{List, _∷_}
+use Prim.Native.Nat.{_+_, _<_, suc, ℕ}
+use native.Mathlib.Numerals.{add-one}
+use native.Mathlib.Omega.{arith}
+use borrow.Author.Tests.{ltb-true}
+use lib.Dec.{ltb}
+use Rattle.calculus.specs.Limits.{byte-values}
+use Rattle.calculus.specs.Syntax.{app, at as entry-at, Exp, lam}
+use Rattle.calculus.specs.Table.{Entry, Table}
+use Rattle.calculus.specs.Verdict.{applied-number, is-function-kind, lambda-number, on-function, on-number, result-number, scoped, type-number}
+use Rattle.calculus.specs.Theory.Tests.{and-parts, clash}
+use Rattle.term.specs.declared.Node.{Node}
+use Rattle.term.specs.Reader.{end-at}
+use Rattle.term.specs.Expressions.{leaf-exp, nesting, term-at}
+use Rattle.term.proofs.Views.{LeafAt, OneAt, past-first, TwoAt}
+use Rattle.check_types.specs.declared.Typed.the-variants.{Has, Nothing}
+use Rattle.check_types.specs.Entries.{entry-of}
+use Rattle.check_types.specs.Walk.{HasNumber, Ready, Scoped, type-at, typed}
+use Rattle.check_types.proofs.Entries.{lambda-is, on-function-is, result-is}
+
+-- Scope
+
+module _ {count above : ℕ} where
+  scoped-as : {e e′ : Exp} → e ≡ e′ → Scoped count above e → Scoped count above e′
+  scoped-as is s = subst (Scoped count above) is s
+
+  lambda-annotation : {t : ℕ} {e : Exp} → Scoped count above (lam t e) → t < byte-values
+  unfolding scoped
+  lambda-annotation {t} {e} s =
+      let (b, i) = and-parts (ltb t count) (scoped count (s .names) (suc above) e) (s .scope) in
+      omega (arith, ltb-true t count b, s .entries)
+
+  lambda-body : {t : ℕ} {e : Exp} → Scoped count above (lam t e) → Scoped count (above + 1) e
+  unfolding scoped nesting
+  lambda-body {t} {e} s =
+      let (b, i) = and-parts (ltb t count) (scoped count (s .names) (suc above) e) (s .scope) in
+      record { entries = s .entries; nests = omega (arith, s .nests); names = s .names; scope = rw (add-one above) i }
+
+  applied-both : {f a : Exp} → Scoped count above (app f a) → Scoped count above f × Scoped count above a
+  unfolding scoped nesting
+  applied-both {f} {a} s =
+      let (i, j) = and-parts (scoped count (s .names) above f) (scoped count (s .names) above a) (s .scope) in (
+        record { entries = s .entries; nests = omega (arith, s .nests); names = s .names; scope = i },
+        record { entries = s .entries; nests = omega (arith, s .nests); names = s .names; scope = j },
+      )
+
+module _ {l : List ℕ} {at count above : ℕ} {h : Node} (r : Ready l at count above) where
+  pub leaf-ready : LeafAt l at h → Scoped count above (leaf-exp (h .tag) (h .arg))
+  leaf-ready o = scoped-as (o .term) (r .term)
+
+  pub body-ready : OneAt l at h → Ready l (at + h .size) count (above + 1)
+  body-ready o = record { good = o .good; term = lambda-body (scoped-as (o .term) (r .term)) }
+
+  pub annotation-byte : OneAt l at h → h .arg < byte-values
+  annotation-byte o = lambda-annotation (scoped-as (o .term) (r .term))
+
+  pub function-ready : TwoAt l at h → Ready l (at + h .size) count above
+  function-ready o = record { good = o .good; term = applied-both (scoped-as (o .term) (r .term)) .0 }
+
+  pub argument-ready : TwoAt l at h → Ready l (past-first l at h) count above
+  argument-ready o = record { good = o .second; term = applied-both (scoped-as (o .term) (r .term)) .1 }
+
+-- Types
+
+record Found (o : Option ℕ) (n end end′ : ℕ) : Type 0 where
+  pub number : o ≡ some n
+  pub ends : end ≡ end′
+
+found : (o : Option ℕ) (n end end′ : ℕ) → Has n end′ ≡ typed o end → Found o n end end′
+unfolding typed
+found none n end end′ e = absurd (clash (cc))
+found (some m) n end end′ e = record { number = ap some (cc); ends = cc }
+
+missing : (o : Option ℕ) (end : ℕ) → Nothing ≡ typed o end → o ≡ none
+unfolding typed
+missing none end e = refl
+missing (some m) end e = absurd (clash (cc))
+
+no-body : (x : Entry) (t : ℕ) (body : ℕ → Option ℕ) → body (x .p) ≡ none → lambda-number t (some x) body ≡ none
+unfolding lambda-number on-number
+no-body x t body e = simp (e, and-false)
+
+no-function : (x : Entry) (t : ℕ) (body : ℕ → Option ℕ) → (is-function-kind (x .kind) && true) ≡ false → lambda-number t (some x) body ≡ none
+unfolding lambda-number
+no-function x t body e = rw (sym (and-true (is-function-kind (x .kind))) ∙ e) refl
+
+body-is : (x : Entry) (t b : ℕ) (body : ℕ → Option ℕ) → body (x .p) ≡ some b → lambda-number t (some x) body ≡ lambda-number t (some x) (λ p. some b)
+unfolding lambda-number
+body-is x t b body e = rw e refl
+
+module _ (T : Table) (Δ l : List ℕ) (at : ℕ) (h : Node) where
+  pub leaf-type : LeafAt l at h → (n : ℕ) → HasNumber Δ (leaf-exp (h .tag) (h .arg)) n → Has n (at + h .size) ≡ type-at T Δ l at
+  unfolding type-at typed
+  leaf-type o n i = rw (o .term, o .ends, i .number T) refl
+
+  module _ (o : OneAt l at h) where
+    abbrev body : ℕ → Option ℕ
+    body p = type-number T (p ∷ Δ) (term-at l (at + h .size))
+
+    lambda : type-number T Δ (term-at l at) ≡ lambda-number (h .arg) (some (entry-of T (h .arg))) body
+    unfolding type-number entry-of
+    lambda = rw (o .term) (lambda-is (entry-at T (h .arg)) (h .arg) body)
+
+    pub no-lambda : on-function T (h .arg) (λ p q. true) ≡ false → Nothing ≡ type-at T Δ l at
+    unfolding type-at typed
+    no-lambda e = rw (lambda, no-function (entry-of T (h .arg)) (h .arg) body (sym (on-function-is T (h .arg) (λ p q. true)) ∙ e)) refl
+
+    pub one-nothing : Nothing ≡ type-at T (entry-of T (h .arg) .p ∷ Δ) l (at + h .size) → Nothing ≡ type-at T Δ l at
+    unfolding type-at typed
+    one-nothing e =
+        rw (lambda, no-body (entry-of T (h .arg)) (h .arg) body (missing (body (entry-of T (h .arg) .p)) (end-at l (at + h .size)) e)) refl
+
+    pub one-type : (b end : ℕ) → Has b end ≡ type-at T (entry-of T (h .arg) .p ∷ Δ) l (at + h .size) →
+        typed (lambda-number (h .arg) (some (entry-of T (h .arg))) (λ p. some b)) end ≡ type-at T Δ l at
+    unfolding type-at
+    one-type b end e =
+        let f = found (body (entry-of T (h .arg) .p)) b (end-at l (at + h .size)) end e in
+        rw (lambda, body-is (entry-of T (h .arg)) (h .arg) b body (f .number), o .ends, f .ends) refl
+
+  module _ (o : TwoAt l at h) where
+    abbrev function : Option ℕ
+    function = type-number T Δ (term-at l (at + h .size))
+
+    abbrev argument : Option ℕ
+    argument = type-number T Δ (term-at l (past-first l at h))
+
+    application : type-number T Δ (term-at l at) ≡ applied-number T function argument
+    unfolding type-number
+    application = rw (o .term) refl
+
+    pub two-nothing : Nothing ≡ type-at T Δ l (at + h .size) → Nothing ≡ type-at T Δ l at
+    unfolding type-at typed applied-number
+    two-nothing e = rw (application, missing function (past-first l at h) e) refl
+
+    module _ (f second : ℕ) (first : Has f second ≡ type-at T Δ l (at + h .size)) where
+      first-found : Found function f (past-first l at h) second
+      unfolding type-at
+      first-found = found function f (past-first l at h) second first
+
+      -- the second subterm begins where the first ends
+      pub second-at : past-first l at h ≡ second
+      second-at = first-found .ends
+
+      pub two-nothing-second : Nothing ≡ type-at T Δ l second → Nothing ≡ type-at T Δ l at
+      unfolding type-at typed applied-number
+      two-nothing-second e =
+          let e′ : Nothing ≡ type-at T Δ l (past-first l at h) = subst (λ x. Nothing ≡ type-at T Δ l x) (sym second-at) e in
+          rw (application, first-found .number, missing argument (end-at l (past-first l at h)) e′) refl
+
+      pub two-type : (a end : ℕ) → Has a end ≡ type-at T Δ l second → typed (result-number (some (entry-of T f)) a) end ≡ type-at T Δ l at
+      unfolding type-at applied-number entry-of
+      two-type a end e =
+          let e′ : Has a end ≡ type-at T Δ l (past-first l at h) = subst (λ x. Has a end ≡ type-at T Δ l x) (sym second-at) e in
+          let g = found argument a (end-at l (past-first l at h)) end e′ in
+          rw (application, first-found .number, g .number, result-is (entry-at T f) a, o .ends, g .ends) refl

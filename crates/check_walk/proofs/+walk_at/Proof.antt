@@ -1,0 +1,352 @@
+-- The proof of the cycle of calls {walk_at}: what falls is the part still unread, and each return is a law of proofs/Together.antt.
+use mathlib.Core.Path.{_≡_, refl, subst, sym, _∙_}
+use mathlib.Core.List.{List}
+use Prim.Native.Nat.{ℕ, _+_, _-_, _<_}
+use native.Mathlib.Omega.{arith}
+use borrow.Author.Needs.{needs}
+use borrow.Fn.Kinds.{In}
+use borrow.Fn.PlainCycle.{Measures, is, falls, and}
+use lib.ListN.{length, length-set}
+use Rattle.term.specs.declared.Head.the-variants.{Is}
+use Rattle.term.specs.declared.Node.{Node}
+use Rattle.term.specs.Reader.{head-at}
+use Rattle.term.proofs.Views.{is-two, leaf-from, LeafAt, node-at, NodeAt, not-bad, one-from, OneAt, past-first, two-from, TwoAt}
+use Rattle.term.proofs.head_at.Reads as head-at-reads
+use Rattle.check_types.proofs.applied_type.Reads as applied-type-reads
+use Rattle.check_types.proofs.entry_at.Reads as entry-at-reads
+use Rattle.check_types.proofs.lambda_type.Reads as lambda-type-reads
+use Rattle.check_types.proofs.leaf_type.Reads as leaf-type-reads
+use Rattle.check_walk.specs.Walk.{Ready}
+use Rattle.check_walk.proofs.Codes.{under-low}
+use Rattle.check_walk.proofs.Ways.{leaf-scope, leaf-scoped, level-below, ready-argument, ready-body, ready-function, type-below}
+use Rattle.check_walk.proofs.Together.{second-is, walked-application, walked-lambda, walked-leaf, walked-no-body, walked-no-first, walked-no-function, walked-no-second}
+use Rattle.check_walk.proofs.both.Reads as both-reads
+use Rattle.check_walk.proofs.code_floor.Reads as code-floor-reads
+use Rattle.check_walk.proofs.code_mark.Reads as code-mark-reads
+use Rattle.check_walk.proofs.code_of.Reads as code-of-reads
+use Rattle.check_walk.proofs.leaves.Reads as leaves-reads
+use Rattle.check_walk.proofs.spend_leaf.Reads as spend-leaf-reads
+use Rattle.check_walk.proofs.with_uses.Reads as with-uses-reads
+use Rattle.check_walk.proofs.walk_at.Reads as reads
+use Rattle.check_walk.proofs.walk_at.Kinds as kinds
+use Rattle.check_walk.proofs.+walk_at.Lts-walk_at as lts
+use Rattle.check_walk.proofs.+walk_at.{statement}
+use Rattle.check_walk.proofs.+walk_at.Tie.{close}
+
+abbrev μ : Measures 4 kinds.ps ℕ
+μ κs a = length (a .1 .0 .now) - a .1 .1 .0
+
+-- what `walk_at` is given at the measure t, what a call of it asks below t, and what is known of the functions that it calls
+abbrev given : ℕ → In 4 kinds.ps
+given t = and 4 kinds.ps (is 4 kinds.ps μ t) reads.Pre
+
+abbrev below : ℕ → In 4 kinds.ps
+below t = and 4 kinds.ps (falls 4 kinds.ps _<_ μ t) reads.Pre
+
+abbrev calls : ℕ → lts.Claims
+calls t = (
+  head-at-reads.Asked,
+  head-at-reads.Learnt,
+  leaf-type-reads.Asked,
+  leaf-type-reads.Learnt,
+  spend-leaf-reads.Asked,
+  spend-leaf-reads.Learnt,
+  entry-at-reads.Asked,
+  entry-at-reads.Learnt,
+  code-of-reads.Asked,
+  code-of-reads.Learnt,
+  code-floor-reads.Asked,
+  code-floor-reads.Learnt,
+  code-mark-reads.Asked,
+  code-mark-reads.Learnt,
+  below t,
+  reads.Post,
+  lambda-type-reads.Asked,
+  lambda-type-reads.Learnt,
+  leaves-reads.Asked,
+  leaves-reads.Learnt,
+  with-uses-reads.Asked,
+  with-uses-reads.Learnt,
+  applied-type-reads.Asked,
+  applied-type-reads.Learnt,
+  both-reads.Asked,
+  both-reads.Learnt,
+)
+
+module _ (t : ℕ) where
+  -- where the head is a node
+  abbrev AtNode : Type 0
+  AtNode = lts.After-struct-known (calls t) (given t) reads.Post
+
+  abbrev start : AtNode → lts.Start (calls t) (given t) reads.Post
+  start c = c .before .before .before .before .before .before .before
+
+  abbrev all : AtNode → List ℕ
+  all c = start c .args .s .now
+
+  abbrev at : AtNode → ℕ
+  at c = start c .args .at
+
+  abbrev above : AtNode → ℕ
+  above c = start c .args .above
+
+  abbrev env : AtNode → List ℕ
+  env c = start c .args .env .now
+
+  abbrev marks : AtNode → List ℕ
+  marks c = start c .args .marks .now
+
+  ready : (c : AtNode) → Ready (all c) (at c) (above c) (start c .args .floor) (env c) (marks c)
+  ready c = start c .pre .1
+
+  abbrev node : AtNode → Node
+  node c = c .before .before .node .given .0 .0
+
+  is-node : (c : AtNode) → head-at (all c) (at c) ≡ Is (node c)
+  is-node c = sym (c .before .before .before .before .head-at .ensures) ∙ c .before .before .node .given .1
+
+  here : (c : AtNode) → NodeAt (all c) (at c) (node c)
+  here c = node-at (ready c .good .inside) (is-node c)
+
+  falls-at : (c : AtNode) → length (all c) - (at c + node c .size) < t
+  falls-at c = omega (arith, start c .pre .0, here c .inside, here c .onward)
+
+  leaf : (c : AtNode) → node c .subterms ≡ 0 → LeafAt (all c) (at c) (node c)
+  leaf c k = leaf-from (is-node c) (ready c .good) k
+
+  -- where one subterm follows
+  abbrev AtLambda : Type 0
+  AtLambda = lts.Then2 (calls t) (given t) reads.Post
+
+  abbrev lambda : AtLambda → AtNode
+  lambda c = c .before .before
+
+  one : (c : AtLambda) → OneAt (all (lambda c)) (at (lambda c)) (node (lambda c))
+  one c = one-from (is-node (lambda c)) (ready (lambda c) .good) (c .if2 .taken)
+
+  level : (c : AtLambda) → above (lambda c) < 100
+  level c = level-below (ready (lambda c)) (one c)
+
+  -- where its body is walked
+  abbrev AtMark : Type 0
+  AtMark = lts.After-code-mark (calls t) (given t) reads.Post
+
+  abbrev opened : AtMark → AtLambda
+  opened c = c .before .before .before .before .before
+
+  room : (c : AtMark) → above (lambda (opened c)) < length (env (lambda (opened c)))
+  room c = omega (arith, level (opened c), ready (lambda (opened c)) .wide)
+
+  space : (c : AtMark) → above (lambda (opened c)) < length (marks (lambda (opened c)))
+  space c = omega (arith, level (opened c), ready (lambda (opened c)) .long)
+
+  -- where two subterms follow
+  abbrev AtTwo : Type 0
+  AtTwo = lts.Else2 (calls t) (given t) reads.Post
+
+  abbrev apply : AtTwo → AtNode
+  apply c = c .before .before
+
+  two : (c : AtTwo) → TwoAt (all (apply c)) (at (apply c)) (node (apply c))
+  two c = let n = apply c in two-from (is-node n) (ready n .good) (is-two (here n) (c .before .if1 .left) (c .if2 .left))
+
+  -- where the first of them has its type
+  abbrev AtFirst : Type 0
+  AtFirst = lts.After-known-told3 (calls t) (given t) reads.Post
+
+  abbrev back : AtFirst → AtTwo
+  back c = c .before .before .before .before .before .before
+
+  abbrev second : AtFirst → ℕ
+  second c = c .before .function .given .0 .1 .0
+
+  second-at : (c : AtFirst) → let n = apply (back c) in past-first (all n) (at n) (node n) ≡ second c
+  second-at c = second-is _ _ _ _ _ _ _ _ (two (back c)) _ _ (c .before .before .before .walk-at2 .ensures) _ _ _ (c .before .function .given .1)
+
+  head-at-requires : lts.Need-head-at-requires (calls t) (given t) reads.Post
+  head-at-requires c κs = c .before .before .pre .1 .good .inside
+
+  enum-known-node : lts.Need-enum-known-node (calls t) (given t) reads.Post
+  enum-known-node c = search needs
+
+  enum-told : lts.Need-enum-told (calls t) (given t) reads.Post
+  enum-told c = search needs
+
+  returns : lts.Need-returns (calls t) (given t) reads.Post
+  returns c = absurd (not-bad (c .before .before .before .before .before .pre .1 .good) (sym (c .before .before .head-at .ensures) ∙ c .enum-told .given .1))
+
+  add-next : lts.Need-add-next (calls t) (given t) reads.Post
+  add-next c = omega (arith, here c .inside)
+
+  leaf-type-requires : lts.Need-leaf-type-requires (calls t) (given t) reads.Post
+  leaf-type-requires c κs = let n = c .before .before in leaf-scoped (ready n) (leaf n (c .before .if1 .taken))
+
+  spend-leaf-requires : lts.Need-spend-leaf-requires (calls t) (given t) reads.Post
+  spend-leaf-requires c κs = let n = c .before .before .before .before in leaf-scope (ready n) (leaf n (c .before .before .before .if1 .taken))
+
+  returns-2 : lts.Need-returns-2 (calls t) (given t) reads.Post
+  returns-2 c = let n = c .before .before .before .before .before in walked-leaf _ _ _ _ _ _ _ _ (leaf n (c .before .before .before .before .if1 .taken)) (c .before .before .leaf-type .ensures) (c .spend-leaf .ensures)
+
+  entry-at-requires : lts.Need-entry-at-requires (calls t) (given t) reads.Post
+  entry-at-requires c κs = omega (arith, type-below (ready (lambda c)) (one c))
+
+  code-of-requires : lts.Need-code-of-requires (calls t) (given t) reads.Post
+  code-of-requires c κs = search needs
+
+  returns-3 : lts.Need-returns-3 (calls t) (given t) reads.Post
+  returns-3 c = walked-no-function _ _ _ _ _ _ _ _ (one (c .before .before .before)) _ _ (c .before .before .entry-at .ensures) (c .before .code-of .ensures) (c .if3 .taken)
+
+  code-floor-requires : lts.Need-code-floor-requires (calls t) (given t) reads.Post
+  code-floor-requires c κs = search needs
+
+  code-mark-requires : lts.Need-code-mark-requires (calls t) (given t) reads.Post
+  code-mark-requires c κs = search needs
+
+  element-write-marks : lts.Need-element-write-marks (calls t) (given t) reads.Post
+  element-write-marks c = level (opened c)
+
+  element-write-env : lts.Need-element-write-env (calls t) (given t) reads.Post
+  element-write-env c = level (opened c)
+
+  add-walk-at : lts.Need-add-walk-at (calls t) (given t) reads.Post
+  add-walk-at c = omega (arith, level (opened (c .before .before)))
+
+  walk-at-requires : lts.Need-walk-at-requires (calls t) (given t) reads.Post
+  walk-at-requires c κs =
+      let m = c .before .before in
+      let l = opened m in
+      let n = lambda l in
+      (falls-at n, ready-body (ready n) (one l) (under-low _ _ _ (m .before .code-floor .ensures) (ready n .low)) (length-set (env n) (above n) _) (length-set (marks n) (above n) _))
+
+  enum-known-body : lts.Need-enum-known-body (calls t) (given t) reads.Post
+  enum-known-body c = search needs
+
+  enum-told-2 : lts.Need-enum-told-2 (calls t) (given t) reads.Post
+  enum-told-2 c = search needs
+
+  returns-4 : lts.Need-returns-4 (calls t) (given t) reads.Post
+  returns-4 c =
+      let m = c .before .before .before .before .before in
+      walked-no-body _ _ _ _ _ _ _ _ (one (opened m)) _ _ (m .before .before .before .before .entry-at .ensures) (m .before .before .before .code-of .ensures) _ _ _ _ (room m) (c .before .before .walk-at .ensures) (c .enum-told2 .given .1)
+
+  cast-lambda-type : lts.Need-cast-lambda-type (calls t) (given t) reads.Post
+  cast-lambda-type c = let l = opened (c .before .before .before .before .before .before) in omega (arith, type-below (ready (lambda l)) (one l))
+
+  lambda-type-requires : lts.Need-lambda-type-requires (calls t) (given t) reads.Post
+  lambda-type-requires c κs = search needs
+
+  element-copy-out-leaves : lts.Need-element-copy-out-leaves (calls t) (given t) reads.Post
+  element-copy-out-leaves c = level (opened (c .before .before .before .before .before .before .before))
+
+  leaves-requires : lts.Need-leaves-requires (calls t) (given t) reads.Post
+  leaves-requires c κs = search needs
+
+  with-uses-requires : lts.Need-with-uses-requires (calls t) (given t) reads.Post
+  with-uses-requires c κs = search needs
+
+  returns-5 : lts.Need-returns-5 (calls t) (given t) reads.Post
+  returns-5 c =
+      let b = c .before .before .before .before in
+      let m = b .before .before .before .before .before .before in
+      walked-lambda _ _ _ _ _ _ _ _ (one (opened m)) _ _ (m .before .before .before .before .entry-at .ensures) (m .before .before .before .code-of .ensures) _ _ _ _ (room m) (b .before .before .before .walk-at .ensures)
+      _ _ _ (b .before .body .given .1) (m .before .before .if3 .left) (m .before .code-floor .ensures) (m .code-mark .ensures) (ready (lambda (opened m)) .low) (space m)
+      (c .before .before .before .lambda-type .ensures) (c .before .leaves .ensures) (c .with-uses .ensures)
+
+  walk-at-requires-2 : lts.Need-walk-at-requires-2 (calls t) (given t) reads.Post
+  walk-at-requires-2 c κs = let e = c .before .before in let n = apply e in (falls-at n, ready-function (ready n) (two e))
+
+  enum-known-function : lts.Need-enum-known-function (calls t) (given t) reads.Post
+  enum-known-function c = search needs
+
+  enum-told-3 : lts.Need-enum-told-3 (calls t) (given t) reads.Post
+  enum-told-3 c = search needs
+
+  returns-6 : lts.Need-returns-6 (calls t) (given t) reads.Post
+  returns-6 c = walked-no-first _ _ _ _ _ _ _ _ (two (c .before .before .before .before .before)) _ _ (c .before .before .walk-at2 .ensures) (c .enum-told3 .given .1)
+
+  walk-at-requires-3 : lts.Need-walk-at-requires-3 (calls t) (given t) reads.Post
+  walk-at-requires-3 c κs =
+      let f = c .before .before in
+      let e = back f in
+      let n = apply e in
+      let k = f .before .before .before .walk-at2 .ensures .left _ _ _ (f .before .function .given .1) in (
+        omega (arith, start n .pre .0, here n .onward, two e .onward, two e .second .inside, second-at f),
+        ready-argument (ready n) (two e) (sym (second-at f)) (k .wide) (k .spent .same),
+      )
+
+  enum-known-argument : lts.Need-enum-known-argument (calls t) (given t) reads.Post
+  enum-known-argument c = search needs
+
+  enum-told-4 : lts.Need-enum-told-4 (calls t) (given t) reads.Post
+  enum-told-4 c = search needs
+
+  returns-7 : lts.Need-returns-7 (calls t) (given t) reads.Post
+  returns-7 c =
+      let f = c .before .before .before .before .before in
+      walked-no-second _ _ _ _ _ _ _ _ (two (back f)) _ _ (f .before .before .before .walk-at2 .ensures) _ _ _ (f .before .function .given .1) _ _ (c .before .before .walk-at3 .ensures) (c .enum-told4 .given .1)
+
+  cast-entry-at : lts.Need-cast-entry-at (calls t) (given t) reads.Post
+  cast-entry-at c = search needs
+
+  entry-at-requires-2 : lts.Need-entry-at-requires-2 (calls t) (given t) reads.Post
+  entry-at-requires-2 c κs = search needs
+
+  applied-type-requires : lts.Need-applied-type-requires (calls t) (given t) reads.Post
+  applied-type-requires c κs = search needs
+
+  both-requires : lts.Need-both-requires (calls t) (given t) reads.Post
+  both-requires c κs = search needs
+
+  with-uses-requires-2 : lts.Need-with-uses-requires-2 (calls t) (given t) reads.Post
+  with-uses-requires-2 c κs = search needs
+
+  returns-8 : lts.Need-returns-8 (calls t) (given t) reads.Post
+  returns-8 c =
+      let g = c .before .before .before .before in
+      let f = g .before .before .before .before .before .before in
+      walked-application _ _ _ _ _ _ _ _ (two (back f)) _ _ (f .before .before .before .walk-at2 .ensures) _ _ _ (f .before .function .given .1) _ _ (g .before .before .before .walk-at3 .ensures)
+      (g .before .argument .given .1) (c .before .before .before .entry-at2 .ensures) (c .before .before .applied-type .ensures) (c .before .both .ensures) (c .with-uses2 .ensures)
+
+pub +walk-at-spec : {M : Type 1} → statement M
++walk-at-spec =
+    close μ λ t. lts.spec (calls t) (given t) reads.Post
+    (head-at-requires t)
+    (enum-known-node t)
+    (enum-told t)
+    (returns t)
+    (add-next t)
+    (leaf-type-requires t)
+    (spend-leaf-requires t)
+    (returns-2 t)
+    (entry-at-requires t)
+    (code-of-requires t)
+    (returns-3 t)
+    (code-floor-requires t)
+    (code-mark-requires t)
+    (element-write-marks t)
+    (element-write-env t)
+    (add-walk-at t)
+    (walk-at-requires t)
+    (enum-known-body t)
+    (enum-told-2 t)
+    (returns-4 t)
+    (cast-lambda-type t)
+    (lambda-type-requires t)
+    (element-copy-out-leaves t)
+    (leaves-requires t)
+    (with-uses-requires t)
+    (returns-5 t)
+    (walk-at-requires-2 t)
+    (enum-known-function t)
+    (enum-told-3 t)
+    (returns-6 t)
+    (walk-at-requires-3 t)
+    (enum-known-argument t)
+    (enum-told-4 t)
+    (returns-7 t)
+    (cast-entry-at t)
+    (entry-at-requires-2 t)
+    (applied-type-requires t)
+    (both-requires t)
+    (with-uses-requires-2 t)
+    (returns-8 t)

@@ -1,0 +1,94 @@
+-- The walk over a term at a position, what it asks and what it answers: document 01's causes 9 and 10.
+use mathlib.Core.Path.{_≡_}
+use mathlib.Core.Bool.{Bool, false, true}
+use mathlib.Core.List.{List, []}
+use Prim.Native.Nat.{_+_, _<_, _≤_, ℕ}
+use lib.ListN.{length}
+use Rattle.calculus.specs.Limits.{max-entries, max-nesting}
+use Rattle.calculus.specs.Table.{Table}
+use Rattle.calculus.specs.Verdict as calculus
+use Rattle.term.specs.Reader.{end-at, GoodAt}
+use Rattle.term.specs.Expressions.{leaf-exp, nesting, term-at}
+use Rattle.check_linearity.specs.Levels.{Walked}
+use Rattle.check_types.specs.declared.Typed.{Typed}
+use Rattle.check_types.specs.declared.Typed.the-variants as typing
+use Rattle.check_types.specs.Walk.{environment, type-at}
+use Rattle.check_walk.specs.declared.Walked.{Walked as Answer}
+use Rattle.check_walk.specs.declared.Walked.the-variants.{Has, Nothing}
+use Rattle.check_walk.specs.Codes.{all-codes, Codes}
+
+-- a term stands at a position, below `above` lambdas whose marks are there; causes 6 and 7 do not fit it
+pub record Ready (s : List ℕ) (at above floor : ℕ) (env marks : List ℕ) : Type 0 where
+  pub good : GoodAt s at
+  pub shallow : above + nesting (term-at s at) ≤ max-nesting
+  pub types : ℕ
+  pub few : types ≤ max-entries
+  pub names : ℕ
+  pub scope : calculus.scoped types names above (term-at s at) ≡ true
+  pub low : floor ≤ above
+  pub wide : length env ≡ max-nesting
+  pub long : length marks ≡ max-nesting
+
+-- the same of a part that is one term
+pub record Whole (s : List ℕ) : Type 0 where
+  pub good : GoodAt s 0
+  pub shallow : nesting (term-at s 0) ≤ max-nesting
+  pub types : ℕ
+  pub few : types ≤ max-entries
+  pub names : ℕ
+  pub scope : calculus.scoped types names 0 (term-at s 0) ≡ true
+
+-- a node with no subterm: the lambda of a variable is one of the `above`
+pub record InScope (tag arg above : ℕ) (marks : List ℕ) : Type 0 where
+  pub bound : tag ≡ 0 → arg < above
+  pub room : above ≤ max-nesting
+  pub long : length marks ≡ max-nesting
+
+-- what it makes of the marks, with any table
+pub record LeafSpent (tag arg above floor : ℕ) (marks marks′ : List ℕ) (keeps : Bool) : Type 0 where
+  pub walked : (T : Table) → Walked T floor above marks (leaf-exp tag arg) keeps marks′
+  pub same : length marks′ ≡ length marks
+
+-- a term keeps the rule and ends somewhere, or breaks it
+pub data Spent : Type 0 where
+  To : ℕ → Spent
+  Broken : Spent
+
+unfoldable pub keeps : Spent → Bool
+keeps (To end) = true
+keeps Broken = false
+
+unfoldable pub spent-of : Bool → ℕ → Spent
+spent-of true end = To end
+spent-of false end = Broken
+
+-- what the marks are after the term at a position, with every table that has these codes
+pub record SpentAt (codes s : List ℕ) (at above floor : ℕ) (marks marks′ : List ℕ) (r : Spent) : Type 0 where
+  pub walked : (T : Table) → Codes T codes → Walked T floor above marks (term-at s at) (keeps r) marks′
+  pub ends : (end : ℕ) → r ≡ To end → end ≡ end-at s at
+  pub same : length marks′ ≡ length marks
+
+-- the type that the walk answers, and the walk's answer from a type
+unfoldable pub types-in : Answer → Typed
+types-in (Has n end kept) = typing.Has n end
+types-in Nothing = typing.Nothing
+
+unfoldable pub with-uses : Typed → Bool → Answer
+with-uses (typing.Has n end) kept = Has n end kept
+with-uses typing.Nothing kept = Nothing
+
+-- what the walk leaves of the lent arrays where it answers a type
+pub record Left (T : Table) (s : List ℕ) (at above floor : ℕ) (env env′ marks marks′ : List ℕ) (end : ℕ) (kept : Bool) : Type 0 where
+  pub spent : SpentAt (all-codes T) s at above floor marks marks′ (spent-of kept end)
+  pub around : environment above env′ ≡ environment above env
+  pub wide : length env′ ≡ length env
+
+-- what the walk answers of the term at a position: its type, and whether cause 10 does not fit
+pub record WalkedAt (T : Table) (s : List ℕ) (at above floor : ℕ) (env env′ marks marks′ : List ℕ) (r : Answer) : Type 0 where
+  pub types : types-in r ≡ type-at T (environment above env) s at
+  pub left : (n end : ℕ) (kept : Bool) → r ≡ Has n end kept → Left T s at above floor env env′ marks marks′ end kept
+
+-- the same of the term that a part is
+pub record Decides (T : Table) (s : List ℕ) (r : Answer) : Type 0 where
+  pub types : types-in r ≡ type-at T [] s 0
+  pub uses : (n end : ℕ) (kept : Bool) → r ≡ Has n end kept → kept ≡ calculus.linear T (term-at s 0)

@@ -1,0 +1,205 @@
+// Document 01, "The image": its limits and kinds, and its heads and expressions read and written in bytes.
+use buffer::put_byte;
+use buffer::put_u16;
+ghost use mathlib.Core.Path.{_≡_};
+ghost use mathlib.Core.List.{_∷_, []};
+ghost use Prim.Native.Nat.{_+_, _<_, _≤_};
+ghost use lib.ListN.{length};
+ghost use Rattle.calculus.specs.Bytes.{two-byte-values, word};
+ghost use Rattle.calculus.specs.Limits.{max-names, max-nodes, max-image-length};
+ghost use Rattle.buffer.specs.Written.{Wrote};
+ghost use Rattle.image_layout.specs.Kinds.{thread-kind, cell-kind, open-handle-kind, used-handle-kind, future-kind};
+ghost use Rattle.image_layout.specs.Encoded.{head};
+ghost use Rattle.image_layout.specs.Slice.{names, kind-at, companion-at, offset-at, length-at, expression-at};
+ghost use Rattle.image_layout.specs.Layout.{head-agrees, head-stands, heads-stand};
+ghost use Rattle.image_layout.specs.Readable.{HasHead, HasExpression};
+
+// An image: its limits, and the kinds of its names.
+pub struct Image {}
+
+impl Image {
+    // At most so many names.
+    pub const MAX_NAMES: usize = 256;
+    // At most so many nodes in all its expressions.
+    pub const MAX_NODES: usize = 4096;
+    // No image is longer, in bytes.
+    pub const MAX_LENGTH: usize = 13826;
+    // The kinds.
+    pub const THREAD: u8 = 1;
+
+    pub const CELL: u8 = 2;
+
+    pub const OPEN_HANDLE: u8 = 3;
+
+    pub const USED_HANDLE: u8 = 4;
+
+    pub const FUTURE: u8 = 5;
+}
+
+// The three limits are document 01's.
+pub fn max_names() -> usize
+    ensures { λ r. ⌜ r ≡ max-names ⌝ }
+{
+    Image::MAX_NAMES
+}
+
+pub fn max_nodes() -> usize
+    ensures { λ r. ⌜ r ≡ max-nodes ⌝ }
+{
+    Image::MAX_NODES
+}
+
+pub fn max_length() -> usize
+    ensures { λ r. ⌜ r ≡ max-image-length ⌝ }
+{
+    Image::MAX_LENGTH
+}
+
+// The kinds in their order.
+pub fn kinds() -> [u8; 5]
+    ensures { λ r. ⌜ r ≡ thread-kind ∷ cell-kind ∷ open-handle-kind ∷ used-handle-kind ∷ future-kind ∷ [] ⌝ }
+{
+    [
+        Image::THREAD,
+        Image::CELL,
+        Image::OPEN_HANDLE,
+        Image::USED_HANDLE,
+        Image::FUTURE,
+    ]
+}
+
+// The two-byte number at `at`.
+fn word_at(image: &[u8], at: usize) -> usize
+    requires { ⌜ at + 2 ≤ length (now image) ⌝ }
+    ensures { λ r. ⌜ (r ≡ word (now (image .entry)) at) × (r < two-byte-values) ⌝ }
+{
+    (image[at] as usize) + 256 * (image[at + 1] as usize)
+}
+
+// The number of names.
+pub fn names_of(image: &[u8]) -> usize
+    requires { ⌜ 2 ≤ length (now image) ⌝ }
+    ensures { λ r. ⌜ (r ≡ names (now (image .entry))) × (r < two-byte-values) ⌝ }
+{
+    word_at(image, 0)
+}
+
+// The kind of name k.
+pub fn kind_at(image: &[u8], k: usize) -> u8
+    requires { ⌜ HasHead (now image) k ⌝ }
+    ensures { λ r. ⌜ r ≡ kind-at (now (image .entry)) k ⌝ }
+{
+    image[2 + 6 * k]
+}
+
+// The companion byte of name k: no other function reads it.
+pub fn companion_at(image: &[u8], k: usize) -> u8
+    requires { ⌜ HasHead (now image) k ⌝ }
+    ensures { λ r. ⌜ r ≡ companion-at (now (image .entry)) k ⌝ }
+{
+    image[2 + 6 * k + 1]
+}
+
+// Where the expression of name k begins.
+pub fn offset_at(image: &[u8], k: usize) -> usize
+    requires { ⌜ HasHead (now image) k ⌝ }
+    ensures { λ r. ⌜ (r ≡ offset-at (now (image .entry)) k) × (r < two-byte-values) ⌝ }
+{
+    word_at(image, 2 + 6 * k + 2)
+}
+
+// How many bytes the expression of name k has.
+pub fn length_at(image: &[u8], k: usize) -> usize
+    requires { ⌜ HasHead (now image) k ⌝ }
+    ensures { λ r. ⌜ (r ≡ length-at (now (image .entry)) k) × (r < two-byte-values) ⌝ }
+{
+    word_at(image, 2 + 6 * k + 4)
+}
+
+// The expression of name k: the part of the image, not a copy.
+pub fn expression_at(image: &[u8], k: usize) -> &[u8]
+    requires { ⌜ HasExpression (now image) k ⌝ }
+    ensures { λ r. ⌜ now r ≡ expression-at (now (image .entry)) k ⌝ }
+{
+    let begin = offset_at(image, k);
+    let size = length_at(image, k);
+    &image[begin..begin + size]
+}
+
+// Writes the six bytes of a head. The companion byte is written by no other function.
+pub fn put_head(
+    out: &mut [u8],
+    at: usize,
+    kind: u8,
+    companion: u8,
+    offset: usize,
+    size: usize,
+) -> usize
+    requires { ⌜ (at + 6 ≤ length (now out)) × ((offset < two-byte-values) × (size < two-byte-values)) ⌝ }
+    ensures { λ r. ⌜ Wrote (now (out .entry)) at (head kind companion offset size) (now (out .exit)) r ⌝ }
+{
+    let after_kind = put_byte(out, at, kind);
+    let after_companion = put_byte(out, after_kind, companion);
+    let after_offset = put_u16(out, after_companion, offset);
+    put_u16(out, after_offset, size)
+}
+
+// Whether kind, companion and length of a head agree.
+fn head_agrees(kind: u8, companion: u8, size: usize) -> bool
+    ensures { λ r. ⌜ r ≡ head-agrees kind companion size ⌝ }
+{
+    if kind < Image::THREAD {
+        return false;
+    }
+    if Image::FUTURE < kind {
+        return false;
+    }
+    if kind < Image::OPEN_HANDLE {
+        return companion == 0;
+    }
+    if kind == Image::OPEN_HANDLE {
+        return size == 0;
+    }
+    if companion != 0 {
+        return false;
+    }
+    size == 0
+}
+
+// Whether the head of name k stands, its expression being due at `end`.
+fn head_stands(image: &[u8], k: usize, end: usize) -> bool
+    requires { ⌜ HasHead (now image) k × (end ≤ length (now image)) ⌝ }
+    ensures { λ r. ⌜ r ≡ head-stands (now (image .entry)) k end ⌝ }
+{
+    let size = length_at(image, k);
+    if !head_agrees(kind_at(image, k), companion_at(image, k), size) {
+        return false;
+    }
+    if offset_at(image, k) != end {
+        return false;
+    }
+    size <= image.len() - end
+}
+
+// Whether a slice keeps the layout of an image: one pass, which ends at the first fault.
+pub fn heads_stand(image: &[u8]) -> bool
+    ensures { λ r. ⌜ r ≡ heads-stand (now (image .entry)) ⌝ }
+{
+    if image.len() < 2 {
+        return false;
+    }
+    let names = names_of(image);
+    let mut end = 2 + 6 * names;
+    if image.len() < end {
+        return false;
+    }
+    let mut k = 0;
+    while k < names {
+        if !head_stands(image, k, end) {
+            return false;
+        }
+        end += length_at(image, k);
+        k += 1;
+    }
+    end == image.len()
+}

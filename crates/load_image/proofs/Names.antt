@@ -1,0 +1,101 @@
+-- The names of a starting image one by one: what the loops read and write of them.
+use mathlib.Core.Path.{_≡_, refl, sym, ap, _∙_}
+use mathlib.Core.Bool.{Bool, cond, true, false}
+use mathlib.Core.List.{List, _++_}
+use Prim.Native.Nat.{ℕ, zero, suc, _+_, _*_, _-_, _<_, _≤_}
+use native.Mathlib.Omega.{arith}
+use lib.Dec.{ltb}
+use lib.ListN.{length, length-append, drop, take, length-drop}
+use lib.Seq.{take-all}
+use Rattle.calculus.specs.Bytes.{Bytes, two-bytes}
+use Rattle.calculus.specs.Limits.{max-bays, max-image-length}
+use Rattle.calculus.specs.Lists.{tabulate}
+use Rattle.calculus.specs.Theory.Tests.{ltb-complete, ltb-not}
+use Rattle.recipe_file.specs.File.{first-term, bays, pair-at, offset-of, term-bytes, table-bytes}
+use Rattle.recipe_file.specs.Laid.{Laid}
+use Rattle.recipe_file.proofs.Inside.{bays-between, length-table-bytes}
+use Rattle.check_spec.specs.Verdict.{refusal}
+use Rattle.buffer.specs.Written.{Wrote, then, known-as}
+use Rattle.image_layout.specs.Kinds.{thread-kind, cell-kind}
+use Rattle.image_layout.specs.Encoded.{Encoded, heads, head-at, expressions}
+use Rattle.image_layout.specs.Theory.Components.{expressions-append, so-far, so-far-none, so-far-next, length-tabulated}
+use Rattle.image_layout.specs.Theory.Turns.{Room, image-turns}
+use Rattle.load_spec.specs.Starting.{starting-image}
+use Rattle.load_image.specs.Starting.{setting, bay-thread, starting-at, starting-names}
+use Rattle.load_image.specs.Theory.Parts.{starting-parts, terms-are-end}
+use Rattle.load_spec.specs.Theory.Image.{laid, starting-fits}
+use Rattle.load_image.specs.Theory.Image.{starting-tabulated}
+
+-- at most 16 bays
+pub few-bays : {s : List ℕ} → Laid s → bays s ≤ max-bays
+few-bays l = bays-between l .high
+
+-- the first term stands behind the pairs and the table
+pub first-begins : {s : List ℕ} → Laid s → pair-at (bays s + 1) + length (table-bytes s) ≡ offset-of s first-term
+unfolding bays
+first-begins {s} l = omega (arith, l .first, l .next 0 (omega (arith, l .has-parts .low)), length-table-bytes l, l .has-parts .low)
+
+-- what the head of name k says
+choose-kind : (b : Bool) (x y : Encoded) → cond b x y .kind ≡ cond b (x .kind) (y .kind)
+choose-kind true x y = refl
+choose-kind false x y = refl
+
+pub kind-is : (s : List ℕ) (k : ℕ) → cond (ltb k (bays s)) cell-kind thread-kind ≡ starting-at s k .kind
+unfolding starting-at bay-thread
+kind-is s k = sym (choose-kind (ltb k (bays s)) setting (bay-thread s (k - bays s)))
+
+pub companion-is : (s : List ℕ) (k : ℕ) → 0 ≡ starting-at s k .companion
+unfolding starting-at bay-thread
+companion-is s k = go (ltb k (bays s))
+  where
+    go : (b : Bool) → 0 ≡ cond b setting (bay-thread s (k - bays s)) .companion
+    go true = refl
+    go false = refl
+
+pub setting-size : (s : List ℕ) (k : ℕ) → k < bays s → 3 ≡ length (starting-at s k .expression)
+unfolding starting-at
+setting-size s k l = rw (ltb-complete k (bays s) l) refl
+
+pub thread-size : (s : List ℕ) (k : ℕ) → bays s ≤ k → length (term-bytes s (k - bays s)) ≡ length (starting-at s k .expression)
+unfolding starting-at bay-thread
+thread-size s k l = rw (ltb-not k (bays s) l) refl
+
+-- three bytes for each setting
+pub settings-length : (n : ℕ) → so-far (λ k. setting) n ≡ 3 * n
+settings-length zero = so-far-none (λ k. setting)
+settings-length (suc n) = omega (arith, so-far-next (λ k. setting) n, settings-length n)
+
+module _ (s : List ℕ) (b : Bytes s) (accepted : refusal s ≡ 0) where
+  -- there is room for the image
+  pub starting-room : {out : List ℕ} → max-image-length ≤ length out → Room (starting-names s) (starting-at s) out
+  starting-room room =
+      let e = ap length (starting-tabulated s b accepted) in
+      let n = starting-fits s b accepted in
+      record { fits-in = omega arith; small = omega arith }
+
+  -- where the expressions of all names end
+  pub expressions-length : so-far (starting-at s) (starting-names s) ≡ 3 * bays s + (length s - offset-of s first-term)
+  expressions-length =
+      let l = laid s b accepted in
+      ap (λ (E : List Encoded). length (expressions E)) (starting-parts s)
+      ∙ simp (expressions-append, length-append)
+      (omega (arith, settings-length (bays s), ap length (terms-are-end s l), length-drop (offset-of s first-term) s))
+
+  -- the whole length, in its three parts
+  pub starting-length : head-at (starting-names s) + (3 * bays s + (length s - offset-of s first-term)) ≤ max-image-length
+  starting-length =
+      omega (arith, expressions-length, length-tabulated (starting-names s) (starting-at s), ap length (starting-tabulated s b accepted), starting-fits s b accepted)
+
+  -- the four writes are the image
+  pub starting-wrote : {old a c d out : List ℕ} {first second third last : ℕ}
+      → Wrote old 0 (two-bytes (starting-names s)) a first
+      → Wrote a first (heads (head-at (starting-names s)) (tabulate (starting-names s) (starting-at s))) c second
+      → Wrote c second (expressions (tabulate (bays s) (λ k. setting))) d third
+      → Wrote d third (take (length s - offset-of s first-term) (drop (offset-of s first-term) s)) out last
+      → Wrote old 0 (starting-image s) out last
+  starting-wrote u h p t =
+      let l = laid s b accepted in
+      let all = take-all (length s - offset-of s first-term) (drop (offset-of s first-term) s) (omega (arith, length-drop (offset-of s first-term) s)) in
+      let e : expressions (tabulate (bays s) (λ k. setting)) ++ take (length s - offset-of s first-term) (drop (offset-of s first-term) s) ≡ expressions (tabulate (starting-names s) (starting-at s)) =
+      rw (all, ← (terms-are-end s l), starting-parts s, expressions-append) refl in
+      known-as (image-turns (starting-names s) (starting-at s) u h (known-as (then p t) e)) (sym (starting-tabulated s b accepted))

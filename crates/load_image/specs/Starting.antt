@@ -1,0 +1,25 @@
+-- Document 01, "Loading gives names 0 to b − 1 to the settings and b to 2b − 1 to the bays' threads; thread b + k holds bay k's term, byte for byte, and there
+-- is no other name."
+use mathlib.Core.Bool.{cond}
+use mathlib.Core.List.{List, [], _∷_}
+use Prim.Native.Nat.{ℕ, _+_, _-_}
+use lib.Dec.{ltb}
+use Rattle.recipe_file.specs.File.{bays, term-bytes}
+use Rattle.image_layout.specs.Kinds.{thread-kind, cell-kind}
+use Rattle.image_layout.specs.Encoded.{Encoded}
+
+-- the starting image name by name (Theory.Image, `starting-tabulated`): a setting, "a cell of num, starting at 0"
+abbrev pub setting : Encoded
+setting = record { kind = cell-kind; companion = 0; expression = 4 ∷ 0 ∷ 0 ∷ [] }
+
+-- a bay's thread, which holds the bytes of its part
+unfoldable pub bay-thread : List ℕ → ℕ → Encoded
+bay-thread s bay = record { kind = thread-kind; companion = 0; expression = term-bytes s bay }
+
+-- the component of name k
+unfoldable pub starting-at : List ℕ → ℕ → Encoded
+starting-at s k = cond (ltb k (bays s)) setting (bay-thread s (k - bays s))
+
+-- how many names there are
+abbrev pub starting-names : List ℕ → ℕ
+starting-names s = bays s + bays s

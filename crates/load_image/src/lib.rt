@@ -1,0 +1,118 @@
+// Document 01, "Loading": writes the starting image of an accepted recipe. Names 0 to b − 1 are the settings, b to 2b − 1 the bays' threads.
+use image_layout::Image;
+use image_layout::put_head;
+use recipe_file::bay_count;
+use recipe_file::pair_at;
+use recipe_file::table_bytes;
+use recipe_file::term_bytes;
+use term::Node;
+use buffer::put_byte;
+use buffer::put_part;
+use buffer::put_u16;
+ghost use mathlib.Core.Path.{_≡_};
+ghost use mathlib.Core.Bool.{cond};
+ghost use Prim.Native.Nat.{_+_, _*_, _<_, _≤_};
+ghost use lib.Dec.{ltb};
+ghost use lib.ListN.{length};
+ghost use Rattle.calculus.specs.Bytes.{two-byte-values};
+ghost use Rattle.calculus.specs.Limits.{max-image-length};
+ghost use Rattle.calculus.specs.Lists.{tabulate};
+ghost use Rattle.recipe_file.specs.File.{bays, offset-of, first-term};
+ghost use Rattle.recipe_file.specs.Laid.{Laid};
+ghost use Rattle.check_spec.specs.Verdict.{refusal};
+ghost use Rattle.buffer.specs.Written.{Wrote};
+ghost use Rattle.image_layout.specs.Kinds.{thread-kind, cell-kind};
+ghost use Rattle.image_layout.specs.Encoded.{heads, head-at, expressions};
+ghost use Rattle.image_layout.specs.Theory.Turns.{Room};
+ghost use Rattle.load_spec.specs.Starting.{starting-image};
+ghost use Rattle.load_image.specs.Starting.{setting, starting-at, starting-names};
+
+// Where the first bay's term begins: behind the pairs and the type table.
+fn first_term(recipe: &[u8]) -> usize
+    requires { ⌜ Laid (now recipe) ⌝ }
+    ensures { λ r. ⌜ r ≡ offset-of (now (recipe .entry)) first-term ⌝ }
+{
+    pair_at(bay_count(recipe) + 1) + table_bytes(recipe).len()
+}
+
+// The kind of name k, of a recipe with so many bays.
+fn kind_of(bays: usize, k: usize) -> u8
+    ensures { λ r. ⌜ r ≡ cond (ltb k bays) cell-kind thread-kind ⌝ }
+{
+    if k < bays {
+        return Image::CELL;
+    }
+    Image::THREAD
+}
+
+// How many bytes the expression of name k has.
+fn size_of(recipe: &[u8], k: usize) -> usize
+    requires { ⌜ Laid (now recipe) × (k < starting-names (now recipe)) ⌝ }
+    ensures { λ r. ⌜ r ≡ length (starting-at (now (recipe .entry)) k .expression) ⌝ }
+{
+    let bays = bay_count(recipe);
+    if k < bays {
+        return 3;
+    }
+    term_bytes(recipe, k - bays).len()
+}
+
+// Writes the heads of all names.
+fn put_heads(out: &mut [u8], at: usize, recipe: &[u8]) -> usize
+    requires { ⌜ Laid (now recipe) × (Room (starting-names (now recipe)) (starting-at (now recipe)) (now out) × (at ≡ 2)) ⌝ }
+    ensures { λ r. ⌜ Wrote (now (out .entry)) at (heads (head-at (starting-names (now (recipe .entry)))) (tabulate (starting-names (now (recipe .entry))) (starting-at (now (recipe .entry))))) (now (out .exit)) r ⌝ }
+{
+    let bays = bay_count(recipe);
+    let names = bays + bays;
+    let mut next = at;
+    let mut offset = 2 + 6 * names;
+    let mut k = 0;
+    while k < names {
+        let size = size_of(recipe, k);
+        next = put_head(out, next, kind_of(bays, k), 0, offset, size);
+        offset += size;
+        k += 1;
+    }
+    next
+}
+
+// Writes what a setting holds first: num 0.
+fn put_setting(out: &mut [u8], at: usize) -> usize
+    requires { ⌜ at + 3 ≤ length (now out) ⌝ }
+    ensures { λ r. ⌜ Wrote (now (out .entry)) at (setting .expression) (now (out .exit)) r ⌝ }
+{
+    let next = put_byte(out, at, Node::NUM);
+    put_u16(out, next, 0)
+}
+
+// Writes that for so many settings.
+fn put_settings(out: &mut [u8], at: usize, bays: usize) -> usize
+    requires { ⌜ (bays < two-byte-values) × (at + 3 * bays ≤ length (now out)) ⌝ }
+    ensures { λ r. ⌜ Wrote (now (out .entry)) at (expressions (tabulate bays (λ k. setting))) (now (out .exit)) r ⌝ }
+{
+    let mut next = at;
+    let mut k = 0;
+    while k < bays {
+        next = put_setting(out, next);
+        k += 1;
+    }
+    next
+}
+
+// Writes the starting image. The bays' terms stand one after the other at the end of the recipe, as they are to stand in the image: one copy.
+pub fn put_starting(recipe: &[u8], out: &mut [u8]) -> usize
+    requires { ⌜ (refusal (now recipe) ≡ 0) × (max-image-length ≤ length (now out)) ⌝ }
+    ensures { λ r. ⌜ Wrote (now (out .entry)) 0 (starting-image (now (recipe .entry))) (now (out .exit)) r × (r ≤ max-image-length) ⌝ }
+{
+    let bays = bay_count(recipe);
+    let after_names = put_u16(out, 0, bays + bays);
+    let after_heads = put_heads(out, after_names, recipe);
+    let after_settings = put_settings(out, after_heads, bays);
+    put_part(
+        out,
+        after_settings,
+        recipe,
+        first_term(recipe),
+        recipe.len(),
+    )
+}

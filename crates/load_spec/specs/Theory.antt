@@ -1,0 +1,4 @@
+-- What is proved of a load; nobody needs to read it in order to believe the definitions.
+
+-- the starting image of an accepted recipe keeps the rules of an image
+pub mod Image

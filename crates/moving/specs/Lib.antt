@@ -1,7 +1,0 @@
--- Document 01, "A step", in bytes: a step by a rule of Fig. 5 on an image.
-
--- what a writer of the image after a step needs, and that the step is the calculus's
-pub mod Stepped
--- the meeting of two values in a thread of an image
-pub mod Meets
-pub mod Theory

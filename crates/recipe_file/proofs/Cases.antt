@@ -1,0 +1,117 @@
+-- Document 01's "Bay cases", as far as causes 1 to 3 go, and files at the limits.
+use mathlib.Core.Path.{_≡_, refl}
+use mathlib.Core.Bool.{false, true}
+use mathlib.Core.List.{List, [], _++_, _∷_}
+use Prim.Native.Nat.{_+_, suc, zero, ℕ}
+use lib.ListN.{replicate}
+use Rattle.calculus.specs.Bytes.{word}
+use Rattle.recipe_file.specs.File.{parts, bays, table-bytes, term-bytes, pair-at, offset-of, length-of, part, outside, cause-1, opens, edition-known, cause-2, pairs-test, table-length-test, cause-3, layout-refusal}
+
+-- "table of three entries"
+abbrev table-3 : List ℕ
+table-3 = 0 ∷ 0 ∷ 0 ∷ 1 ∷ 0 ∷ 0 ∷ 2 ∷ 1 ∷ 0 ∷ []
+
+-- a file of one bay, from the four bytes of each pair, the table and the term
+abbrev one-bay : List ℕ → List ℕ → List ℕ
+one-bay pairs rest = 0x4C ∷ 0x46 ∷ 1 ∷ 2 ∷ pairs ++ rest
+
+-- case A: "4C 46 01 02 0C 00 09 00 15 00 01 00, then the nine table bytes, then 03"
+abbrev pub case-A : List ℕ
+case-A = one-bay (0x0C ∷ 0 ∷ 9 ∷ 0 ∷ 0x15 ∷ 0 ∷ 1 ∷ 0 ∷ []) (table-3 ++ (3 ∷ []))
+
+pub case-A-laid : layout-refusal case-A ≡ 0
+unfolding layout-refusal cause-1 cause-2 cause-3 outside opens edition-known parts pairs-test offset-of length-of word table-length-test
+case-A-laid = refl
+
+pub case-A-table : table-bytes case-A ≡ table-3
+unfolding table-bytes part offset-of length-of word
+case-A-table = refl
+
+pub case-A-term : term-bytes case-A 0 ≡ 3 ∷ []
+unfolding term-bytes part offset-of length-of word
+case-A-term = refl
+
+pub case-A-bays : bays case-A ≡ 1
+unfolding bays parts
+case-A-bays = refl
+
+-- an empty file, 11 bytes, 8,193 bytes
+pub too-short : layout-refusal [] ≡ 1
+unfolding layout-refusal cause-1 outside
+too-short = refl
+
+pub eleven : layout-refusal (replicate 11 0) ≡ 1
+unfolding layout-refusal cause-1 outside
+eleven = refl
+
+pub too-long : layout-refusal (replicate 8193 0) ≡ 1
+unfolding layout-refusal cause-1 outside
+too-long = refl
+
+pub long-enough : cause-1 (replicate 8192 0) ≡ false
+unfolding cause-1 outside
+long-enough = refl
+
+-- n terms of one byte behind a table of three entries: case J, "17 parts against 18 (refused 2)"
+unfoldable pub pairs-from : ℕ → ℕ → List ℕ
+pairs-from zero at = []
+pairs-from (suc k) at = at ∷ 0 ∷ 1 ∷ 0 ∷ pairs-from k (at + 1)
+
+abbrev pub many-bays : ℕ → List ℕ
+many-bays b = 0x4C ∷ 0x46 ∷ 1 ∷ (b + 1) ∷ pair-at (b + 1) ∷ 0 ∷ 9 ∷ 0 ∷ pairs-from b (pair-at (b + 1) + 9) ++ table-3 ++ replicate b 3
+
+pub case-J-17 : layout-refusal (many-bays 16) ≡ 0
+unfolding layout-refusal cause-1 cause-2 cause-3 outside opens edition-known parts pairs-test offset-of length-of word table-length-test pairs-from
+case-J-17 = refl
+
+pub case-J-18 : layout-refusal (many-bays 17) ≡ 2
+unfolding layout-refusal cause-1 cause-2 outside opens edition-known parts pairs-from
+case-J-18 = refl
+
+-- no bay
+pub one-part : layout-refusal (many-bays 0) ≡ 2
+unfolding layout-refusal cause-1 cause-2 outside opens edition-known parts pairs-from
+one-part = refl
+
+-- another opening, another edition
+pub other-opening : layout-refusal (0x4C ∷ 0x45 ∷ replicate 10 0) ≡ 2
+unfolding layout-refusal cause-1 cause-2 outside opens
+other-opening = refl
+
+pub other-edition : layout-refusal (0x4C ∷ 0x46 ∷ 2 ∷ 2 ∷ replicate 10 0) ≡ 2
+unfolding layout-refusal cause-1 cause-2 outside opens edition-known
+other-edition = refl
+
+-- a file that is shorter than its pairs
+pub cut-pairs : layout-refusal (0x4C ∷ 0x46 ∷ 1 ∷ 17 ∷ replicate 10 0) ≡ 3
+unfolding layout-refusal cause-1 cause-2 cause-3 outside opens edition-known parts pairs-test offset-of length-of word
+cut-pairs = refl
+
+-- a gap between table and term, a byte over, a term of length zero, a table of ten bytes, a table of two entries
+pub gap : layout-refusal (one-bay (12 ∷ 0 ∷ 9 ∷ 0 ∷ 22 ∷ 0 ∷ 1 ∷ 0 ∷ []) (table-3 ++ (3 ∷ 3 ∷ []))) ≡ 3
+unfolding layout-refusal cause-1 cause-2 cause-3 outside opens edition-known parts pairs-test offset-of length-of word
+gap = refl
+
+pub byte-over : layout-refusal (case-A ++ (0 ∷ [])) ≡ 3
+unfolding layout-refusal cause-1 cause-2 cause-3 outside opens edition-known parts pairs-test offset-of length-of word
+byte-over = refl
+
+pub no-term : layout-refusal (one-bay (12 ∷ 0 ∷ 9 ∷ 0 ∷ 21 ∷ 0 ∷ 0 ∷ 0 ∷ []) table-3) ≡ 3
+unfolding layout-refusal cause-1 cause-2 cause-3 outside opens edition-known parts pairs-test offset-of length-of word
+no-term = refl
+
+pub ten-bytes : layout-refusal (one-bay (12 ∷ 0 ∷ 10 ∷ 0 ∷ 22 ∷ 0 ∷ 1 ∷ 0 ∷ []) (table-3 ++ (3 ∷ 3 ∷ []))) ≡ 3
+unfolding layout-refusal cause-1 cause-2 cause-3 outside opens edition-known parts pairs-test offset-of length-of word table-length-test
+ten-bytes = refl
+
+pub two-entries : layout-refusal (one-bay (12 ∷ 0 ∷ 6 ∷ 0 ∷ 18 ∷ 0 ∷ 1 ∷ 0 ∷ []) (0 ∷ 0 ∷ 0 ∷ 1 ∷ 0 ∷ 0 ∷ 3 ∷ [])) ≡ 3
+unfolding layout-refusal cause-1 cause-2 cause-3 outside opens edition-known parts pairs-test offset-of length-of word table-length-test
+two-entries = refl
+
+pub most-entries : table-length-test 768 ≡ true
+unfolding table-length-test outside
+most-entries = refl
+
+pub too-many-entries : table-length-test 771 ≡ false
+unfolding table-length-test outside
+too-many-entries = refl

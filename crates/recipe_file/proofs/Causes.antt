@@ -1,0 +1,90 @@
+-- Causes 2 and 3 and the lowest cause, by the tests that led to an answer.
+use mathlib.Core.Path.{_∙_, _≡_, refl, sym}
+use mathlib.Core.Bool.{Bool, false, not, true}
+use mathlib.Core.List.{List}
+use Prim.Native.Nat.{_%_, _<_, _≤_, ℕ}
+use borrow.Author.Tests.{eq-eqb, ne-eqb}
+use lib.ListN.{getD, length}
+use Rattle.calculus.specs.Limits.{min-file-length, max-file-length, min-parts, max-parts}
+use Rattle.recipe_file.specs.File.{edition, opening, parts, table-part, pair-at, length-of, outside, cause-1, opens, edition-known, cause-2, pairs-test, table-length-test, cause-3, layout-refusal}
+use Rattle.recipe_file.proofs.Chains.{pairs-cut}
+use Rattle.recipe_file.proofs.LaidOut.{between}
+
+-- cause 2
+module _ (s : List ℕ) where
+  pub other-first : (getD s 0 0 ≡ getD opening 0 0 → ⊥) → true ≡ cause-2 s
+  unfolding cause-2 opens
+  other-first f = rw (ne-eqb (getD s 0 0) 0x4C f) refl
+
+  module _ (a : getD s 0 0 ≡ getD opening 0 0) where
+    pub other-second : (getD s 1 0 ≡ getD opening 1 0 → ⊥) → true ≡ cause-2 s
+    unfolding cause-2 opens
+    other-second f = rw (eq-eqb (getD s 0 0) 0x4C a, ne-eqb (getD s 1 0) 0x46 f) refl
+
+    module _ (b : getD s 1 0 ≡ getD opening 1 0) where
+      opened : opens s ≡ true
+      unfolding opens
+      opened = rw (eq-eqb (getD s 0 0) 0x4C a, eq-eqb (getD s 1 0) 0x46 b) refl
+
+      pub other-edition : (getD s 2 0 ≡ edition → ⊥) → true ≡ cause-2 s
+      unfolding cause-2 edition-known
+      other-edition f = rw (opened, ne-eqb (getD s 2 0) edition f) refl
+
+      pub opening-stands : getD s 2 0 ≡ edition → (n : ℕ) → n ≡ getD s 3 0 → outside min-parts max-parts n ≡ cause-2 s
+      unfolding cause-2 edition-known parts
+      opening-stands c n e = rw (opened, eq-eqb (getD s 2 0) edition c, e) refl
+
+-- the table's length
+pub no-multiple : (n : ℕ) → (n % 3 ≡ 0 → ⊥) → false ≡ table-length-test n
+unfolding table-length-test
+no-multiple n f = rw (ne-eqb (n % 3) 0 f) refl
+
+pub multiple : (n : ℕ) → n % 3 ≡ 0 → not (outside 9 768 n) ≡ table-length-test n
+unfolding table-length-test
+multiple n e = rw (eq-eqb (n % 3) 0 e) refl
+
+-- cause 3
+module _ (s : List ℕ) (n : ℕ) (e : n ≡ getD s 3 0) where
+  as-parts : n ≡ parts s
+  unfolding parts
+  as-parts = e
+
+  pub cut : length s < pair-at n → true ≡ cause-3 s
+  unfolding cause-3
+  cut h =
+      let f : pairs-test s (parts s) 0 (pair-at (parts s)) ≡ false = pairs-cut s (parts s) 0 (pair-at (parts s)) (rw as-parts at h) in
+      rw f refl
+
+  module _ (t : Bool) (p : t ≡ pairs-test s n 0 (pair-at n)) where
+    pub pairs-broken : t ≡ false → true ≡ cause-3 s
+    unfolding cause-3
+    pairs-broken f = let g : pairs-test s (parts s) 0 (pair-at (parts s)) ≡ false = rw (← as-parts) (sym p ∙ f) in rw g refl
+
+    pub pairs-kept : t ≡ true → (size : ℕ) → size ≡ length-of s table-part → not (table-length-test size) ≡ cause-3 s
+    unfolding cause-3
+    pairs-kept f size q =
+        let g : pairs-test s (parts s) 0 (pair-at (parts s)) ≡ true = rw (← as-parts) (sym p ∙ f) in rw (g, q) refl
+
+-- the lowest cause
+module _ (s : List ℕ) (t₁ : Bool) (e₁ : t₁ ≡ outside min-file-length max-file-length (length s)) where
+  pub lowest-1 : t₁ ≡ true → 1 ≡ layout-refusal s
+  unfolding layout-refusal cause-1
+  lowest-1 f = rw (← e₁, f) refl
+
+  module _ (f₁ : t₁ ≡ false) where
+    pub long-enough : min-file-length ≤ length s
+    long-enough = between min-file-length max-file-length (length s) (sym e₁ ∙ f₁) .low
+
+    module _ (t₂ : Bool) (e₂ : t₂ ≡ cause-2 s) where
+      pub lowest-2 : t₂ ≡ true → 2 ≡ layout-refusal s
+      unfolding layout-refusal cause-1
+      lowest-2 f = rw (← e₁, f₁, ← e₂, f) refl
+
+      module _ (f₂ : t₂ ≡ false) (t₃ : Bool) (e₃ : t₃ ≡ cause-3 s) where
+        pub lowest-3 : t₃ ≡ true → 3 ≡ layout-refusal s
+        unfolding layout-refusal cause-1
+        lowest-3 f = rw (← e₁, f₁, ← e₂, f₂, ← e₃, f) refl
+
+        pub none-fits : t₃ ≡ false → 0 ≡ layout-refusal s
+        unfolding layout-refusal cause-1
+        none-fits f = rw (← e₁, f₁, ← e₂, f₂, ← e₃, f) refl

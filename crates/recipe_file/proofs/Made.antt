@@ -1,0 +1,110 @@
+-- The file of fitting parts is laid out, and these are its parts.
+use mathlib.Core.Path.{_∙_, _≡_, ap, refl, sym}
+use mathlib.Core.List.{List, [], _++_, _∷_}
+use Prim.Native.Nat.{_%_, _*_, _+_, _/_, _<_, _≤_, suc, zero, ℕ}
+use native.Mathlib.Omega.{arith}
+use lib.ListN.{drop, getD, length, length-append, length-drop, length-take}
+use lib.Seq.{drop-append-seam, drop-drop, getD-drop, take-append-seam}
+use Rattle.calculus.specs.Bytes.{two-bytes, word}
+use Rattle.recipe_file.specs.File.{edition, parts, table-part, pair-at, offset-of, length-of, part}
+use Rattle.recipe_file.specs.Laid.{Laid}
+use Rattle.recipe_file.specs.Whole.{pairs-of, joined, file-of, parts-from, all-parts, NoneEmpty, Makes}
+use Rattle.recipe_file.proofs.Chains.{Chain, chain-first, chain-next, chain-last, chain-some, chain-inside}
+
+-- the number whose bytes stand at j
+word-read : (s : List ℕ) (j n : ℕ) (l : List ℕ) → drop j s ≡ two-bytes n ++ l → word s j ≡ n
+unfolding word two-bytes
+word-read s j n l e =
+    let a : getD s (j + 0) 0 ≡ n % 256 = sym (getD-drop j s 0 0) ∙ ap (λ (x : List ℕ). getD x 0 0) e in
+    let b : getD s (j + 1) 0 ≡ n / 256 = sym (getD-drop j s 1 0) ∙ ap (λ (x : List ℕ). getD x 1 0) e in
+    let z : j + 0 ≡ j = omega arith in
+    let c : getD s j 0 ≡ n % 256 = rw z at a in
+    omega arith
+
+-- behind the two bytes of a number
+past-word : (s : List ℕ) (j n : ℕ) (l : List ℕ) → drop j s ≡ two-bytes n ++ l → drop (j + 2) s ≡ l
+unfolding two-bytes
+past-word s j n l e = sym (drop-drop 2 j s) ∙ ap (drop 2) e
+
+length-pairs : (at : ℕ) (ps : List (List ℕ)) → length (pairs-of at ps) ≡ 4 * length ps
+unfolding pairs-of two-bytes
+length-pairs at [] = refl
+length-pairs at (p ∷ ps) = let h = length-pairs (at + length p) ps in omega arith
+
+-- the parts qs, whose pairs stand from pair i on
+made : (s : List ℕ) (qs : List (List ℕ)) (i at : ℕ) (rest : List ℕ) → NoneEmpty qs → drop (pair-at i) s ≡ pairs-of at qs ++ rest → drop at s ≡ joined qs →
+    at + length (joined qs) ≡ length s → Chain s (length qs) i at × (parts-from s (length qs) i ≡ qs)
+unfolding pairs-of joined parts-from part offset-of length-of two-bytes
+made s [] i at rest f d j n = (omega arith, refl)
+made s (q ∷ qs) i at rest (f, g) d j n =
+    let more = pairs-of (at + length q) qs ++ rest in
+    let o : offset-of s i ≡ at = word-read s (pair-at i) at (two-bytes (length q) ++ more) d in
+    let d₂ = past-word s (pair-at i) at (two-bytes (length q) ++ more) d in
+    let m : length-of s i ≡ length q = word-read s (pair-at i + 2) (length q) more d₂ in
+    let e : pair-at i + 2 + 2 ≡ pair-at (i + 1) = omega arith in
+    let d₃ : drop (pair-at (i + 1)) s ≡ more = rw e at (past-word s (pair-at i + 2) (length q) more d₂) in
+    let j₂ : drop (at + length q) s ≡ joined qs = sym (drop-drop (length q) at s) ∙ (ap (drop (length q)) j ∙ drop-append-seam q (joined qs)) in
+    let n₂ : at + length q + length (joined qs) ≡ length s = omega (arith, length-append q (joined qs)) in
+    let (c, p) = made s qs (i + 1) (at + length q) rest g d₃ j₂ n₂ in
+    let w : part s i ≡ q = rw (m, o, j) (take-append-seam q (joined qs)) in
+    ((o, rw m f, rw m c), rw (w, p) refl)
+
+behind-four : (a b c d : ℕ) (l m : List ℕ) (n : ℕ) → n ≡ 4 + length l → drop n (a ∷ b ∷ c ∷ d ∷ (l ++ m)) ≡ m
+behind-four a b c d l m n h =
+    let e : n ≡ suc (suc (suc (suc (length l)))) = omega arith in
+    rw e (drop-append-seam l m)
+
+-- each part takes a byte
+length-joined : (ps : List (List ℕ)) → NoneEmpty ps → length ps ≤ length (joined ps)
+unfolding joined
+length-joined [] f = omega arith
+length-joined (p ∷ ps) (f, g) = omega (arith, length-append p (joined ps), length-joined ps g)
+
+module _ (ps : List (List ℕ)) (k : Makes ps) where
+  whole : Chain (file-of ps) (parts (file-of ps)) 0 (pair-at (parts (file-of ps))) × (all-parts (file-of ps) ≡ ps)
+  unfolding file-of parts all-parts
+  whole =
+      let j : drop (pair-at (length ps)) (file-of ps) ≡ joined ps =
+      behind-four 0x4C 0x46 edition (length ps) (pairs-of (pair-at (length ps)) ps) (joined ps) (pair-at (length ps)) (omega (arith, length-pairs (pair-at (length ps)) ps)) in
+      made (file-of ps) ps 0 (pair-at (length ps)) (joined ps) (k .none-empty) refl j
+      (omega (arith, length-append (pairs-of (pair-at (length ps)) ps) (joined ps), length-pairs (pair-at (length ps)) ps))
+
+  pub made-parts : all-parts (file-of ps) ≡ ps
+  made-parts = whole .1
+
+  parts-made : parts (file-of ps) ≡ length ps
+  unfolding file-of parts
+  parts-made = refl
+
+  first-part : (qs : List (List ℕ)) → 0 < length qs → (n i : ℕ) → parts-from (file-of ps) n i ≡ qs → part (file-of ps) i ≡ getD qs 0 []
+  unfolding parts-from
+  first-part [] h n i e = absurd (omega arith)
+  first-part (q ∷ qs) h zero i e = absurd (omega (arith, ap length e))
+  first-part (q ∷ qs) h (suc n) i e = ap (λ (x : List (List ℕ)). getD x 0 []) e
+
+  table-length : length-of (file-of ps) 0 ≡ length (getD ps table-part [])
+  unfolding all-parts part
+  table-length =
+      let s = file-of ps in
+      let n : 0 < parts s = omega (arith, parts-made, k .number .low) in
+      let i = chain-inside s (whole .0) 0 n in
+      let t : part s 0 ≡ getD ps 0 [] = first-part ps (omega (arith, k .number .low)) (parts s) 0 made-parts in
+      let l : length (part s 0) ≡ length-of s 0 = simp (length-take, length-drop) (omega arith) in
+      sym l ∙ ap length t
+
+  pub made-laid : Laid (file-of ps)
+  unfolding file-of parts
+  made-laid =
+      let s = file-of ps in
+      let n = length-joined ps (k .none-empty) in
+      record {
+        size = record { low = omega (arith, k .number .low, length-append (pairs-of (pair-at (length ps)) ps) (joined ps), length-pairs (pair-at (length ps)) ps); high = k .short };
+        opens-so = refl;
+        has-edition = refl;
+        has-parts = k .number;
+        first = chain-first s (whole .0) (omega (arith, k .number .low));
+        next = chain-next s (whole .0);
+        last = chain-last s (whole .0);
+        some-length = chain-some s (whole .0);
+        entries = let (t, e, b) = k .table in (t, table-length ∙ e, b);
+      }

@@ -1,0 +1,23 @@
+-- `recipe::bay_count` meets its contract.
+use native.Mathlib.Omega.{arith}
+use Rattle.recipe_file.specs.File.{parts, bays}
+use borrow.Author.Needs.{needs}
+use Rattle.recipe_file.proofs.bay_count.Statement.{statement}
+use Rattle.recipe_file.proofs.bay_count.Tie as tie
+
+shared-slice-read-wide : tie.Need-shared-slice-read-wide
+shared-slice-read-wide c = search needs
+
+wide-requires : tie.Need-wide-requires
+wide-requires c κs = search needs
+
+sub-result : tie.Need-sub-result
+unfolding parts
+sub-result c = omega (arith, c .before .before .before .pre .has-parts .low)
+
+returns : tie.Need-returns
+unfolding bays parts
+returns c = search needs
+
+pub bay-count-spec : {M : Type 1} → statement M
+bay-count-spec = tie.close (tie.spec shared-slice-read-wide wide-requires sub-result returns)

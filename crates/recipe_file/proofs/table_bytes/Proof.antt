@@ -1,0 +1,15 @@
+-- `recipe::table_bytes` meets its contract.
+use Rattle.recipe_file.specs.File.{table-bytes}
+use borrow.Author.Needs.{needs}
+use Rattle.recipe_file.proofs.table_bytes.Statement.{statement}
+use Rattle.recipe_file.proofs.table_bytes.Tie as tie
+
+part-requires : tie.Need-part-requires
+part-requires c κs = search needs
+
+returns : tie.Need-returns
+unfolding table-bytes
+returns c = search needs
+
+pub table-bytes-spec : {M : Type 1} → statement M
+table-bytes-spec = tie.close (tie.spec part-requires returns)

@@ -1,0 +1,34 @@
+// Where the walk over the pairs stands.
+ghost use mathlib.Core.Path.{_≡_};
+ghost use Prim.Native.Nat.{_+_, _<_};
+ghost use Rattle.recipe_file.specs.File.{pair-at};
+
+// The next pair, and where its part is to begin.
+pub struct Cursor {
+    pub pair: usize,
+    pub at: usize,
+}
+
+impl Cursor {
+    // Before the first of n pairs.
+    pub fn new(n: usize) -> Cursor
+        requires { ⌜ n < 65536 ⌝ }
+        ensures { λ r. ⌜ (r .pair ≡ 0) × (r .at ≡ pair-at n) ⌝ }
+    {
+        Cursor {
+            pair: 0,
+            at: crate::pair_at(n),
+        }
+    }
+
+    // Behind a pair whose part has this length.
+    pub fn past(self, size: usize) -> Cursor
+        requires { ⌜ (self .pair < 65536) × (self .at + size < 4294967296) ⌝ }
+        ensures { λ r. ⌜ (r .pair ≡ self .pair + 1) × (r .at ≡ self .at + size) ⌝ }
+    {
+        Cursor {
+            pair: self.pair + 1,
+            at: self.at + size,
+        }
+    }
+}

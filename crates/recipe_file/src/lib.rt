@@ -1,0 +1,212 @@
+// The recipe file: its limits, its layout, and its parts as slices of it.
+ghost use mathlib.Core.Path.{_≡_};
+ghost use Prim.Native.Nat.{_+_, _*_, _<_, _≤_};
+ghost use lib.ListN.{length};
+ghost use Rattle.calculus.specs.Bytes.{word};
+ghost use Rattle.calculus.specs.Limits.{min-file-length};
+ghost use Rattle.recipe_file.specs.File.{bays, pair-at, offset-of, length-of, part, table-bytes, term-bytes, outside, cause-2, pairs-test, table-length-test, cause-3, layout-refusal};
+ghost use Rattle.recipe_file.specs.Laid.{Laid, HasPart, HasBay};
+
+mod cursor;
+pub mod limits;
+
+use cursor::Cursor;
+
+// A recipe file, with its limits.
+pub struct Recipe {}
+
+impl Recipe {
+    pub const MIN_FILE: usize = 12;
+
+    pub const MAX_FILE: usize = 8192;
+
+    pub const MIN_PARTS: usize = 2;
+
+    pub const MAX_PARTS: usize = 17;
+
+    pub const MAX_BAYS: usize = 16;
+
+    pub const MIN_ENTRIES: usize = 3;
+
+    pub const MAX_ENTRIES: usize = 256;
+
+    pub const MAX_NESTING: usize = 100;
+
+    pub const MAX_NODES: usize = 1024;
+}
+
+// The first two bytes of every recipe.
+pub const OPENING: [u8; 2] = *b"LF";
+
+// The edition that is read.
+pub const EDITION: u8 = 1;
+
+// What the parts are: the type table, then a term for each bay.
+const TABLE_PART: usize = 0;
+
+const FIRST_TERM: usize = 1;
+
+// The bytes of an entry of the type table.
+pub const ENTRY_LENGTH: usize = 3;
+
+// Where pair i stands; behind the last of n pairs the first part begins.
+pub fn pair_at(i: usize) -> usize
+    requires { ⌜ i < 65536 ⌝ }
+    ensures { λ r. ⌜ r ≡ pair-at i ⌝ }
+{
+    4 + 4 * i
+}
+
+// A byte as a number.
+fn wide(byte: u8) -> usize
+    ensures { λ r. ⌜ (r ≡ byte) × (r < 256) ⌝ }
+{
+    byte as usize
+}
+
+// A two-byte number.
+fn word_at(recipe: &[u8], at: usize) -> usize
+    requires { ⌜ at + 1 < length (now recipe) ⌝ }
+    ensures { λ r. ⌜ (r ≡ word (now (recipe .entry)) at) × (r < 65536) ⌝ }
+{
+    wide(recipe[at]) + 256 * wide(recipe[at + 1])
+}
+
+// The offset that pair i says.
+fn offset_of(recipe: &[u8], i: usize) -> usize
+    requires { ⌜ (i < 256) × (pair-at (i + 1) ≤ length (now recipe)) ⌝ }
+    ensures { λ r. ⌜ (r ≡ offset-of (now (recipe .entry)) i) × (r < 65536) ⌝ }
+{
+    word_at(recipe, pair_at(i))
+}
+
+// The length that pair i says.
+fn length_of(recipe: &[u8], i: usize) -> usize
+    requires { ⌜ (i < 256) × (pair-at (i + 1) ≤ length (now recipe)) ⌝ }
+    ensures { λ r. ⌜ (r ≡ length-of (now (recipe .entry)) i) × (r < 65536) ⌝ }
+{
+    word_at(recipe, pair_at(i) + 2)
+}
+
+// n is below `least` or above `most`.
+fn is_outside(least: usize, most: usize, n: usize) -> bool
+    ensures { λ r. ⌜ r ≡ outside least most n ⌝ }
+{
+    n < least || most < n
+}
+
+// Cause 2: the opening, the edition, or the number of parts.
+fn opening_breaks(recipe: &[u8]) -> bool
+    requires { ⌜ min-file-length ≤ length (now recipe) ⌝ }
+    ensures { λ r. ⌜ r ≡ cause-2 (now (recipe .entry)) ⌝ }
+{
+    if recipe[0] != OPENING[0] {
+        return true;
+    }
+    if recipe[1] != OPENING[1] {
+        return true;
+    }
+    if recipe[2] != EDITION {
+        return true;
+    }
+    is_outside(Recipe::MIN_PARTS, Recipe::MAX_PARTS, wide(recipe[3]))
+}
+
+// The parts of n pairs follow each other from the pairs to the end of the file, and none is empty.
+fn pairs_stand(recipe: &[u8], n: usize) -> bool
+    requires { ⌜ (n < 256) × (pair-at n ≤ length (now recipe)) ⌝ }
+    ensures { λ r. ⌜ r ≡ pairs-test (now (recipe .entry)) n 0 (pair-at n) ⌝ }
+{
+    let mut cursor = Cursor::new(n);
+    while cursor.pair < n {
+        let pair = cursor.pair;
+        if offset_of(recipe, pair) != cursor.at {
+            return false;
+        }
+        let size = length_of(recipe, pair);
+        if size == 0 {
+            return false;
+        }
+        cursor = cursor.past(size);
+    }
+    cursor.at == recipe.len()
+}
+
+// A type table may have this length.
+fn table_length_stands(size: usize) -> bool
+    ensures { λ r. ⌜ r ≡ table-length-test size ⌝ }
+{
+    if size % ENTRY_LENGTH != 0 {
+        return false;
+    }
+    !is_outside(
+        ENTRY_LENGTH * Recipe::MIN_ENTRIES,
+        ENTRY_LENGTH * Recipe::MAX_ENTRIES,
+        size,
+    )
+}
+
+// Cause 3: the pairs, or the length of the type table.
+fn layout_breaks(recipe: &[u8]) -> bool
+    requires { ⌜ min-file-length ≤ length (now recipe) ⌝ }
+    ensures { λ r. ⌜ r ≡ cause-3 (now (recipe .entry)) ⌝ }
+{
+    let n = wide(recipe[3]);
+    if recipe.len() < pair_at(n) {
+        return true;
+    }
+    if !pairs_stand(recipe, n) {
+        return true;
+    }
+    !table_length_stands(length_of(recipe, TABLE_PART))
+}
+
+// The lowest of causes 1 to 3 that fits, or 0.
+pub fn layout_refusal(recipe: &[u8]) -> u8
+    ensures { λ r. ⌜ r ≡ layout-refusal (now (recipe .entry)) ⌝ }
+{
+    if is_outside(Recipe::MIN_FILE, Recipe::MAX_FILE, recipe.len()) {
+        return 1;
+    }
+    if opening_breaks(recipe) {
+        return 2;
+    }
+    if layout_breaks(recipe) {
+        return 3;
+    }
+    0
+}
+
+// How many bays a recipe has.
+pub fn bay_count(recipe: &[u8]) -> usize
+    requires { ⌜ Laid (now recipe) ⌝ }
+    ensures { λ r. ⌜ r ≡ bays (now (recipe .entry)) ⌝ }
+{
+    wide(recipe[3]) - FIRST_TERM
+}
+
+// The part that pair i names, as it stands in the recipe.
+pub fn part(recipe: &[u8], i: usize) -> &[u8]
+    requires { ⌜ HasPart (now recipe) i ⌝ }
+    ensures { λ r. ⌜ now r ≡ part (now (recipe .entry)) i ⌝ }
+{
+    let start = offset_of(recipe, i);
+    let size = length_of(recipe, i);
+    &recipe[start..start + size]
+}
+
+// The bytes of the type table.
+pub fn table_bytes(recipe: &[u8]) -> &[u8]
+    requires { ⌜ Laid (now recipe) ⌝ }
+    ensures { λ r. ⌜ now r ≡ table-bytes (now (recipe .entry)) ⌝ }
+{
+    part(recipe, TABLE_PART)
+}
+
+// The bytes of a bay's term.
+pub fn term_bytes(recipe: &[u8], bay: usize) -> &[u8]
+    requires { ⌜ HasBay (now recipe) bay ⌝ }
+    ensures { λ r. ⌜ now r ≡ term-bytes (now (recipe .entry)) bay ⌝ }
+{
+    part(recipe, FIRST_TERM + bay)
+}

@@ -1,0 +1,100 @@
+-- The rule of an entry by its kind, and the rules of a table, by the tests that led to an answer.
+use mathlib.Core.Path.{_∙_, _≡_, refl, sym}
+use mathlib.Core.Bool.{Bool, _&&_, false, true}
+use mathlib.Core.List.{List}
+use Prim.Native.Nat.{_<_, _≤_, suc, zero, ℕ}
+use native.Mathlib.Omega.{arith}
+use borrow.Author.Tests.{eq-eqb, le-ltb, lt-ltb, ne-eqb}
+use lib.Dec.{eqb, ltb}
+use lib.ListN.{getD, length}
+use Rattle.calculus.specs.Limits.{min-entries}
+use Rattle.calculus.specs.Table as calculus
+use Rattle.recipe_table.specs.declared.Entry.{Entry}
+use Rattle.recipe_table.specs.Filled.{unused, as-entry, as-table, stands-at, first-three}
+use Rattle.recipe_table.proofs.Arrays.{entry-at}
+
+plain : (k kind p q : ℕ) → kind ≤ 1 → calculus.entry-test k kind p q ≡ (eqb p 0 && eqb q 0)
+unfolding calculus.entry-test
+plain k zero p q h = refl
+plain k (suc zero) p q h = refl
+plain k (suc (suc kind)) p q h = absurd (omega arith)
+
+cell : (k kind p q : ℕ) → kind ≡ 2 → calculus.entry-test k kind p q ≡ (ltb p k && eqb q 0)
+unfolding calculus.entry-test
+cell k kind p q h = rw h refl
+
+function : (k kind p q : ℕ) → 1 < kind → (kind ≡ 2 → ⊥) → kind ≤ 4 → calculus.entry-test k kind p q ≡ (ltb p k && ltb q k)
+unfolding calculus.entry-test
+function k zero p q h f b = absurd (omega arith)
+function k (suc zero) p q h f b = absurd (omega arith)
+function k (suc (suc zero)) p q h f b = absurd (f refl)
+function k (suc (suc (suc zero))) p q h f b = refl
+function k (suc (suc (suc (suc zero)))) p q h f b = refl
+function k (suc (suc (suc (suc (suc kind))))) p q h f b = absurd (omega arith)
+
+pub unknown : (k kind p q : ℕ) → 4 < kind → false ≡ calculus.entry-test k kind p q
+unfolding calculus.entry-test
+unknown k zero p q h = absurd (omega arith)
+unknown k (suc zero) p q h = absurd (omega arith)
+unknown k (suc (suc zero)) p q h = absurd (omega arith)
+unknown k (suc (suc (suc zero))) p q h = absurd (omega arith)
+unknown k (suc (suc (suc (suc zero)))) p q h = absurd (omega arith)
+unknown k (suc (suc (suc (suc (suc kind))))) p q h = refl
+
+module _ (k kind p q : ℕ) where
+  pub plain-zero : kind ≤ 1 → p ≡ 0 → eqb q 0 ≡ calculus.entry-test k kind p q
+  plain-zero h e = sym (plain k kind p q h ∙ rw (eq-eqb p 0 e) refl)
+
+  pub plain-not : kind ≤ 1 → (p ≡ 0 → ⊥) → eqb p 0 ≡ calculus.entry-test k kind p q
+  plain-not h e = ne-eqb p 0 e ∙ sym (plain k kind p q h ∙ rw (ne-eqb p 0 e) refl)
+
+  pub cell-below : kind ≡ 2 → p < k → eqb q 0 ≡ calculus.entry-test k kind p q
+  cell-below h e = sym (cell k kind p q h ∙ rw (lt-ltb p k e) refl)
+
+  pub cell-not : kind ≡ 2 → k ≤ p → ltb p k ≡ calculus.entry-test k kind p q
+  cell-not h e = le-ltb p k e ∙ sym (cell k kind p q h ∙ rw (le-ltb p k e) refl)
+
+  module _ (h : 1 < kind) (f : kind ≡ 2 → ⊥) (b : kind ≤ 4) where
+    pub function-below : p < k → ltb q k ≡ calculus.entry-test k kind p q
+    function-below e = sym (function k kind p q h f b ∙ rw (lt-ltb p k e) refl)
+
+    pub function-not : k ≤ p → ltb p k ≡ calculus.entry-test k kind p q
+    function-not e = le-ltb p k e ∙ sym (function k kind p q h f b ∙ rw (le-ltb p k e) refl)
+
+-- the first three entries
+is-at : (a : List Entry) (count k : ℕ) (x : calculus.Entry) → count ≤ length a → k < count → calculus.entry-is (as-table a count) k x ≡ stands-at a k x
+unfolding calculus.entry-is calculus.test-entry stands-at
+is-at a count k x h l = rw (entry-at a count h k l) refl
+
+module _ (a : List Entry) (t : Bool) (e : t ≡ calculus.same-entry (as-entry (getD a 0 unused)) (calculus.entry 0 0 0)) where
+  pub no-unit : t ≡ false → false ≡ first-three a
+  unfolding first-three stands-at
+  no-unit f = rw (← e, f) refl
+
+  module _ (p : t ≡ true) (u : Bool) (e′ : u ≡ calculus.same-entry (as-entry (getD a 1 unused)) (calculus.entry 1 0 0)) where
+    pub no-num : u ≡ false → false ≡ first-three a
+    unfolding first-three stands-at
+    no-num f = rw (← e, p, ← e′, f) refl
+
+    pub cell-third : u ≡ true → calculus.same-entry (as-entry (getD a 2 unused)) (calculus.entry 2 1 0) ≡ first-three a
+    unfolding first-three stands-at
+    cell-third f = rw (← e, p, ← e′, f) refl
+
+-- the table
+module _ (a : List Entry) (count : ℕ) (h : count ≤ length a) (l : min-entries ≤ count) where
+  rules : calculus.table-test (as-table a count)
+      ≡ (calculus.entries-test 0 (as-table a count) && (calculus.distinct-test (as-table a count) && first-three a))
+  unfolding calculus.table-test first-three
+  rules =
+      rw (is-at a count 0 (calculus.entry 0 0 0) h (omega arith), is-at a count 1 (calculus.entry 1 0 0) h (omega arith), is-at a count 2 (calculus.entry 2 1 0) h (omega arith)) refl
+
+  module _ (t : Bool) (e : t ≡ calculus.entries-test 0 (as-table a count)) where
+    pub entry-broken : t ≡ false → false ≡ calculus.table-test (as-table a count)
+    entry-broken f = sym (rules ∙ rw (← e, f) refl)
+
+    module _ (p : t ≡ true) (u : Bool) (d : u ≡ calculus.distinct-test (as-table a count)) where
+      pub entry-twice : u ≡ false → false ≡ calculus.table-test (as-table a count)
+      entry-twice f = sym (rules ∙ rw (← e, p, ← d, f) refl)
+
+      pub table-kept : u ≡ true → first-three a ≡ calculus.table-test (as-table a count)
+      table-kept f = sym (rules ∙ rw (← e, p, ← d, f) refl)

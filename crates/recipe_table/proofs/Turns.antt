@@ -1,0 +1,76 @@
+-- A test of all entries, by a loop: what holds where it stands, and each way on. The test is `from i` of what is left from place i on.
+use mathlib.Core.Path.{_∙_, _≡_, refl, sym}
+use mathlib.Core.Bool.{Bool, _&&_, false, not, true}
+use mathlib.Core.List.{List, [], _∷_}
+use Prim.Native.Nat.{_+_, _<_, _≤_, ℕ}
+use native.Mathlib.Numerals.{add-one}
+use native.Mathlib.Omega.{arith}
+use lib.ListN.{drop, drop-of-length-le, getD, length}
+use lib.Seq.{drop-cons}
+use Rattle.calculus.specs.Table as calculus
+use Rattle.recipe_table.specs.declared.Entry.{Entry}
+use Rattle.recipe_table.specs.Filled.{unused, as-entry, as-table}
+use Rattle.recipe_table.proofs.Arrays.{length-as-table, entry-of}
+
+pub record Passed (from : ℕ → Bool) (first end i : ℕ) : Type 0 where
+  pub inside : i ≤ end
+  pub same : from first ≡ from i
+
+pub passed-start : (from : ℕ → Bool) (first end : ℕ) → first ≤ end → Passed from first end first
+passed-start from first end h = record { inside = h; same = refl }
+
+module _ {from : ℕ → Bool} {first end i : ℕ} (w : Passed from first end i) (t u : Bool) (e : from i ≡ (u && from (i + 1))) (f : t ≡ u) where
+  pub passed-next : i < end → t ≡ true → Passed from first end (i + 1)
+  passed-next h p = record { inside = omega arith; same = w .same ∙ (e ∙ rw (← f, p) refl) }
+
+  pub passed-not : t ≡ false → false ≡ from first
+  passed-not p = sym (w .same ∙ (e ∙ rw (← f, p) refl))
+
+pub passed-end : {from : ℕ → Bool} {first end i : ℕ} → Passed from first end i → end ≤ i → from end ≡ true → true ≡ from first
+passed-end {from} {first} {end} {i} w h e = let z : i ≡ end = omega (arith, w .inside) in sym (w .same ∙ (rw z e))
+
+-- the three tests of a table
+unfoldable pub entries-from : calculus.Table → ℕ → Bool
+entries-from T i = calculus.entries-test i (drop i T)
+
+unfoldable pub new-from : calculus.Entry → calculus.Table → ℕ → Bool
+new-from x T i = calculus.new-to x (drop i T)
+
+unfoldable pub distinct-from : calculus.Table → ℕ → Bool
+distinct-from T i = calculus.distinct-test (drop i T)
+
+module _ (a : List Entry) (count : ℕ) (h : count ≤ length a) where
+  next : (i : ℕ) → i < count → drop i (as-table a count) ≡ as-entry (getD a i unused) ∷ drop (i + 1) (as-table a count)
+  next i l =
+      let k : i < length (as-table a count) = rw (length-as-table a count h) l in
+      rw (add-one i, drop-cons (as-table a count) i (calculus.entry 0 0 0), entry-of a count h i l) refl
+
+  pub entries-turn : (i : ℕ) → i < count → entries-from (as-table a count) i
+      ≡ (calculus.entry-test i (getD a i unused .kind) (getD a i unused .p) (getD a i unused .q) && entries-from (as-table a count) (i + 1))
+  unfolding entries-from calculus.entries-test
+  entries-turn i l = rw (next i l, add-one i) refl
+
+  pub new-turn : (x : calculus.Entry) (i : ℕ) → i < count → new-from x (as-table a count) i
+      ≡ (not (calculus.same-entry x (as-entry (getD a i unused))) && new-from x (as-table a count) (i + 1))
+  unfolding new-from calculus.new-to
+  new-turn x i l = rw (next i l) refl
+
+  pub distinct-turn : (i : ℕ) → i < count → distinct-from (as-table a count) i
+      ≡ (calculus.new-to (as-entry (getD a i unused)) (drop (i + 1) (as-table a count)) && distinct-from (as-table a count) (i + 1))
+  unfolding distinct-from calculus.distinct-test
+  distinct-turn i l = rw (next i l) refl
+
+  none-left : drop count (as-table a count) ≡ []
+  none-left = drop-of-length-le (as-table a count) {i = count} (rw (length-as-table a count h) (omega arith))
+
+  pub entries-done : entries-from (as-table a count) count ≡ true
+  unfolding entries-from calculus.entries-test
+  entries-done = rw none-left refl
+
+  pub new-done : (x : calculus.Entry) → new-from x (as-table a count) count ≡ true
+  unfolding new-from calculus.new-to
+  new-done x = rw none-left refl
+
+  pub distinct-done : distinct-from (as-table a count) count ≡ true
+  unfolding distinct-from calculus.distinct-test
+  distinct-done = rw none-left refl

@@ -1,0 +1,78 @@
+-- Each answer of the code, from what it has read.
+use mathlib.Core.Path.{_∙_, _≡_, ap, ap₂, sym}
+use mathlib.Core.Bool.{Bool, false, true}
+use mathlib.Core.List.{List}
+use Prim.Native.Nat.{ℕ, _+_}
+use Rattle.calculus.specs.Step.{place}
+use Rattle.calculus.specs.Image.{is-settled}
+use Rattle.term.specs.Reader.{GoodAt}
+use Rattle.term.specs.Expressions.{term-at}
+use Rattle.image_layout.specs.Slice.{kind-at, companion-at, offset-at, length-at}
+use Rattle.term_redex.specs.declared.Meeting.{Meeting}
+use Rattle.step_rules.specs.declared.Move.{Move}
+use Rattle.step_rules.specs.Meets.{move-of}
+use Rattle.step_rules.specs.Stepped.{Stepped}
+use Rattle.step_decide.specs.declared.Decision.the-variants.{Goes, Waits, Refuses}
+use Rattle.step_decide.specs.Decided.{Decided, goes, waits, refuses-used, refuses-wrong}
+use Rattle.step_decide.specs.Asked.{Calls, ExchangesName, Follows}
+use Rattle.step_decide.proofs.Needed.{call-thread, call-future, call-open, call-used, call-cell, exchange-thread, exchange-future, exchange-cell, exchange-handle}
+use Rattle.step_decide.proofs.Tags.{Plain}
+
+-- a move that was made
+goes-as : {s : List ℕ} {x : ℕ} {move made : Move} → made ≡ move → Stepped s x move → Decided s x (Goes made)
+goes-as e h = rw e (goes h)
+
+-- the part that was read of name y
+copying : (n x : ℕ) (m : Meeting) (y : ℕ) {from size from′ size′ : ℕ} → from ≡ from′ → size ≡ size′ → move-of n x m y from (from + size) 0 ≡ move-of n x m y from′ (from′ + size′) 0
+copying n x m y e k = ap₂ (λ (i j : ℕ). move-of n x m y i (i + j) 0) e k
+
+module _ {s : List ℕ} {x : ℕ} {m : Meeting} {y from : ℕ} (d : Follows s x m y) (from-is : from ≡ offset-at s y) where
+  pub follow-good : GoodAt s from
+  follow-good = rw from-is (d .good)
+
+  module _ {value : Bool} (value-is : value ≡ is-settled (place (term-at s from))) where
+    settled : value ≡ is-settled (place (term-at s (offset-at s y)))
+    settled = value-is ∙ ap (λ k. is-settled (place (term-at s k))) from-is
+
+    pub follow-waits : value ≡ false → Decided s x (Waits y)
+    follow-waits v = waits (d .not-done (sym settled ∙ v))
+
+    pub follow-goes : {size : ℕ} {move : Move} → value ≡ true → size ≡ length-at s y → move ≡ move-of 3 x m y from (from + size) 0 → Decided s x (Goes move)
+    follow-goes v size-is made = goes-as (made ∙ copying 3 x m y from-is size-is) (d .done (sym settled ∙ v))
+
+module _ {s : List ℕ} {x : ℕ} {m : Meeting} {y kind : ℕ} (c : Calls s x m y) (kind-is : kind ≡ kind-at s y) where
+  pub call-follows : kind ≡ 1 → Follows s x m y
+  call-follows k = call-thread c (sym kind-is ∙ k)
+
+  pub call-waits : kind ≡ 5 → Decided s x (Waits y)
+  call-waits k = waits (call-future c (sym kind-is ∙ k))
+
+  pub call-goes : {future : ℕ} {move : Move} → kind ≡ 3 → future ≡ companion-at s y → move ≡ move-of 5 x m y 0 0 future → Decided s x (Goes move)
+  call-goes k future-is made = goes-as (made ∙ ap (move-of 5 x m y 0 0) future-is) (call-open c (sym kind-is ∙ k))
+
+  pub call-refuses-used : kind ≡ 4 → Decided s x (Refuses 16)
+  call-refuses-used k = refuses-used (call-used c (sym kind-is ∙ k))
+
+  pub call-refuses : ¬ (kind ≡ 1) → ¬ (kind ≡ 5) → ¬ (kind ≡ 3) → ¬ (kind ≡ 4) → Decided s x (Refuses 17)
+  call-refuses n₁ n₅ n₃ n₄ = refuses-wrong (call-cell c (λ k. n₁ (kind-is ∙ k)) (λ k. n₅ (kind-is ∙ k)) (λ k. n₃ (kind-is ∙ k)) (λ k. n₄ (kind-is ∙ k)))
+
+module _ {s : List ℕ} {x : ℕ} {m : Meeting} {y kind : ℕ} (c : ExchangesName s x m y) (kind-is : kind ≡ kind-at s y) where
+  pub exchange-follows : kind ≡ 1 → Follows s x m y
+  exchange-follows k = exchange-thread c (sym kind-is ∙ k)
+
+  pub exchange-waits : kind ≡ 5 → Decided s x (Waits y)
+  exchange-waits k = waits (exchange-future c (sym kind-is ∙ k))
+
+  pub exchange-goes : {from size : ℕ} {move : Move} → kind ≡ 2 → from ≡ offset-at s y → size ≡ length-at s y → move ≡ move-of 7 x m y from (from + size) 0 → Decided s x (Goes move)
+  exchange-goes k from-is size-is made = goes-as (made ∙ copying 7 x m y from-is size-is) (exchange-cell c (sym kind-is ∙ k))
+
+  pub exchange-refuses : ¬ (kind ≡ 1) → ¬ (kind ≡ 5) → ¬ (kind ≡ 2) → Decided s x (Refuses 17)
+  exchange-refuses n₁ n₅ n₂ = refuses-wrong (exchange-handle c (λ k. n₁ (kind-is ∙ k)) (λ k. n₅ (kind-is ∙ k)) (λ k. n₂ (kind-is ∙ k)))
+
+-- a lambda or a constant
+module _ {s : List ℕ} {x : ℕ} {m : Meeting} {rule n : ℕ} (p : Plain s x m n) (rule-is : rule ≡ n) where
+  pub plain-refuses : rule ≡ 0 → Decided s x (Refuses 17)
+  plain-refuses z = refuses-wrong (p .no-rule (sym rule-is ∙ z))
+
+  pub plain-goes : {move : Move} → ¬ (rule ≡ 0) → move ≡ move-of rule x m 0 0 0 0 → Decided s x (Goes move)
+  plain-goes some made = goes-as (made ∙ ap (λ k. move-of k x m 0 0 0 0) rule-is) (p .by-rule (λ z. some (rule-is ∙ z)))

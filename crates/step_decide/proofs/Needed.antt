@@ -1,0 +1,141 @@
+-- A name that is applied, or first argument of a full exch, by its kind.
+use mathlib.Core.Path.{_∙_, _≡_, ap, refl, sym}
+use mathlib.Core.Bool.{false, true, false≢true}
+use mathlib.Core.Option.{Option, some}
+use mathlib.Core.List.{List}
+use Prim.Native.Nat.{ℕ, _+_, _≤_}
+use native.Mathlib.Decide.{decLt}
+use native.Mathlib.Omega.{arith}
+use Rattle.calculus.specs.Syntax.{Const, Exp, name, const, app, op, exch, Value, is-name, is-exch, Component, thread-of, at}
+use Rattle.calculus.specs.Reduction.{Context}
+use Rattle.calculus.specs.Names.{count}
+use Rattle.calculus.specs.Step.{Answer, Place, settled, meet, loose, waiting, used-handle, wrong-kind, when-done, step-of, step-meeting, step-call, step-exchange, place}
+use Rattle.calculus.specs.Image.{is-settled}
+use Rattle.calculus.specs.Theory.Places.{Placed, place-sound}
+use Rattle.calculus.specs.Theory.Tests.{eqb-complete}
+use Rattle.term.proofs.Expressions.{found-at}
+use Rattle.image_layout.specs.Slice.{kind-at, companion-at, offset-at, length-at}
+use Rattle.image_layout.specs.Readable.{HasHead}
+use Rattle.image.specs.Configuration.{config-of}
+use Rattle.term_redex.specs.declared.Meeting.{Meeting}
+use Rattle.step_rules.specs.Meets.{Meets, move-of}
+use Rattle.step_rules.specs.Stepped.{Stepped}
+use Rattle.step_rules.specs.Theory.Reading.{below, thread-stands}
+use Rattle.step_rules.specs.Theory.Rules.{deref-moves, deref-exch-moves, bind-moves, exchange-moves}
+use Rattle.step_rules.specs.Theory.Found.{name-there}
+use Rattle.step_decide.specs.Asked.{Calls, ExchangesName, Follows}
+use Rattle.step_decide.proofs.Names.{Kind, head-there, kind-there, as-thread, as-cell, as-open, as-used, as-future, few-kinds}
+
+-- a thread that is done, or not
+settled-value : (e : Exp) → is-settled (place e) ≡ true → Value e
+unfolding is-settled
+settled-value e h = go (place e) (place-sound e) h
+  where
+    go : (p : Place) → Placed e p → is-settled p ≡ true → Value e
+    go (settled v w) s h = rw s w
+    go (meet F f v wf wv) s h = absurd (false≢true h)
+    go loose s h = absurd (false≢true h)
+
+not-settled : (y : ℕ) (p : Place) (answer : Answer) → is-settled p ≡ false → when-done y p answer ≡ waiting y
+unfolding is-settled when-done
+not-settled y (settled v w) answer h = absurd (false≢true (sym h))
+not-settled y (meet F f v wf wv) answer h = refl
+not-settled y loose answer h = refl
+
+-- the value of a thread is needed
+follows : {s : List ℕ} {x : ℕ} {m : Meeting} {F : Context} {f : Exp} {w : Value f} {v : Exp} → Meets s x m F w v → (y : ℕ) (e : Exp) (answer : Answer)
+    → at (config-of s) y ≡ some (thread-of e) → step-of (config-of s) x ≡ when-done y (place e) answer
+    → (Value e → Stepped s x (move-of 3 x m y (offset-at s y) (offset-at s y + length-at s y) 0)) → Follows s x m y
+follows {s} M y e answer h step done =
+    let q = found-at (thread-stands s (M .in-bytes) (M .stands) y e h .term) in
+    let p = ap (λ g. is-settled (place g)) (q .term) in
+    record {
+      head = head-there s (M .in-bytes) (M .stands) y (below s (M .in-bytes) (M .stands) y h);
+      good = q .good;
+      not-done = λ n. step ∙ not-settled y (place e) answer (sym p ∙ n);
+      done = λ d. done (settled-value e (sym p ∙ d));
+    }
+
+-- a name that stands in the function is a name of the image
+module _ {s : List ℕ} {x : ℕ} {m : Meeting} {F : Context} {f : Exp} {w : Value f} {v : Exp} (M : Meets s x m F w v) (y : ℕ) (there : 1 ≤ count y f) where
+  needed-head : HasHead s y
+  needed-head = head-there s (M .in-bytes) (M .stands) y (name-there M y there)
+
+  needed-kind : Kind s y (kind-at s y)
+  needed-kind = kind-there s (M .in-bytes) (M .stands) y (name-there M y there)
+
+one-name : (y : ℕ) → 1 ≤ count y (name y)
+unfolding count
+one-name y = rw (eqb-complete y y refl) (omega arith)
+
+one-exchanged : (y : ℕ) (c : Const) → 1 ≤ count y (app (const c) (name y))
+unfolding count
+one-exchanged y c = omega (arith, one-name y)
+
+-- name y is applied
+module _ {s : List ℕ} {x : ℕ} {m : Meeting} {y : ℕ} (c : Calls s x m y) where
+  abbrev called : Meets s x m (c .context) (is-name {k = y}) (c .argument)
+  called = c .meets
+
+  pub call-head : HasHead s y
+  call-head = needed-head called y (one-name y)
+
+  call-kind : Kind s y (kind-at s y)
+  call-kind = needed-kind called y (one-name y)
+
+  call-steps : {o : Option Component} → at (config-of s) y ≡ o → step-of (config-of s) x ≡ step-call (config-of s) x (c .context) y (c .argument) o
+  unfolding step-meeting
+  call-steps h = called .steps ∙ ap (step-call (config-of s) x (c .context) y (c .argument)) h
+
+  pub call-thread : kind-at s y ≡ 1 → Follows s x m y
+  unfolding step-call
+  call-thread k = let (e, h) = as-thread call-kind k in follows called y e _ h (call-steps h) (deref-moves called e h)
+
+  pub call-future : kind-at s y ≡ 5 → step-of (config-of s) x ≡ waiting y
+  unfolding step-call
+  call-future k = call-steps (as-future call-kind k)
+
+  pub call-open : kind-at s y ≡ 3 → Stepped s x (move-of 5 x m y 0 0 (companion-at s y))
+  call-open k = bind-moves called (companion-at s y) (as-open call-kind k)
+
+  pub call-used : kind-at s y ≡ 4 → step-of (config-of s) x ≡ used-handle
+  unfolding step-call
+  call-used k = call-steps (as-used call-kind k)
+
+  pub call-cell : ¬ (kind-at s y ≡ 1) → ¬ (kind-at s y ≡ 5) → ¬ (kind-at s y ≡ 3) → ¬ (kind-at s y ≡ 4) → step-of (config-of s) x ≡ wrong-kind
+  unfolding step-call
+  call-cell n₁ n₅ n₃ n₄ = let (e, h) = as-cell call-kind (omega (arith, few-kinds call-kind)) in call-steps h
+
+-- name y is the first argument of a full exch
+module _ {s : List ℕ} {x : ℕ} {m : Meeting} {y : ℕ} (c : ExchangesName s x m y) where
+  abbrev exchanged : Meets s x m (c .context) (is-exch {t = c .constant} (is-name {k = y})) (c .argument)
+  exchanged = c .meets
+
+  pub exchange-head : HasHead s y
+  exchange-head = needed-head exchanged y (one-exchanged y (op exch (c .constant)))
+
+  exchange-kind : Kind s y (kind-at s y)
+  exchange-kind = needed-kind exchanged y (one-exchanged y (op exch (c .constant)))
+
+  exchange-steps : {o : Option Component} → at (config-of s) y ≡ o
+      → step-of (config-of s) x ≡ step-exchange (config-of s) x (c .context) (c .constant) y (c .argument) o
+  unfolding step-meeting
+  exchange-steps h = exchanged .steps ∙ ap (step-exchange (config-of s) x (c .context) (c .constant) y (c .argument)) h
+
+  pub exchange-thread : kind-at s y ≡ 1 → Follows s x m y
+  unfolding step-exchange
+  exchange-thread k = let (e, h) = as-thread exchange-kind k in follows exchanged y e _ h (exchange-steps h) (deref-exch-moves exchanged e h)
+
+  pub exchange-future : kind-at s y ≡ 5 → step-of (config-of s) x ≡ waiting y
+  unfolding step-exchange
+  exchange-future k = exchange-steps (as-future exchange-kind k)
+
+  pub exchange-cell : kind-at s y ≡ 2 → Stepped s x (move-of 7 x m y (offset-at s y) (offset-at s y + length-at s y) 0)
+  exchange-cell k = let (e, h) = as-cell exchange-kind k in exchange-moves exchanged e h
+
+  pub exchange-handle : ¬ (kind-at s y ≡ 1) → ¬ (kind-at s y ≡ 5) → ¬ (kind-at s y ≡ 2) → step-of (config-of s) x ≡ wrong-kind
+  unfolding step-exchange
+  exchange-handle n₁ n₅ n₂ = elim (decLt (kind-at s y) 4) [
+    | yes k ↦ exchange-steps (as-open exchange-kind (omega (arith, few-kinds exchange-kind)))
+    | no k ↦ exchange-steps (as-used exchange-kind (omega (arith, few-kinds exchange-kind)))
+  ]

@@ -1,0 +1,152 @@
+-- The function of the application, by its tag: the byte after the application's own.
+use mathlib.Core.Path.{_∙_, _≡_, ap, refl, sym}
+use mathlib.Core.List.{List, _++_}
+use Prim.Native.Nat.{ℕ, _+_, _≤_, _<_}
+use native.Mathlib.Omega.{arith}
+use lib.ListN.{drop, getD, length, length-append, length-drop}
+use lib.Seq.{getD-drop}
+use Rattle.calculus.specs.Bytes.{Bytes}
+use Rattle.calculus.specs.Syntax.{Const, unit, num, op, cell, exch, thread, handle, Exp, Value, is-name, is-const, is-lam, is-exch}
+use Rattle.calculus.specs.Reduction.{Context}
+use Rattle.calculus.specs.Step.{wrong-kind, step-of, step-meeting}
+use Rattle.calculus.specs.Image.{const-size, size}
+use Rattle.term.specs.Forms.{tags}
+use Rattle.term.specs.Expressions.{bytes, const-bytes, op-tag, TermAt}
+use Rattle.term.proofs.Sizes.{length-bytes}
+use Rattle.image.specs.Configuration.{config-of}
+use Rattle.term_redex.specs.declared.Meeting.{Meeting}
+use Rattle.step_rules.specs.Meets.{Deciding, Meets, move-of}
+use Rattle.step_rules.specs.Stepped.{Stepped}
+use Rattle.step_rules.specs.Theory.Rules.{beta-moves, thread-moves, handle-moves, cell-moves}
+use Rattle.step_rules.specs.Theory.Found.{MeetsAt, found-meets}
+use Rattle.step_rules.specs.Theory.Writers.{size-positive}
+use Rattle.step_decide.specs.Rules.{rules}
+use Rattle.step_decide.specs.Asked.{Calls, Exchanges, ExchangesName}
+
+-- the bytes of a term that stands at a position
+byte-there : {l : List ℕ} {at : ℕ} {e : Exp} → TermAt l at e → (i : ℕ) → getD l (at + i) 0 ≡ getD (bytes e ++ drop (at + size e) l) i 0
+byte-there {l} {at} t i = sym (getD-drop at l i 0) ∙ ap (λ k. getD k i 0) (t .stands)
+
+room : {l : List ℕ} {at : ℕ} {e : Exp} → TermAt l at e → at + size e ≤ length l
+room {l} {at} {e} t =
+    omega (arith, t .inside, ap length (t .stands), length-drop at l, length-append (bytes e) (drop (at + size e) l), length-bytes e)
+
+-- a function that is no name and no exch applied has this rule; with 0 there is none
+pub record Plain (s : List ℕ) (x : ℕ) (m : Meeting) (n : ℕ) : Type 0 where
+  pub no-rule : n ≡ 0 → step-of (config-of s) x ≡ wrong-kind
+  pub by-rule : ¬ (n ≡ 0) → Stepped s x (move-of n x m 0 0 0 0)
+
+-- what a tag says of the function
+pub data Root (s : List ℕ) (x : ℕ) (m : Meeting) : ℕ → Type 0 where
+  root-name : m .at + 3 ≤ length s → Calls s x m (getD s (m .at + 2) 0) → Root s x m 9
+  root-exch : Exchanges s x m → Root s x m 2
+  root-plain : {tag : ℕ} → ¬ (tag ≡ 9) → ¬ (tag ≡ 2) → tag < tags → Plain s x m (getD rules tag 0) → Root s x m tag
+
+-- a lambda or a constant: its rule goes, or 17 fits
+module _ {s : List ℕ} {x : ℕ} {m : Meeting} (tag : ℕ) (is : getD s (m .at + 1) 0 ≡ tag) (other : ¬ (tag ≡ 9) × ¬ (tag ≡ 2) × (tag < tags)) where
+  goes-by : (n : ℕ) → ¬ (n ≡ 0) → getD rules tag 0 ≡ n → Stepped s x (move-of n x m 0 0 0 0) → Root s x m (getD s (m .at + 1) 0)
+  goes-by n p r h = rw is (root-plain (other .0) (other .1) (other .2) (rw r (record { no-rule = λ z. absurd (p z); by-rule = λ z. h })))
+
+  goes-not : getD rules tag 0 ≡ 0 → step-of (config-of s) x ≡ wrong-kind → Root s x m (getD s (m .at + 1) 0)
+  goes-not r h = rw is (root-plain (other .0) (other .1) (other .2) (rw r (record { no-rule = λ z. h; by-rule = λ z. absurd (z refl) })))
+
+root : {s : List ℕ} {x : ℕ} {m : Meeting} {F : Context} {f : Exp} (w : Value f) {v : Exp} → Meets s x m F w v → Root s x m (getD s (m .at + 1) 0)
+unfolding bytes const-bytes op-tag size const-size step-meeting rules
+root {s} {x} {m} {F} (is-name {k = k}) {v} M =
+    let t = M .placed .application in
+    let k-is : getD s (m .at + 2) 0 ≡ k = byte-there t 2 in
+    rw (byte-there t 1) (root-name (omega (arith, room t)) (rw k-is (record { context = F; argument = v; meets = M })))
+root {s} {x} {m} {F} (is-exch {t = t} {v = u} w) {v} M =
+    rw (byte-there (M .placed .application) 1) (root-exch (record { context = F; constant = t; first = u; first-value = w; argument = v; meets = M }))
+root is-lam M = goes-by 1 (byte-there (M .placed .application) 1) (omega arith, omega arith, omega arith) 1 (omega arith) refl (beta-moves M)
+root (is-const {c = unit}) M = goes-not 3 (byte-there (M .placed .application) 1) (omega arith, omega arith, omega arith) refl (M .steps)
+root (is-const {c = num n}) M = goes-not 4 (byte-there (M .placed .application) 1) (omega arith, omega arith, omega arith) refl (M .steps)
+root (is-const {c = op cell t}) M = goes-by 5 (byte-there (M .placed .application) 1) (omega arith, omega arith, omega arith) 6 (omega arith) refl (cell-moves M)
+root (is-const {c = op exch t}) M = goes-not 6 (byte-there (M .placed .application) 1) (omega arith, omega arith, omega arith) refl (M .steps)
+root (is-const {c = op thread t}) M = goes-by 7 (byte-there (M .placed .application) 1) (omega arith, omega arith, omega arith) 2 (omega arith) refl (thread-moves M)
+root (is-const {c = op handle t}) M = goes-by 8 (byte-there (M .placed .application) 1) (omega arith, omega arith, omega arith) 4 (omega arith) refl (handle-moves M)
+
+-- of the meeting that a search has found
+module _ {s : List ℕ} {x : ℕ} {m : Meeting} (b : Bytes s) (d : Deciding s x m) where
+  found : MeetsAt s x m
+  found = found-meets b d
+
+  -- the function is inside
+  pub tag-inside : m .at + 2 ≤ length s
+  unfolding size
+  tag-inside = omega (arith, found .meets .placed .second, room (found .meets .placed .application), room (found .meets .placed .function), size-positive (found .function))
+
+  function : Root s x m (getD s (m .at + 1) 0)
+  function = root (found .function-value) (found .meets)
+
+  pub tag-name : getD s (m .at + 1) 0 ≡ 9 → (m .at + 3 ≤ length s) × Calls s x m (getD s (m .at + 2) 0)
+  tag-name = go function
+    where
+      go : {tag : ℕ} → Root s x m tag → tag ≡ 9 → (m .at + 3 ≤ length s) × Calls s x m (getD s (m .at + 2) 0)
+      go (root-name i c) e = (i, c)
+      go (root-exch c) e = absurd (omega arith)
+      go (root-plain p q k h) e = absurd (p e)
+
+  pub tag-application : getD s (m .at + 1) 0 ≡ 2 → Exchanges s x m
+  tag-application = go function
+    where
+      go : {tag : ℕ} → Root s x m tag → tag ≡ 2 → Exchanges s x m
+      go (root-name i c) e = absurd (omega arith)
+      go (root-exch c) e = c
+      go (root-plain p q k h) e = absurd (q e)
+
+  pub tag-plain : ¬ (getD s (m .at + 1) 0 ≡ 9) → ¬ (getD s (m .at + 1) 0 ≡ 2) → (getD s (m .at + 1) 0 < tags) × Plain s x m (getD rules (getD s (m .at + 1) 0) 0)
+  tag-plain = go function
+    where
+      go : {tag : ℕ} → Root s x m tag → ¬ (tag ≡ 9) → ¬ (tag ≡ 2) → (tag < tags) × Plain s x m (getD rules tag 0)
+      go (root-name i c) p q = absurd (p refl)
+      go (root-exch c) p q = absurd (q refl)
+      go (root-plain a c k h) p q = (k, h)
+
+-- The first argument of a full exch, by its tag: 4 bytes on
+
+const-no-name : (c : Const) (p q : List ℕ) → ¬ (getD ((const-bytes c ++ p) ++ q) 0 0 ≡ 9)
+unfolding const-bytes op-tag
+const-no-name unit p q e = omega arith
+const-no-name (num n) p q e = omega arith
+const-no-name (op cell t) p q e = omega arith
+const-no-name (op exch t) p q e = omega arith
+const-no-name (op thread t) p q e = omega arith
+const-no-name (op handle t) p q e = omega arith
+
+-- it is a name, or 17 fits
+data First (s : List ℕ) (x : ℕ) (m : Meeting) : ℕ → Type 0 where
+  first-name : m .at + 6 ≤ length s → ExchangesName s x m (getD s (m .at + 5) 0) → First s x m 9
+  first-other : {tag : ℕ} → ¬ (tag ≡ 9) → step-of (config-of s) x ≡ wrong-kind → First s x m tag
+
+first : {s : List ℕ} {x t : ℕ} {m : Meeting} {F : Context} {u : Exp} (w : Value u) {v : Exp} → Meets s x m F (is-exch {t = t} w) v → First s x m (getD s (m .at + 4) 0)
+unfolding bytes const-bytes op-tag size const-size step-meeting
+first {s} {x} {t} {m} {F} (is-name {k = k}) {v} M =
+    let h = M .placed .application in
+    let k-is : getD s (m .at + 5) 0 ≡ k = byte-there h 5 in
+    rw (byte-there h 4) (first-name (omega (arith, room h)) (rw k-is (record { context = F; constant = t; argument = v; meets = M })))
+first (is-const {c = c}) {v} M = first-other (λ e. const-no-name c (bytes v) _ (sym (byte-there (M .placed .application) 4) ∙ e)) (M .steps)
+first is-lam M = rw (byte-there (M .placed .application) 4) (first-other {tag = 1} (omega arith) (M .steps))
+first (is-exch w) M = rw (byte-there (M .placed .application) 4) (first-other {tag = 2} (omega arith) (M .steps))
+
+module _ {s : List ℕ} {x : ℕ} {m : Meeting} (c : Exchanges s x m) where
+  pub first-inside : m .at + 5 ≤ length s
+  unfolding size const-size
+  first-inside = omega (arith, room (c .meets .placed .application), size-positive (c .first))
+
+  first-tag : First s x m (getD s (m .at + 4) 0)
+  first-tag = first (c .first-value) (c .meets)
+
+  pub first-is-name : getD s (m .at + 4) 0 ≡ 9 → (m .at + 6 ≤ length s) × ExchangesName s x m (getD s (m .at + 5) 0)
+  first-is-name = go first-tag
+    where
+      go : {tag : ℕ} → First s x m tag → tag ≡ 9 → (m .at + 6 ≤ length s) × ExchangesName s x m (getD s (m .at + 5) 0)
+      go (first-name i c) e = (i, c)
+      go (first-other p h) e = absurd (p e)
+
+  pub first-is-other : ¬ (getD s (m .at + 4) 0 ≡ 9) → step-of (config-of s) x ≡ wrong-kind
+  first-is-other = go first-tag
+    where
+      go : {tag : ℕ} → First s x m tag → ¬ (tag ≡ 9) → step-of (config-of s) x ≡ wrong-kind
+      go (first-name i c) p = absurd (p refl)
+      go (first-other p h) q = h

@@ -1,0 +1,20 @@
+-- `reducts::put_argument` meets its contract.
+use native.Mathlib.Omega.{arith}
+use Rattle.step_rules.specs.Moves.{between}
+use Rattle.step_reduct.proofs.Redexes.{argument-length}
+use borrow.Author.Needs.{needs}
+use Rattle.step_reduct.proofs.put_argument.Statement.{statement}
+use Rattle.step_reduct.proofs.put_argument.Tie as tie
+
+put-part-requires : tie.Need-put-part-requires
+put-part-requires c κs = let w = c .before .before .before .pre .0 in (w .movable .third, (omega (arith, w .movable .ends, w .movable .inside, w .movable .copied-inside), omega (arith, argument-length w, c .before .before .before .pre .1)))
+
+same-length : tie.Need-same-length
+same-length c = search needs
+
+returns : tie.Need-returns
+unfolding between
+returns c = c .before .before .put-part .ensures
+
+pub put-argument-spec : {M : Type 1} → statement M
+put-argument-spec = tie.close (tie.spec put-part-requires same-length returns)

@@ -1,0 +1,20 @@
+-- `reducts::put_copied` meets its contract.
+use native.Mathlib.Omega.{arith}
+use Rattle.step_rules.specs.Moves.{between}
+use Rattle.step_reduct.proofs.Redexes.{copied-length}
+use borrow.Author.Needs.{needs}
+use Rattle.step_reduct.proofs.put_copied.Statement.{statement}
+use Rattle.step_reduct.proofs.put_copied.Tie as tie
+
+put-part-requires : tie.Need-put-part-requires
+put-part-requires c κs = let w = c .before .before .before .pre .0 in (w .movable .copied, (omega (arith, w .movable .ends, w .movable .inside, w .movable .copied-inside), omega (arith, copied-length w, c .before .before .before .pre .1)))
+
+same-length : tie.Need-same-length
+same-length c = search needs
+
+returns : tie.Need-returns
+unfolding between
+returns c = c .before .before .put-part .ensures
+
+pub put-copied-spec : {M : Type 1} → statement M
+put-copied-spec = tie.close (tie.spec put-part-requires same-length returns)

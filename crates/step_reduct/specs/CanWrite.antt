@@ -1,0 +1,24 @@
+-- What a writer of the image after a step needs of the image before it and of the move.
+use mathlib.Core.Path.{_≡_}
+use mathlib.Core.Bool.{true}
+use mathlib.Core.List.{List}
+use Prim.Native.Nat.{ℕ, _<_, _≤_}
+use lib.ListN.{length}
+use Rattle.calculus.specs.Bytes.{two-byte-values}
+use Rattle.calculus.specs.Limits.{max-names}
+use Rattle.image_layout.specs.Layout.{heads-stand}
+use Rattle.step_rules.specs.declared.Move.{Move}
+use Rattle.step_rules.specs.Moves.{names-after}
+use Rattle.step_rules.specs.Stepped.{Movable}
+
+pub record CanWrite (s : List ℕ) (move : Move) : Type 0 where
+  -- the places that the move names are inside the image
+  pub movable : Movable s move
+  -- the image keeps its layout, and its limit of bytes
+  pub stands : heads-stand s ≡ true
+  pub short : length s < two-byte-values
+  -- "Rules in Fig. 5's order are numbered 1 to 7"
+  pub first : 1 ≤ move .rule
+  pub last : move .rule ≤ 7
+  -- "At most 256 names"
+  pub few : names-after s move ≤ max-names

@@ -1,0 +1,9 @@
+-- Document 01, "A step", in bytes: what each rule of Fig. 5 makes of an image.
+
+-- the components of the image after a step by a rule
+pub mod Moves
+-- what a writer of the image after a step needs, and that the step is the calculus's
+pub mod Stepped
+-- the meeting of two values in a thread of an image
+pub mod Meets
+pub mod Theory

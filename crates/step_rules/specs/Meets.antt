@@ -1,0 +1,52 @@
+-- The meeting of two values in a thread of an image, and the moves that begin with it.
+use mathlib.Core.Path.{_≡_}
+use mathlib.Core.Bool.{true}
+use mathlib.Core.Option.{some}
+use mathlib.Core.List.{List}
+use Prim.Native.Nat.{ℕ}
+use Rattle.calculus.specs.Bytes.{Bytes}
+use Rattle.calculus.specs.Syntax.{Exp, app, Value, at, thread-of}
+use Rattle.calculus.specs.Reduction.{Context, plug}
+use Rattle.calculus.specs.Step.{step-of, step-meeting, place}
+use Rattle.calculus.specs.Image.{size}
+use Rattle.term.specs.Expressions.{term-at}
+use Rattle.image_layout.specs.Slice.{offset-at, length-at}
+use Rattle.image.specs.Configuration.{config-of}
+use Rattle.image.specs.Stands.{image-stands}
+use Rattle.term_redex.specs.declared.Meeting.{Meeting}
+use Rattle.term_redex.specs.declared.Place.the-variants.{Meet}
+use Rattle.term_redex.specs.Places.{place-of}
+use Rattle.term_redex.proofs.Meetings.{MeetingAt}
+use Rattle.step_rules.specs.declared.Move.{Move}
+
+-- the move by a rule at a meeting; what a rule has no use for is 0
+unfoldable pub move-of : ℕ → ℕ → Meeting → ℕ → ℕ → ℕ → ℕ → Move
+move-of rule x m name from to future =
+    record {
+      rule = rule;
+      thread = x;
+      at = m .at;
+      argument = m .argument;
+      end = m .end;
+      name = name;
+      from = from;
+      to = to;
+      future = future;
+    }
+
+-- what is asked before a step is decided: 13 and 14 do not fit, and the search has answered this meeting
+pub record Deciding (s : List ℕ) (x : ℕ) (m : Meeting) : Type 0 where
+  pub stands : image-stands s ≡ true
+  pub expression : Exp
+  pub thread : at (config-of s) x ≡ some (thread-of expression)
+  pub found : place-of (offset-at s x) (place (term-at s (offset-at s x))) ≡ Meet m
+
+-- in thread x of the image s the values f and v meet, in the context F, at the meeting m
+pub record Meets (s : List ℕ) (x : ℕ) (m : Meeting) (F : Context) {f : Exp} (w : Value f) (v : Exp) : Type 0 where
+  pub in-bytes : Bytes s
+  pub stands : image-stands s ≡ true
+  pub thread : at (config-of s) x ≡ some (thread-of (plug F (app f v)))
+  pub value : Value v
+  pub steps : step-of (config-of s) x ≡ step-meeting (config-of s) x F w v
+  pub placed : MeetingAt s (offset-at s x) (plug F (app f v)) m F f v
+  pub long : length-at s x ≡ size (plug F (app f v))

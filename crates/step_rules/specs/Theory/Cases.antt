@@ -1,0 +1,108 @@
+-- Cases, computed: document 01's cases B and C, step by step, and a case of each other rule.
+use mathlib.Core.Path.{_≡_, refl}
+use mathlib.Core.List.{List, [], _∷_}
+use Prim.Native.Nat.{ℕ}
+use Rattle.calculus.specs.Bytes.{two-bytes, word}
+use Rattle.calculus.specs.Lists.{tabulate}
+use Rattle.calculus.specs.Image.{nodes}
+use Rattle.calculus.specs.Names.{uses}
+use Rattle.calculus.specs.Reduction.{substitute}
+use Rattle.term.specs.Forms.{form-of, forms}
+use Rattle.term.specs.Numbers.{value-of}
+use Rattle.term.specs.Reader.{first-tree, head-of, read, read-term, tree-at}
+use Rattle.term.specs.Expressions.{bytes, const-bytes, exp-of, leaf-exp, leaves, term-at}
+use Rattle.image_layout.specs.Encoded.{expressions, head, heads, image-bytes}
+use Rattle.image_layout.specs.Slice.{companion-at, encoded-at, expression-at, kind-at, length-at, names, offset-at}
+use Rattle.step_rules.specs.declared.Move.{Move}
+use Rattle.step_rules.specs.Moves.{after, between, components-after, expression-after, image-after, names-after, news, node-counts, nodes-after, other-after, others, redex-after, redexes}
+
+-- an image and its nodes, a move, and the image and its nodes after it
+record Row : Type 0 where
+  before : List ℕ
+  nodes-before : ℕ
+  move : Move
+  next : List ℕ
+  nodes-next : ℕ
+
+abbrev move : ℕ → ℕ → ℕ → ℕ → ℕ → ℕ → ℕ → ℕ → ℕ → Move
+move rule thread at argument end name from to future =
+    record { rule = rule; thread = thread; at = at; argument = argument; end = end; name = name; from = from; to = to; future = future }
+
+abbrev rows : List Row
+rows =
+    -- document 01's case B: rule 7
+    record {
+      before = 2 ∷ 0 ∷ 2 ∷ 0 ∷ 14 ∷ 0 ∷ 3 ∷ 0 ∷ 1 ∷ 0 ∷ 17 ∷ 0 ∷ 9 ∷ 0 ∷ 4 ∷ 0 ∷ 0 ∷ 2 ∷ 2 ∷ 6 ∷ 4 ∷ 9 ∷ 0 ∷ 4 ∷ 250 ∷ 0 ∷ [];
+      nodes-before = 6;
+      move = move 7 1 17 23 26 0 14 17 0;
+      next = 2 ∷ 0 ∷ 2 ∷ 0 ∷ 14 ∷ 0 ∷ 3 ∷ 0 ∷ 1 ∷ 0 ∷ 17 ∷ 0 ∷ 3 ∷ 0 ∷ 4 ∷ 250 ∷ 0 ∷ 4 ∷ 0 ∷ 0 ∷ [];
+      nodes-next = 2;
+    }
+    -- document 01's case C: rules 4, 1, 1, 5
+    ∷ record {
+      before = 2 ∷ 0 ∷ 2 ∷ 0 ∷ 14 ∷ 0 ∷ 3 ∷ 0 ∷ 1 ∷ 0 ∷ 17 ∷ 0 ∷ 12 ∷ 0 ∷ 4 ∷ 0 ∷ 0 ∷ 2 ∷ 8 ∷ 6 ∷ 1 ∷ 5 ∷ 1 ∷ 4 ∷ 2 ∷ 0 ∷ 0 ∷ 0 ∷ 1 ∷ [];
+      nodes-before = 8;
+      move = move 4 1 17 20 29 0 0 0 0;
+      next = 4 ∷ 0 ∷ 2 ∷ 0 ∷ 26 ∷ 0 ∷ 3 ∷ 0 ∷ 1 ∷ 0 ∷ 29 ∷ 0 ∷ 15 ∷ 0 ∷ 5 ∷ 0 ∷ 44 ∷ 0 ∷ 0 ∷ 0 ∷ 3 ∷ 2 ∷ 44 ∷ 0 ∷ 0 ∷ 0 ∷ 4 ∷ 0 ∷ 0 ∷ 2 ∷ 2 ∷ 1 ∷ 5 ∷ 1 ∷ 4 ∷ 2 ∷ 0 ∷ 0 ∷ 0 ∷ 1 ∷ 9 ∷ 2 ∷ 9 ∷ 3 ∷ [];
+      nodes-next = 10;
+    }
+    ∷ record {
+      before = 4 ∷ 0 ∷ 2 ∷ 0 ∷ 26 ∷ 0 ∷ 3 ∷ 0 ∷ 1 ∷ 0 ∷ 29 ∷ 0 ∷ 15 ∷ 0 ∷ 5 ∷ 0 ∷ 44 ∷ 0 ∷ 0 ∷ 0 ∷ 3 ∷ 2 ∷ 44 ∷ 0 ∷ 0 ∷ 0 ∷ 4 ∷ 0 ∷ 0 ∷ 2 ∷ 2 ∷ 1 ∷ 5 ∷ 1 ∷ 4 ∷ 2 ∷ 0 ∷ 0 ∷ 0 ∷ 1 ∷ 9 ∷ 2 ∷ 9 ∷ 3 ∷ [];
+      nodes-before = 10;
+      move = move 1 1 30 40 42 0 0 0 0;
+      next = 4 ∷ 0 ∷ 2 ∷ 0 ∷ 26 ∷ 0 ∷ 3 ∷ 0 ∷ 1 ∷ 0 ∷ 29 ∷ 0 ∷ 10 ∷ 0 ∷ 5 ∷ 0 ∷ 39 ∷ 0 ∷ 0 ∷ 0 ∷ 3 ∷ 2 ∷ 39 ∷ 0 ∷ 0 ∷ 0 ∷ 4 ∷ 0 ∷ 0 ∷ 2 ∷ 1 ∷ 4 ∷ 2 ∷ 0 ∷ 0 ∷ 9 ∷ 2 ∷ 9 ∷ 3 ∷ [];
+      nodes-next = 7;
+    }
+    ∷ record {
+      before = 4 ∷ 0 ∷ 2 ∷ 0 ∷ 26 ∷ 0 ∷ 3 ∷ 0 ∷ 1 ∷ 0 ∷ 29 ∷ 0 ∷ 10 ∷ 0 ∷ 5 ∷ 0 ∷ 39 ∷ 0 ∷ 0 ∷ 0 ∷ 3 ∷ 2 ∷ 39 ∷ 0 ∷ 0 ∷ 0 ∷ 4 ∷ 0 ∷ 0 ∷ 2 ∷ 1 ∷ 4 ∷ 2 ∷ 0 ∷ 0 ∷ 9 ∷ 2 ∷ 9 ∷ 3 ∷ [];
+      nodes-before = 7;
+      move = move 1 1 29 37 39 0 0 0 0;
+      next = 4 ∷ 0 ∷ 2 ∷ 0 ∷ 26 ∷ 0 ∷ 3 ∷ 0 ∷ 1 ∷ 0 ∷ 29 ∷ 0 ∷ 5 ∷ 0 ∷ 5 ∷ 0 ∷ 34 ∷ 0 ∷ 0 ∷ 0 ∷ 3 ∷ 2 ∷ 34 ∷ 0 ∷ 0 ∷ 0 ∷ 4 ∷ 0 ∷ 0 ∷ 2 ∷ 9 ∷ 3 ∷ 9 ∷ 2 ∷ [];
+      nodes-next = 4;
+    }
+    ∷ record {
+      before = 4 ∷ 0 ∷ 2 ∷ 0 ∷ 26 ∷ 0 ∷ 3 ∷ 0 ∷ 1 ∷ 0 ∷ 29 ∷ 0 ∷ 5 ∷ 0 ∷ 5 ∷ 0 ∷ 34 ∷ 0 ∷ 0 ∷ 0 ∷ 3 ∷ 2 ∷ 34 ∷ 0 ∷ 0 ∷ 0 ∷ 4 ∷ 0 ∷ 0 ∷ 2 ∷ 9 ∷ 3 ∷ 9 ∷ 2 ∷ [];
+      nodes-before = 4;
+      move = move 5 1 29 32 34 3 0 0 2;
+      next = 4 ∷ 0 ∷ 2 ∷ 0 ∷ 26 ∷ 0 ∷ 3 ∷ 0 ∷ 1 ∷ 0 ∷ 29 ∷ 0 ∷ 1 ∷ 0 ∷ 1 ∷ 0 ∷ 30 ∷ 0 ∷ 2 ∷ 0 ∷ 4 ∷ 0 ∷ 32 ∷ 0 ∷ 0 ∷ 0 ∷ 4 ∷ 0 ∷ 0 ∷ 3 ∷ 9 ∷ 2 ∷ [];
+      nodes-next = 3;
+    }
+    -- rule 2, rule 6
+    ∷ record {
+      before = 1 ∷ 0 ∷ 1 ∷ 0 ∷ 8 ∷ 0 ∷ 4 ∷ 0 ∷ 2 ∷ 7 ∷ 3 ∷ 3 ∷ [];
+      nodes-before = 3;
+      move = move 2 0 8 11 12 0 0 0 0;
+      next = 2 ∷ 0 ∷ 1 ∷ 0 ∷ 14 ∷ 0 ∷ 2 ∷ 0 ∷ 1 ∷ 0 ∷ 16 ∷ 0 ∷ 4 ∷ 0 ∷ 9 ∷ 1 ∷ 2 ∷ 3 ∷ 9 ∷ 1 ∷ [];
+      nodes-next = 4;
+    }
+    ∷ record {
+      before = 1 ∷ 0 ∷ 1 ∷ 0 ∷ 8 ∷ 0 ∷ 4 ∷ 0 ∷ 2 ∷ 5 ∷ 2 ∷ 3 ∷ [];
+      nodes-before = 3;
+      move = move 6 0 8 11 12 0 0 0 0;
+      next = 2 ∷ 0 ∷ 1 ∷ 0 ∷ 14 ∷ 0 ∷ 2 ∷ 0 ∷ 2 ∷ 0 ∷ 16 ∷ 0 ∷ 1 ∷ 0 ∷ 9 ∷ 1 ∷ 3 ∷ [];
+      nodes-next = 2;
+    }
+    -- rule 3, at the function of an application and at the first argument of a full exch; the value is a lambda
+    ∷ record {
+      before = 2 ∷ 0 ∷ 1 ∷ 0 ∷ 14 ∷ 0 ∷ 4 ∷ 0 ∷ 1 ∷ 0 ∷ 18 ∷ 0 ∷ 4 ∷ 0 ∷ 2 ∷ 9 ∷ 1 ∷ 3 ∷ 1 ∷ 3 ∷ 0 ∷ 0 ∷ [];
+      nodes-before = 5;
+      move = move 3 0 14 17 18 1 18 22 0;
+      next = 2 ∷ 0 ∷ 1 ∷ 0 ∷ 14 ∷ 0 ∷ 6 ∷ 0 ∷ 1 ∷ 0 ∷ 20 ∷ 0 ∷ 4 ∷ 0 ∷ 2 ∷ 1 ∷ 3 ∷ 0 ∷ 0 ∷ 3 ∷ 1 ∷ 3 ∷ 0 ∷ 0 ∷ [];
+      nodes-next = 6;
+    }
+    ∷ record {
+      before = 2 ∷ 0 ∷ 1 ∷ 0 ∷ 14 ∷ 0 ∷ 7 ∷ 0 ∷ 1 ∷ 0 ∷ 21 ∷ 0 ∷ 4 ∷ 0 ∷ 2 ∷ 2 ∷ 6 ∷ 4 ∷ 9 ∷ 1 ∷ 3 ∷ 1 ∷ 3 ∷ 0 ∷ 0 ∷ [];
+      nodes-before = 7;
+      move = move 3 0 14 20 21 1 21 25 0;
+      next = 2 ∷ 0 ∷ 1 ∷ 0 ∷ 14 ∷ 0 ∷ 9 ∷ 0 ∷ 1 ∷ 0 ∷ 23 ∷ 0 ∷ 4 ∷ 0 ∷ 2 ∷ 2 ∷ 6 ∷ 4 ∷ 1 ∷ 3 ∷ 0 ∷ 0 ∷ 3 ∷ 1 ∷ 3 ∷ 0 ∷ 0 ∷ [];
+      nodes-next = 8;
+    }
+    ∷ []
+
+abbrev Hold : List Row → Type 0
+Hold [] = Unit {0}
+Hold (r ∷ rs) = ((image-after (r .before) (r .move) ≡ r .next) × (nodes-after (r .nodes-before) (r .before) (r .move) ≡ r .nodes-next)) × Hold rs
+
+pub cases : Hold rows
+unfolding image-after components-after after other-after others expression-after redex-after redexes between names-after news nodes-after node-counts tabulate image-bytes heads head expressions two-bytes word names kind-at companion-at offset-at length-at expression-at encoded-at bytes const-bytes substitute uses nodes term-at exp-of leaf-exp leaves tree-at first-tree read-term read head-of form-of forms value-of
+cases = ((refl, refl), ((refl, refl), ((refl, refl), ((refl, refl), ((refl, refl), ((refl, refl), ((refl, refl), ((refl, refl), ((refl, refl), tt)))))))))

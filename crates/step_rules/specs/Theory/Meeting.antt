@@ -1,0 +1,83 @@
+-- The meeting in bytes: the two values, the thread's expression after a step, and the components after a step.
+use mathlib.Core.Path.{_∙_, _≡_, ap, ap₂, sym}
+use mathlib.Core.Bool.{cond}
+use mathlib.Core.List.{List, [], _++_, _∷_, append-assoc, map}
+use Prim.Native.Nat.{ℕ, _+_, _-_}
+use native.Mathlib.Omega.{arith}
+use lib.Dec.{eqb}
+use lib.ListN.{drop, length, length-drop, take}
+use lib.Seq.{drop-drop, take-at}
+use Rattle.calculus.specs.Lists.{tabulate}
+use Rattle.calculus.specs.Syntax.{Exp, lam, app, Value, thread-of, Config}
+use Rattle.calculus.specs.Reduction.{Context, plug}
+use Rattle.calculus.specs.Image.{size}
+use Rattle.calculus.specs.Theory.Tabulate.{tabulate-same}
+use Rattle.term.specs.Expressions.{bytes, TermAt}
+use Rattle.term.proofs.Sizes.{length-bytes}
+use Rattle.term.proofs.Trees.{fits-lam}
+use Rattle.image_layout.specs.Encoded.{Encoded}
+use Rattle.image_layout.specs.Slice.{names, offset-at, length-at, encoded-at, encoded-all}
+use Rattle.image.specs.Configuration.{encode, config-of}
+use Rattle.image.specs.Theory.Exactly.{written-back}
+use Rattle.term_redex.specs.declared.Meeting.{Meeting}
+use Rattle.term_redex.specs.Contexts.{back, front}
+use Rattle.term_redex.proofs.Contexts.{plug-bytes}
+use Rattle.step_rules.specs.declared.Move.{Move}
+use Rattle.step_rules.specs.Moves.{between, thread-holding, argument-bytes, redex-after, expression-after, other-after, after, names-after, components-after}
+use Rattle.step_rules.specs.Meets.{move-of, Meets}
+use Rattle.step_rules.specs.Theory.Changes.{Table}
+
+-- the front of what stands at a position
+pub between-front : (s : List ℕ) (a b : ℕ) (p q : List ℕ) → drop a s ≡ p ++ q → b ≡ a + length p → between s a b ≡ p
+unfolding between
+between-front s a b p q e n =
+    let k : length p ≡ b - a = omega arith in
+    ap (take (b - a)) e ∙ take-at p q (b - a) k
+
+pub between-term : {s : List ℕ} {a : ℕ} {e : Exp} (b : ℕ) → TermAt s a e → b ≡ a + size e → between s a b ≡ bytes e
+between-term {s} {a} {e} b t n = between-front s a b (bytes e) (drop (a + size e) s) (t .stands) (omega (arith, length-bytes e))
+
+-- the body of a lambda
+pub body-stands : {s : List ℕ} {a t : ℕ} {e : Exp} → TermAt s a (lam t e) → TermAt s (a + 2) e
+unfolding bytes size
+body-stands {s} {a} {t} {e} h =
+    let rest = drop (a + (2 + size e)) s in
+    let p : drop a s ≡ (1 ∷ t ∷ []) ++ (bytes e ++ rest) = h .stands in
+    let n : a + 2 + size e ≡ a + (2 + size e) = omega arith in
+    record {
+      inside = omega (arith, h .inside, ap length p, length-drop a s);
+      stands = sym (drop-drop 2 a s) ∙ ap (drop 2) p ∙ ap (λ k. bytes e ++ drop k s) (sym n);
+      fits = fits-lam (h .fits) .1;
+    }
+
+-- the components before a step
+pub table-start : {s : List ℕ} {x : ℕ} {m : Meeting} {F : Context} {f : Exp} {w : Value f} {v : Exp} → Meets s x m F w v → Table (config-of s) (names s) (encoded-at s)
+unfolding encoded-all
+table-start {s} M = record { is = written-back s (M .in-bytes) (M .stands) }
+
+module _ {s : List ℕ} {x : ℕ} {m : Meeting} {F : Context} {f : Exp} {w : Value f} {v : Exp} (M : Meets s x m F w v) (rule name from to future : ℕ) where
+  abbrev move : Move
+  move = move-of rule x m name from to future
+
+  -- the argument
+  pub argument-is : argument-bytes s move ≡ bytes v
+  unfolding move-of
+  argument-is = between-term (m .end) (M .placed .argument) (M .placed .ends)
+
+  -- the thread's expression after a step, whatever came in place of the application
+  pub expression-is : (r : Exp) → redex-after s move ≡ bytes r → expression-after s move ≡ bytes (plug F r)
+  unfolding move-of expression-after between
+  expression-is r e =
+      let n : offset-at s x + length-at s x ≡ offset-at s x + size (plug F (app f v)) = ap (λ k. offset-at s x + k) (M .long) in
+      let a : take (offset-at s x + length-at s x - m .end) (drop (m .end) s) ≡ back F = ap (λ k. take (k - m .end) (drop (m .end) s)) n ∙ M .placed .after in
+      ap₂ (λ (p q : List ℕ). p ++ q) (ap₂ (λ (p q : List ℕ). p ++ q) (M .placed .before) e) a ∙ append-assoc (front F) (bytes r) (back F) ∙ sym (plug-bytes F r)
+
+  -- the components after a step are those of a configuration
+  pub components-are : (r : Exp) → redex-after s move ≡ bytes r → (C : Config) (n : ℕ) (g : ℕ → Encoded) → Table C n g → n ≡ names-after s move
+      → ((k : ℕ) → g k ≡ cond (eqb k x) (encode (thread-of (plug F r))) (other-after s move k)) → components-after s move ≡ map encode C
+  unfolding move-of components-after after encode
+  components-are r e C n g t k h =
+      let p = expression-is r e in
+      sym (tabulate-same (names-after s move) g (after s move) (λ i l. h i ∙ ap (λ b. cond (eqb i x) (thread-holding b) (other-after s move i)) (sym p)))
+      ∙ ap (λ j. tabulate j g) (sym k)
+      ∙ sym (t .is)

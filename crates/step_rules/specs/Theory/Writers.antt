@@ -1,0 +1,70 @@
+-- What a writer needs, of a move at a meeting.
+use mathlib.Core.Path.{_∙_, _≡_, ap, sym}
+use mathlib.Core.List.{List}
+use Prim.Native.Nat.{ℕ, _+_, _≤_, _<_}
+use native.Mathlib.Omega.{arith}
+use lib.ListN.{length}
+use Rattle.calculus.specs.Syntax.{Const, unit, num, op, Exp, var, name, const, lam, app, Value, at}
+use Rattle.calculus.specs.Reduction.{Context, plug}
+use Rattle.calculus.specs.Image.{const-size, nodes, nodes-all, size, sum-in}
+use Rattle.calculus.specs.Limits.{max-nodes}
+use Rattle.term.specs.Expressions.{TermAt}
+use Rattle.term.proofs.Expressions.{found-at}
+use Rattle.image_layout.specs.Slice.{names}
+use Rattle.image.specs.Configuration.{config-of}
+use Rattle.term_redex.specs.declared.Meeting.{Meeting}
+use Rattle.term_redex.proofs.Contexts.{plug-nodes}
+use Rattle.step_rules.specs.Stepped.{Counted, Movable}
+use Rattle.step_rules.specs.Meets.{move-of, Meets}
+use Rattle.step_rules.specs.Theory.Reading.{rules, below, thread-stands}
+use Rattle.step_rules.specs.Theory.Changes.{nodes-part}
+
+pub size-positive : (e : Exp) → 1 ≤ size e
+unfolding size const-size
+size-positive (var i) = omega arith
+size-positive (name k) = omega arith
+size-positive (const c) = go c
+  where
+    go : (c : Const) → 1 ≤ const-size c
+    go unit = omega arith
+    go (num n) = omega arith
+    go (op o t) = omega arith
+size-positive (lam t e) = omega arith
+size-positive (app f a) = omega arith
+
+pub counted : {s : List ℕ} {a : ℕ} {e : Exp} → TermAt s a e → nodes e ≤ max-nodes → Counted s a
+counted {s} {a} {e} t n = let p = found-at t in record { good = p .good; few = omega (arith, ap nodes (p .term)) }
+
+module _ {s : List ℕ} {x : ℕ} {m : Meeting} {F : Context} {f : Exp} {w : Value f} {v : Exp} (M : Meets s x m F w v) where
+  pub thread-below : x < names s
+  thread-below = below s (M .in-bytes) (M .stands) x (M .thread)
+
+  pub few-all : nodes-all (config-of s) ≤ max-nodes
+  few-all = rules s (M .in-bytes) (M .stands) .limits .few-nodes
+
+  pub few : nodes (app f v) ≤ max-nodes
+  unfolding sum-in
+  few = omega (arith, nodes-part (config-of s) x (M .thread), plug-nodes F (app f v), few-all)
+
+  pub movable : (rule named from to future : ℕ) → named < names s → future < names s → from ≤ to → to ≤ length s
+      → (rule ≡ 1 → Counted s (m .at + 3)) → (rule ≡ 3 → Counted s from) → Movable s (move-of rule x m named from to future)
+  unfolding move-of nodes
+  movable rule named from to future nb fb copied inside body value =
+      let p = M .placed in
+      let q = thread-stands s (M .in-bytes) (M .stands) x (plug F (app f v)) (M .thread) in
+      record {
+        begins = omega (arith, p .begins);
+        second = omega (arith, p .second, size-positive f);
+        third = omega (arith, p .ends);
+        ends = omega (arith, p .last, M .long);
+        inside = q .inside;
+        copied = copied;
+        copied-inside = inside;
+        thread-below = thread-below;
+        name-below = nb;
+        future-below = fb;
+        argument = counted (p .argument) (omega (arith, few));
+        argument-ends = p .ends ∙ sym (found-at (p .argument) .ends);
+        body = body;
+        value = value;
+      }

@@ -1,0 +1,39 @@
+-- Document 01, "A step", for every slice, thread number and out buffer: the image is read as a configuration, the calculus makes the step, and the outcome is
+-- written.
+use mathlib.Core.Bool.{cond}
+use mathlib.Core.List.{List, _++_}
+use Prim.Native.Nat.{ℕ}
+use lib.Dec.{ltb}
+use lib.ListN.{drop, length}
+use Rattle.calculus.specs.Step.{step-of}
+use Rattle.calculus.specs.Limits.{max-image-length}
+use Rattle.calculus.specs.Run.{Reply, moved, waits, finished, refuses, reply-of}
+use Rattle.image.specs.Configuration.{image-of, config-of}
+use Rattle.image.specs.Stands.{image-stands}
+use Rattle.step_spec.specs.declared.Outcome.{Outcome}
+use Rattle.step_spec.specs.declared.Outcome.the-variants.{Rule, Done, Waiting, Refused}
+
+-- document 01, "loading and stepping try 12 first", then 13, then 14 to 17 as the calculus has them; `room` is the length of the out buffer
+unfoldable pub step-reply : List ℕ → ℕ → ℕ → Reply
+step-reply s x room = cond (ltb room max-image-length) (refuses 12) (cond (image-stands s) (reply-of (step-of (config-of s) x)) (refuses 13))
+
+-- what is answered: "A step answers with its rule and the new image's length"
+unfoldable pub answered : Reply → Outcome
+answered (moved rule C′) = Rule rule (length (image-of C′))
+answered (waits y) = Waiting y
+answered finished = Done
+answered (refuses number) = Refused number
+
+-- what the out buffer holds then: "the image in its first bytes and is unchanged beyond"; "Nothing is written on done or waiting", nor on a refusal
+unfoldable pub written : Reply → List ℕ → List ℕ
+written (moved rule C′) out = image-of C′ ++ drop (length (image-of C′)) out
+written (waits y) out = out
+written finished out = out
+written (refuses number) out = out
+
+-- a step of thread x of the image s with the out buffer `out`
+unfoldable pub outcome-of : List ℕ → ℕ → List ℕ → Outcome
+outcome-of s x out = answered (step-reply s x (length out))
+
+unfoldable pub out-after : List ℕ → ℕ → List ℕ → List ℕ
+out-after s x out = written (step-reply s x (length out)) out

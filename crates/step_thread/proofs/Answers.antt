@@ -1,0 +1,155 @@
+-- What a step answers and leaves, by what leads to each answer.
+use mathlib.Core.Path.{_∙_, _≡_, ap, refl, subst, sym}
+use mathlib.Core.Logic.{inl, inr}
+use mathlib.Core.Bool.{Bool, _&&_, false, false≢true, true}
+use mathlib.Core.Option.{some}
+use mathlib.Core.List.{List, [], _∷_}
+use Prim.Native.Nat.{_<_, _≤_, ℕ}
+use native.Mathlib.Omega.{arith}
+use lib.Dec.{eqb}
+use lib.ListN.{length}
+use denote.Enum.Declared.{tagOf}
+use types.Run.{OneOf}
+use Rattle.step_decide.proofs.Decision.{the-type}
+use Rattle.calculus.specs.Bytes.{Bytes}
+use Rattle.calculus.specs.Syntax.{Exp, Config, at, thread-of}
+use Rattle.calculus.specs.Reduction.{Rule, BETA, THREAD-NEW, FUTURE-DEREF, HANDLE-NEW, HANDLE-BIND, CELL-NEW, CELL-EXCH, number}
+use Rattle.calculus.specs.Step.{done, no-thread, place, step-of}
+use Rattle.calculus.specs.Limits.{max-image-length}
+use Rattle.calculus.specs.Image.{nodes-all}
+use Rattle.calculus.specs.Run.{refuses, reply-of}
+use Rattle.calculus.specs.Theory.Tests.{and-parts, and-true, eqb-complete, eqb-sound, false-of, ltb-complete, ltb-not, ltb-sound, of-true}
+use Rattle.calculus.specs.Theory.Step.{no-thread-iff}
+use Rattle.term.specs.Expressions.{term-at}
+use Rattle.buffer.specs.Written.{Wrote, beyond}
+use Rattle.image_layout.specs.Kinds.{thread-kind}
+use Rattle.image_layout.specs.Slice.{kind-at, names, offset-at}
+use Rattle.image.specs.Configuration.{config-of, image-of}
+use Rattle.image.specs.Stands.{image-stands}
+use Rattle.image.specs.Theory.Lengths.{stands-length, within-length}
+use Rattle.term_redex.specs.declared.Place.the-variants.{Done as SearchDone, Meet}
+use Rattle.step_rules.specs.declared.Move.{Move}
+use Rattle.step_rules.specs.Moves.{image-after}
+use Rattle.step_rules.specs.Stepped.{Stepped}
+use Rattle.step_reduct.specs.CanWrite.{CanWrite}
+use Rattle.step_room.specs.Room.{has-room, room-is, room-within}
+use Rattle.step_decide.specs.declared.Decision.{Decision}
+use Rattle.step_decide.specs.declared.Decision.the-variants.{Goes, Waits, Refuses}
+use Rattle.step_decide.specs.Decided.{Decided, goes, refuses-used, refuses-wrong, waits}
+use Rattle.image_check.specs.Theory.Standing.{thread-kind-is, thread-there}
+use Rattle.image_check.specs.Theory.Names.{config-parts}
+use Rattle.image_check.specs.Theory.Whole.{whole-sound}
+use Rattle.step_spec.specs.declared.Outcome.{Outcome}
+use Rattle.step_spec.specs.declared.Outcome.the-variants.{Done, Refused, Rule as RuleMoves}
+use Rattle.step_spec.specs.Stepping.{answered, out-after, outcome-of, step-reply, written}
+use Rattle.step_thread.specs.Stages.{is-thread, stays}
+
+-- the answer to a step of thread x, and what is left in the out buffer
+abbrev pub Answers : List ℕ → ℕ → List ℕ → Outcome → List ℕ → Type 0
+Answers s x out r out′ = (r ≡ answered (reply-of (step-of (config-of s) x))) × (out′ ≡ written (reply-of (step-of (config-of s) x)) out)
+
+module _ (s : List ℕ) (x : ℕ) (out : List ℕ) where
+  pub by-no-thread : step-of (config-of s) x ≡ no-thread → Answers s x out (Refused 14) out
+  unfolding answered reply-of written
+  by-no-thread e = (rw e refl, rw e refl)
+
+  pub by-done : step-of (config-of s) x ≡ done → Answers s x out Done out
+  unfolding answered reply-of written
+  by-done e = (rw e refl, rw e refl)
+
+  pub by-decision : {d : Decision} → Decided s x d → ((step : Move) → ¬ (d ≡ Goes step)) → Answers s x out (stays d) out
+  unfolding answered reply-of written stays
+  by-decision (goes {move = m} S) n = absurd (n m refl)
+  by-decision (waits e) n = (rw e refl, rw e refl)
+  by-decision (refuses-used e) n = (rw e refl, rw e refl)
+  by-decision (refuses-wrong e) n = (rw e refl, rw e refl)
+
+  module _ {step : Move} (S : Stepped s x step) where
+    pub by-no-room : has-room s (nodes-all (config-of s)) step ≡ false → Answers s x out (Refused 15) out
+    unfolding answered reply-of written
+    by-no-room h = let e = S .steps in let l = sym (room-is S) ∙ h in (rw (e, l) refl, rw (e, l) refl)
+
+    pub by-rule : has-room s (nodes-all (config-of s)) step ≡ true → max-image-length ≤ length out →
+        (out′ : List ℕ) (n : ℕ) → Wrote out 0 (image-after s step) out′ n → Answers s x out (RuleMoves (step .rule) n) out′
+    unfolding answered reply-of written
+    by-rule h long out′ n w =
+        let e = S .steps in
+        let l = sym (room-is S) ∙ h in
+        let v : Wrote out 0 (image-of (S .outcome)) out′ n = rw (S .written) at w in
+        let size : n ≡ length (image-of (S .outcome)) = omega (arith, v .ends) in
+        (rw (e, l, S .numbered, size) refl, rw (e, l) (beyond v (omega (arith, within-length (S .outcome) (room-within S h)))))
+
+-- refusal 14
+module _ (s : List ℕ) (b : Bytes s) (stands : image-stands s ≡ true) (x : ℕ) where
+  pub no-thread-there : is-thread s x ≡ false → step-of (config-of s) x ≡ no-thread
+  unfolding is-thread
+  no-thread-there f = no-thread-iff (config-of s) x .1 λ e h.
+      let t : (is-thread s x) ≡ true =
+      and-true (ltb-complete x (names s) (config-parts s x h .0)) (eqb-complete (kind-at s x) thread-kind (thread-kind-is s b stands x h)) in
+      false≢true (sym f ∙ t)
+
+  pub thread-is-there : is-thread s x ≡ true → at (config-of s) x ≡ some (thread-of (term-at s (offset-at s x)))
+  unfolding is-thread
+  thread-is-there t =
+      let (p, q) = and-parts _ _ t in
+      thread-there s b stands x (ltb-sound x (names s) p) (eqb-sound (kind-at s x) thread-kind q)
+
+-- a rule's number
+rule-between : (r : Rule) → (1 ≤ number r) × (number r ≤ 7)
+rule-between BETA = (omega arith, omega arith)
+rule-between THREAD-NEW = (omega arith, omega arith)
+rule-between FUTURE-DEREF = (omega arith, omega arith)
+rule-between HANDLE-NEW = (omega arith, omega arith)
+rule-between HANDLE-BIND = (omega arith, omega arith)
+rule-between CELL-NEW = (omega arith, omega arith)
+rule-between CELL-EXCH = (omega arith, omega arith)
+
+-- what the writer asks
+pub can-write : (s : List ℕ) → Bytes s → image-stands s ≡ true → {x : ℕ} {step : Move} (S : Stepped s x step) →
+    has-room s (nodes-all (config-of s)) step ≡ true → CanWrite s step
+can-write s b stands S h =
+    let (low, high) = rule-between (S .by) in
+    record {
+      movable = S .movable;
+      stands = whole-sound s stands .heads;
+      short = omega (arith, stands-length s b stands);
+      first = omega (arith, S .numbered);
+      last = omega (arith, S .numbered);
+      few = omega (arith, S .named, room-within S h .few-names);
+    }
+
+pub after-fits : {s : List ℕ} {x : ℕ} {step : Move} (S : Stepped s x step) → has-room s (nodes-all (config-of s)) step ≡ true →
+    length (image-after s step) ≤ max-image-length
+after-fits S h = rw (S .written) (within-length (S .outcome) (room-within S h))
+
+-- the whole step
+module _ (s : List ℕ) (x : ℕ) (out : List ℕ) where
+  pub too-short : length out < max-image-length → (Refused 12 ≡ outcome-of s x out) × (out ≡ out-after s x out)
+  unfolding outcome-of out-after step-reply answered written
+  too-short l = (rw (ltb-complete (length out) max-image-length l) refl, rw (ltb-complete (length out) max-image-length l) refl)
+
+  module _ (long : max-image-length ≤ length out) where
+    pub broken : image-stands s ≡ false → (Refused 13 ≡ outcome-of s x out) × (out ≡ out-after s x out)
+    unfolding outcome-of out-after step-reply answered written
+    broken f = (rw (ltb-not (length out) max-image-length long, f) refl, rw (ltb-not (length out) max-image-length long, f) refl)
+
+    pub checked : image-stands s ≡ true → {r : Outcome} {out′ : List ℕ} → Answers s x out r out′ → (r ≡ outcome-of s x out) × (out′ ≡ out-after s x out)
+    unfolding outcome-of out-after step-reply
+    checked t (p, q) = (rw (ltb-not (length out) max-image-length long, t) p, rw (ltb-not (length out) max-image-length long, t) q)
+
+-- whether a number is a thread, as it is found out
+module _ (s : List ℕ) (x : ℕ) where
+  pub no-such : names s ≤ x → false ≡ is-thread s x
+  unfolding is-thread
+  no-such l = rw (ltb-not x (names s) l) refl
+
+  pub by-kind : x < names s → (kind : ℕ) → kind ≡ kind-at s x → eqb kind thread-kind ≡ is-thread s x
+  unfolding is-thread
+  by-kind l kind e = rw (ltb-complete x (names s) l, e) refl
+
+-- a decision by which a thread goes, and others
+pub stepped : {s : List ℕ} {x : ℕ} {step : Move} → Decided s x (Goes step) → Stepped s x step
+stepped (goes S) = S
+
+pub not-goes : {d : Decision} (step : Move) → d ≡ Goes step → OneOf (1 ∷ 2 ∷ []) (tagOf the-type d) → ⊥
+not-goes step e k = elim (subst (λ (d : Decision). OneOf (1 ∷ 2 ∷ []) (tagOf the-type d)) e k) [ inl p ↦ omega arith | inr q ↦ omega arith ]

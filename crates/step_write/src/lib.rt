@@ -1,0 +1,232 @@
+// Document 01, "A step": writes the image after a step by a rule. Each name has its head and its expression by what the step makes of it.
+use image_layout::Image;
+use image_layout::companion_at;
+use image_layout::expression_at;
+use image_layout::kind_at;
+use image_layout::length_at;
+use image_layout::names_of;
+use image_layout::put_head;
+use step_rules::Move;
+use step_reduct::put_argument;
+use step_reduct::put_name;
+use step_reduct::put_thread_after;
+use step_reduct::thread_size;
+use term::Node;
+use buffer::put_byte;
+use buffer::put_bytes;
+use buffer::put_u16;
+ghost use mathlib.Core.Path.{_≡_};
+ghost use mathlib.Core.Bool.{cond};
+ghost use mathlib.Core.List.{_∷_, _++_};
+ghost use Prim.Native.Nat.{_+_, _<_, _≤_};
+ghost use lib.ListN.{length};
+ghost use Rattle.calculus.specs.Bytes.{two-byte-values};
+ghost use Rattle.calculus.specs.Limits.{byte-values};
+ghost use Rattle.calculus.specs.Lists.{tabulate};
+ghost use Rattle.buffer.specs.Written.{Wrote};
+ghost use Rattle.image_layout.specs.Encoded.{heads, head-at, expressions};
+ghost use Rattle.image_layout.specs.Slice.{names};
+ghost use Rattle.image_layout.specs.Theory.Turns.{Room};
+ghost use Rattle.step_rules.specs.Moves.{argument-bytes, name-bytes, after, news, names-after, image-after};
+ghost use Rattle.step_reduct.specs.CanWrite.{CanWrite};
+ghost use Rattle.step_write.specs.declared.Change.the-variants.{Kept};
+ghost use Rattle.step_write.specs.Changes.{change-of};
+
+// What a step makes of a name: it stays, it is the thread that goes, a new thread (rule 2), a new future and its handle (rule 4), the handle that is used and
+// the future that is bound (rule 5), a cell that holds the argument (rules 6 and 7).
+pub enum Change {
+    Kept,
+    Goes,
+    Starts,
+    Awaited,
+    Opens,
+    Used,
+    Bound,
+    Holds,
+}
+
+// What the head of a name says, but for where its expression stands.
+pub struct Head {
+    pub kind: u8,
+    pub companion: u8,
+    pub size: usize,
+}
+
+// This change, or none.
+fn when(test: bool, change: Change) -> Change
+    ensures { λ r. ⌜ r ≡ cond test change Kept ⌝ }
+{
+    if test {
+        return change;
+    }
+    Change::Kept
+}
+
+// What a step makes of name k, where there are so many names before it.
+fn change_of(step: Move, names: usize, k: usize) -> Change
+    requires { ⌜ names < two-byte-values ⌝ }
+    ensures { λ r. ⌜ r ≡ change-of step names k ⌝ }
+{
+    if k == step.thread {
+        return Change::Goes;
+    }
+    let rule = step.rule;
+    if rule == 2 {
+        return when(k == names, Change::Starts);
+    }
+    if rule == 4 {
+        if k == names {
+            return Change::Awaited;
+        }
+        return when(k == names + 1, Change::Opens);
+    }
+    if rule == 5 {
+        if k == step.name {
+            return Change::Used;
+        }
+        return when(k == step.future, Change::Bound);
+    }
+    if rule == 6 {
+        return when(k == names, Change::Holds);
+    }
+    if rule == 7 {
+        return when(k == step.name, Change::Holds);
+    }
+    Change::Kept
+}
+
+// How many names come with a rule.
+fn new_names(rule: u8) -> usize
+    ensures { λ r. ⌜ r ≡ news rule ⌝ }
+{
+    if rule == 2 {
+        return 1;
+    }
+    if rule == 4 {
+        return 2;
+    }
+    if rule == 6 {
+        return 1;
+    }
+    0
+}
+
+// Writes the new thread of rule 2: the argument applied to the thread's own name.
+fn put_started(out: &mut [u8], at: usize, image: &[u8], step: Move) -> usize
+    requires { ⌜ CanWrite (now image) step × (names (now image) < byte-values) ⌝ }
+    requires { ⌜ at + length (2 ∷ (argument-bytes (now image) step ++ name-bytes (names (now image)))) ≤ length (now out) ⌝ }
+    ensures { λ r. ⌜ Wrote (now (out .entry)) at (2 ∷ (argument-bytes (now (image .entry)) step ++ name-bytes (names (now (image .entry))))) (now (out .exit)) r ⌝ }
+{
+    let function = put_byte(out, at, Node::APPLICATION);
+    let name = put_argument(out, function, image, step);
+    put_name(out, name, names_of(image))
+}
+
+// Writes the expression of name k; futures and handles have none.
+fn put_expression_after(out: &mut [u8], at: usize, image: &[u8], step: Move, k: usize) -> usize
+    requires { ⌜ CanWrite (now image) step × (k < names-after (now image) step) ⌝ }
+    requires { ⌜ at + length (after (now image) step k .expression) ≤ length (now out) ⌝ }
+    ensures { λ r. ⌜ Wrote (now (out .entry)) at (after (now (image .entry)) step k .expression) (now (out .exit)) r ⌝ }
+{
+    let change = change_of(step, names_of(image), k);
+    match change {
+        Change::Kept => put_bytes(out, at, expression_at(image, k)),
+        Change::Goes => put_thread_after(out, at, image, step),
+        Change::Starts => put_started(out, at, image, step),
+        Change::Awaited => at,
+        Change::Opens => at,
+        Change::Used => at,
+        Change::Bound => put_argument(out, at, image, step),
+        Change::Holds => put_argument(out, at, image, step),
+    }
+}
+
+// The head of a name with no expression.
+fn bare(kind: u8, companion: u8) -> Head
+    ensures { λ r. ⌜ (r .kind ≡ kind) × ((r .companion ≡ companion) × (r .size ≡ 0)) ⌝ }
+{
+    Head {
+        kind: kind,
+        companion: companion,
+        size: 0,
+    }
+}
+
+// The head of a name with an expression of so many bytes.
+fn holding(kind: u8, size: usize) -> Head
+    ensures { λ r. ⌜ (r .kind ≡ kind) × ((r .companion ≡ 0) × (r .size ≡ size)) ⌝ }
+{
+    Head {
+        kind: kind,
+        companion: 0,
+        size: size,
+    }
+}
+
+// The head of name k.
+fn head_after(image: &[u8], step: Move, k: usize) -> Head
+    requires { ⌜ CanWrite (now image) step × (k < names-after (now image) step) ⌝ }
+    ensures { λ r. ⌜ (r .kind ≡ after (now (image .entry)) step k .kind) × ((r .companion ≡ after (now (image .entry)) step k .companion) × (r .size ≡ length (after (now (image .entry)) step k .expression))) ⌝ }
+{
+    let names = names_of(image);
+    let change = change_of(step, names, k);
+    match change {
+        Change::Kept => Head {
+            kind: kind_at(image, k),
+            companion: companion_at(image, k),
+            size: length_at(image, k),
+        },
+        Change::Goes => holding(Image::THREAD, thread_size(image, step)),
+        Change::Starts => holding(Image::THREAD, step.end - step.argument + 3),
+        Change::Awaited => bare(Image::FUTURE, 0),
+        Change::Opens => bare(Image::OPEN_HANDLE, names as u8),
+        Change::Used => bare(Image::USED_HANDLE, 0),
+        Change::Bound => holding(Image::THREAD, step.end - step.argument),
+        Change::Holds => holding(Image::CELL, step.end - step.argument),
+    }
+}
+
+// Writes the heads of so many names.
+fn put_heads(out: &mut [u8], at: usize, image: &[u8], step: Move, names: usize) -> usize
+    requires { ⌜ CanWrite (now image) step × ((names ≡ names-after (now image) step) × (at ≡ 2)) ⌝ }
+    requires { ⌜ Room (names-after (now image) step) (after (now image) step) (now out) ⌝ }
+    ensures { λ r. ⌜ Wrote (now (out .entry)) at (heads (head-at (names-after (now (image .entry)) step)) (tabulate (names-after (now (image .entry)) step) (after (now (image .entry)) step))) (now (out .exit)) r ⌝ }
+{
+    let mut next = at;
+    let mut offset = 2 + 6 * names;
+    let mut k = 0;
+    while k < names {
+        let head = head_after(image, step, k);
+        next = put_head(out, next, head.kind, head.companion, offset, head.size);
+        offset += head.size;
+        k += 1;
+    }
+    next
+}
+
+// Writes their expressions.
+fn put_expressions(out: &mut [u8], at: usize, image: &[u8], step: Move, names: usize) -> usize
+    requires { ⌜ CanWrite (now image) step × ((names ≡ names-after (now image) step) × (at ≡ head-at (names-after (now image) step))) ⌝ }
+    requires { ⌜ Room (names-after (now image) step) (after (now image) step) (now out) ⌝ }
+    ensures { λ r. ⌜ Wrote (now (out .entry)) at (expressions (tabulate (names-after (now (image .entry)) step) (after (now (image .entry)) step))) (now (out .exit)) r ⌝ }
+{
+    let mut next = at;
+    let mut k = 0;
+    while k < names {
+        next = put_expression_after(out, next, image, step, k);
+        k += 1;
+    }
+    next
+}
+
+// Writes the image after a step.
+pub fn put_image_after(image: &[u8], step: Move, out: &mut [u8]) -> usize
+    requires { ⌜ CanWrite (now image) step ⌝ }
+    requires { ⌜ (length (image-after (now image) step) ≤ length (now out)) × (length (image-after (now image) step) < two-byte-values) ⌝ }
+    ensures { λ r. ⌜ Wrote (now (out .entry)) 0 (image-after (now (image .entry)) step) (now (out .exit)) r ⌝ }
+{
+    let names = names_of(image) + new_names(step.rule);
+    let after_names = put_u16(out, 0, names);
+    let after_heads = put_heads(out, after_names, image, step, names);
+    put_expressions(out, after_heads, image, step, names)
+}

@@ -1,0 +1,74 @@
+-- Terms of document 01's bay cases, and damaged ones, as antt computes them.
+use mathlib.Core.Path.{_≡_, refl}
+use mathlib.Core.Bool.{Bool, _&&_, false, true}
+use mathlib.Core.List.{List, [], _∷_}
+use Prim.Native.Nat.{ℕ}
+use lib.Dec.{T}
+use Rattle.calculus.specs.Syntax.{unit, num, op, exch, handle, app, const, Exp, lam, name, var}
+use Rattle.term.specs.Numbers.{little-endian, value-of}
+use Rattle.term.specs.Forms.{form-of, forms}
+use Rattle.term.specs.Reader.{first-tree, head-of, one-term, read, read-term, tree-at}
+use Rattle.term.specs.Expressions.{bytes, const-bytes, exp-of, leaf-exp, leaves, op-tag, term-at}
+
+-- case B: exch applied to the setting and to 250
+abbrev term-B : Exp
+term-B = app (app (const (op exch 4)) (name 0)) (const (num 250))
+
+abbrev bytes-B : List ℕ
+bytes-B = 0x02 ∷ 0x02 ∷ 0x06 ∷ 0x04 ∷ 0x09 ∷ 0x00 ∷ 0x04 ∷ 0xFA ∷ 0x00 ∷ []
+
+case-B : bytes term-B ≡ bytes-B
+unfolding bytes const-bytes op-tag little-endian
+case-B = refl
+
+case-B-back : term-at bytes-B 0 ≡ term-B
+unfolding term-at tree-at first-tree read-term read head-of form-of forms value-of exp-of leaf-exp leaves
+case-B-back = refl
+
+-- case C: handle applied to a function that binds its future to itself
+abbrev term-C : Exp
+term-C = app (const (op handle 6)) (lam 5 (lam 4 (app (var 0) (var 1))))
+
+abbrev bytes-C : List ℕ
+bytes-C = 0x02 ∷ 0x08 ∷ 0x06 ∷ 0x01 ∷ 0x05 ∷ 0x01 ∷ 0x04 ∷ 0x02 ∷ 0x00 ∷ 0x00 ∷ 0x00 ∷ 0x01 ∷ []
+
+case-C : bytes term-C ≡ bytes-C
+unfolding bytes const-bytes op-tag little-endian
+case-C = refl
+
+case-C-back : term-at bytes-C 0 ≡ term-C
+unfolding term-at tree-at first-tree read-term read head-of form-of forms value-of exp-of leaf-exp leaves
+case-C-back = refl
+
+-- cause 5: exactly one term, or not
+abbrev every-is : Bool → List (List ℕ) → Bool
+every-is answer [] = true
+every-is answer (l ∷ ls) = same answer (one-term (read-term l)) && every-is answer ls
+  where
+    same : Bool → Bool → Bool
+    same true b = b
+    same false true = false
+    same false false = true
+
+-- cases A, G, H, I
+abbrev terms : List (List ℕ)
+terms = (0x03 ∷ []) ∷ (0x02 ∷ 0x03 ∷ 0x03 ∷ []) ∷ (0x00 ∷ 0x00 ∷ []) ∷ (0x04 ∷ 0xE8 ∷ 0x03 ∷ []) ∷ []
+
+-- nothing, an unknown tag, a cut term, a cut head, bytes over, and case I's num above 1000
+abbrev damaged : List (List ℕ)
+damaged =
+    []
+    ∷ (0x0A ∷ [])
+    ∷ (0x02 ∷ 0x03 ∷ [])
+    ∷ (0x01 ∷ [])
+    ∷ (0x03 ∷ 0x03 ∷ [])
+    ∷ (0x04 ∷ 0xE9 ∷ 0x03 ∷ [])
+    ∷ []
+
+are-terms : T (every-is true terms)
+unfolding one-term read-term read head-of form-of forms value-of
+are-terms = tt
+
+are-damaged : T (every-is false damaged)
+unfolding one-term read-term read head-of form-of forms value-of
+are-damaged = tt

@@ -1,0 +1,134 @@
+-- Leaves by their tag, and the tags of the nodes that have subterms. What is said of every tag is one test or one row of proofs, tag by tag.
+use mathlib.Core.Path.{_≡_, ap, refl, subst, sym, _∙_}
+use mathlib.Core.Bool.{Bool, or-false, true}
+use mathlib.Core.List.{List, [], _∷_}
+use Prim.Native.Nat.{_<_, _≤_, suc, zero, ℕ}
+use native.Mathlib.Omega.{arith}
+use borrow.Author.Tests.{leb-true}
+use lib.Dec.{T, eqb, eqb→eq, leb}
+use lib.ListN.{getD, length}
+use Rattle.calculus.specs.Syntax.{Const, unit, num, op, cell, exch, thread, handle, const, name, each-const, each-name, each-var, Exp}
+use Rattle.calculus.specs.Names.{count}
+use Rattle.calculus.specs.Limits.{byte-values, max-num}
+use Rattle.calculus.specs.Image.{nodes, WritableConst}
+use Rattle.calculus.specs.Theory.Tests.{clash}
+use Rattle.calculus.specs.Theory.Expressions.{count-other}
+use Rattle.term.specs.Forms.{form-of, forms, in-range, num-tag, subterms-of, tags}
+use Rattle.term.specs.Tree.{InTable, leaf}
+use Rattle.term.specs.Expressions.{const-tree, Fits, leaf-exp, leaves, nesting, op-tag, tree-of}
+use Rattle.term.proofs.Table.{below, end-of-row, every, every-at, Row, _∣_}
+
+-- a rule of leaves, by one test
+leaf-rule : (test : Exp → Bool) (tag arg : ℕ) → T (every test (leaves arg)) → T (test (const unit)) → T (test (leaf-exp tag arg))
+unfolding leaf-exp
+leaf-rule test tag arg all other = every-at test (leaves arg) (const unit) all other tag
+
+pub leaf-nodes : (tag arg : ℕ) → nodes (leaf-exp tag arg) ≡ 1
+unfolding nodes leaves
+leaf-nodes tag arg = eqb→eq (nodes (leaf-exp tag arg)) 1 (leaf-rule (λ e. eqb (nodes e) 1) tag arg tt tt)
+
+pub leaf-nesting : (tag arg : ℕ) → nesting (leaf-exp tag arg) ≡ 1
+unfolding nesting leaves
+leaf-nesting tag arg = eqb→eq (nesting (leaf-exp tag arg)) 1 (leaf-rule (λ e. eqb (nesting e) 1) tag arg tt tt)
+
+-- what is no tag
+past-end : {A : Type 0} (xs : List A) (d : A) (k : ℕ) → length xs ≤ k → getD xs k d ≡ d
+past-end [] d k h = refl
+past-end (x ∷ xs) d zero h = absurd (omega arith)
+past-end (x ∷ xs) d (suc k) h = past-end xs d k (omega arith)
+
+pub leaf-unknown : (tag arg : ℕ) → tags ≤ tag → leaf-exp tag arg ≡ const unit
+unfolding leaf-exp leaves
+leaf-unknown tag arg h = past-end (leaves arg) (const unit) tag h
+
+-- a node with no subterm is the leaf that is written so
+pub leaf-tree : (tag arg : ℕ) → InTable tag arg 0 → tree-of (leaf-exp tag arg) ≡ leaf tag arg
+unfolding leaf-exp leaves tree-of const-tree op-tag form-of forms
+leaf-tree tag arg w = below row tag (w .known) w
+  where
+    not-one : InTable 1 arg 0 → ⊥
+    not-one w = clash (sym (w .shape))
+
+    not-two : InTable 2 arg 0 → ⊥
+    not-two w = omega (arith, w .shape)
+
+    unit-operand : InTable 3 arg 0 → arg ≡ 0
+    unit-operand w = omega (arith, w .fits)
+
+    row : Row (λ tag. InTable tag arg 0 → tree-of (leaf-exp tag arg) ≡ leaf tag arg) 0 tags
+    row =
+        (λ w. refl) ∣
+        (λ w. absurd (not-one w)) ∣
+        (λ w. absurd (not-two w)) ∣
+        (λ w. ap (leaf 3) (sym (unit-operand w))) ∣
+        (λ w. refl) ∣
+        (λ w. refl) ∣
+        (λ w. refl) ∣
+        (λ w. refl) ∣
+        (λ w. refl) ∣
+        (λ w. refl) ∣
+        end-of-row
+
+pub const-fits : {c : Const} → WritableConst c → Fits (const c)
+unfolding count
+const-fits w = record { writable = each-const w; names = λ k le. refl }
+
+name-fits : (k : ℕ) → k < byte-values → Fits (name k)
+name-fits k h = record { writable = each-name; names = λ j le. count-other j k (omega arith) }
+
+small-num : (n : ℕ) → in-range num-tag n ≡ true → n ≤ max-num
+small-num n e = leb-true n max-num (sym (or-false (leb n max-num)) ∙ e)
+
+pub leaf-fits : (tag arg : ℕ) → InTable tag arg 0 → Fits (leaf-exp tag arg)
+unfolding leaf-exp leaves form-of forms count
+leaf-fits tag arg w = below row tag (w .known) w
+  where
+    row : Row (λ tag. InTable tag arg 0 → Fits (leaf-exp tag arg)) 0 tags
+    row =
+        (λ w. record { writable = each-var (w .fits); names = λ k le. refl }) ∣
+        (λ w. const-fits {c = unit} tt) ∣
+        (λ w. const-fits {c = unit} tt) ∣
+        (λ w. const-fits {c = unit} tt) ∣
+        (λ w. const-fits {c = num arg} (small-num arg (w .low))) ∣
+        (λ w. const-fits {c = op cell arg} (w .fits)) ∣
+        (λ w. const-fits {c = op exch arg} (w .fits)) ∣
+        (λ w. const-fits {c = op thread arg} (w .fits)) ∣
+        (λ w. const-fits {c = op handle arg} (w .fits)) ∣
+        (λ w. name-fits arg (w .fits)) ∣
+        end-of-row
+
+-- the node with one subterm is the lambda
+lambda-tag : (tag : ℕ) → tag < tags → subterms-of tag ≡ 1 → tag ≡ 1
+unfolding form-of forms
+lambda-tag = below row
+  where
+    none : (tag : ℕ) → _≡_ {A = ℕ} 0 1 → tag ≡ 1
+    none tag e = absurd (clash e)
+
+    row : Row (λ tag. subterms-of tag ≡ 1 → tag ≡ 1) 0 tags
+    row = (none 0) ∣ (λ e. refl) ∣ (λ e. e) ∣ (none 3) ∣ (none 4) ∣ (none 5) ∣ (none 6) ∣ (none 7) ∣ (none 8) ∣ (none 9) ∣ end-of-row
+
+pub is-lambda : (tag arg : ℕ) → InTable tag arg 1 → (tag ≡ 1) × (arg < byte-values)
+unfolding form-of forms
+is-lambda tag arg w =
+    let e = lambda-tag tag (w .known) (w .shape) in
+    let v : InTable 1 arg 1 = subst (λ x. InTable x arg 1) e w in
+    (e, v .fits)
+
+-- and the node with two is the application
+application-tag : (tag : ℕ) → tag < tags → subterms-of tag ≡ 2 → tag ≡ 2
+unfolding form-of forms
+application-tag = below row
+  where
+    none : (tag : ℕ) → _≡_ {A = ℕ} 0 2 → tag ≡ 2
+    none tag e = absurd (omega arith)
+
+    row : Row (λ tag. subterms-of tag ≡ 2 → tag ≡ 2) 0 tags
+    row = (none 0) ∣ (λ e. e) ∣ (λ e. refl) ∣ (none 3) ∣ (none 4) ∣ (none 5) ∣ (none 6) ∣ (none 7) ∣ (none 8) ∣ (none 9) ∣ end-of-row
+
+pub is-application : (tag arg : ℕ) → InTable tag arg 2 → (tag ≡ 2) × (arg ≡ 0)
+unfolding form-of forms
+is-application tag arg w =
+    let e = application-tag tag (w .known) (w .shape) in
+    let v : InTable 2 arg 2 = subst (λ x. InTable x arg 2) e w in
+    (e, omega (arith, v .fits))

@@ -1,0 +1,36 @@
+-- The numbers of a term: nodes, nesting, bytes.
+use mathlib.Core.Path.{_≡_, refl, sym}
+use native.Mathlib.Omega.{arith}
+use lib.ListN.{length, length-append}
+use Rattle.calculus.specs.Syntax.{Const, unit, num, op, Exp, var, name, const, lam, app}
+use Rattle.calculus.specs.Image.{const-size, nodes, size}
+use Rattle.term.specs.Numbers.{little-endian}
+use Rattle.term.specs.Tree.{Tree, leaf, one, tree-depth, tree-nodes, two}
+use Rattle.term.specs.Expressions.{bytes, const-bytes, exp-of, nesting}
+use Rattle.term.proofs.Leaves.{leaf-nesting, leaf-nodes}
+
+pub nodes-exp : (t : Tree) → tree-nodes t ≡ nodes (exp-of t)
+unfolding tree-nodes nodes exp-of
+nodes-exp (leaf tag arg) = sym (leaf-nodes tag arg)
+nodes-exp (one tag arg t) = omega (arith, nodes-exp t)
+nodes-exp (two tag arg t u) = omega (arith, nodes-exp t, nodes-exp u)
+
+pub nesting-exp : (t : Tree) → tree-depth t ≡ nesting (exp-of t)
+unfolding tree-depth nesting exp-of
+nesting-exp (leaf tag arg) = sym (leaf-nesting tag arg)
+nesting-exp (one tag arg t) = omega (arith, nesting-exp t)
+nesting-exp (two tag arg t u) = omega (arith, nesting-exp t, nesting-exp u)
+
+const-length : (c : Const) → length (const-bytes c) ≡ const-size c
+unfolding const-bytes const-size little-endian
+const-length unit = refl
+const-length (num n) = refl
+const-length (op o t) = refl
+
+pub length-bytes : (e : Exp) → length (bytes e) ≡ size e
+unfolding bytes size
+length-bytes (var i) = refl
+length-bytes (name k) = refl
+length-bytes (const c) = const-length c
+length-bytes (lam t e) = omega (arith, length-bytes e)
+length-bytes (app f a) = simp (length-append, length-bytes f, length-bytes a) (omega arith)

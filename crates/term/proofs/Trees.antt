@@ -1,0 +1,154 @@
+-- An expression is the tree that it is written as, and what fits is well-formed.
+use mathlib.Core.Path.{_≡_, ap, ap₂, refl, sym, _∙_}
+use mathlib.Core.Bool.{Bool, false, or-false, or-true, true}
+use mathlib.Core.List.{[], _++_, _∷_}
+use Prim.Native.Nat.{_%_, _+_, _<_, ℕ}
+use native.Mathlib.Omega.{arith}
+use borrow.Author.Tests.{le-leb, ltb-true, ltb-false}
+use lib.Dec.{leb, ltb}
+use lib.ListN.{length}
+use Rattle.calculus.specs.Syntax.{Const, unit, num, op, Exp, var, name, const, lam, app, Op, cell, exch, thread, handle, each-var, each-const, each-lam, each-app}
+use Rattle.calculus.specs.Names.{count}
+use Rattle.calculus.specs.Limits.{byte-values, max-num}
+use Rattle.calculus.specs.Image.{size, WritableConst}
+use Rattle.calculus.specs.Theory.Tests.{clash}
+use Rattle.calculus.specs.Theory.Expressions.{count-same}
+use Rattle.term.specs.Numbers.{little-endian}
+use Rattle.term.specs.Forms.{form-of, forms}
+use Rattle.term.specs.Tree.{InTable, Tree, leaf, one, tree-bytes, tree-size, two, WellFormed}
+use Rattle.term.specs.Expressions.{bytes, const-bytes, const-tree, exp-of, Fits, leaf-exp, leaves, op-tag, tree-of}
+use Rattle.term.proofs.Leaves.{is-application, is-lambda, leaf-fits, leaf-tree}
+use Rattle.term.proofs.Sizes.{length-bytes}
+use Rattle.term.proofs.Terms.{size-bytes}
+
+op-exp : (o : Op) (t : ℕ) → leaf-exp (op-tag o) t ≡ const (op o t)
+unfolding leaf-exp leaves op-tag
+op-exp cell t = refl
+op-exp exch t = refl
+op-exp thread t = refl
+op-exp handle t = refl
+
+const-exp : (c : Const) → exp-of (const-tree c) ≡ const c
+unfolding exp-of leaf-exp leaves const-tree
+const-exp unit = refl
+const-exp (num n) = refl
+const-exp (op o t) = op-exp o t
+
+pub exp-tree : (e : Exp) → exp-of (tree-of e) ≡ e
+unfolding exp-of leaf-exp leaves tree-of
+exp-tree (var i) = refl
+exp-tree (name k) = refl
+exp-tree (const c) = const-exp c
+exp-tree (lam t e) = ap (lam t) (exp-tree e)
+exp-tree (app f a) = ap₂ app (exp-tree f) (exp-tree a)
+
+pub tree-exp : (t : Tree) → WellFormed t → tree-of (exp-of t) ≡ t
+unfolding exp-of tree-of
+tree-exp (leaf tag arg) w = leaf-tree tag arg w
+tree-exp (one tag arg t) (w, v) = let (e, b) = is-lambda tag arg w in rw (tree-exp t v, e)
+tree-exp (two tag arg t u) (w, v, v′) = let (e, z) = is-application tag arg w in rw (tree-exp t v, tree-exp u v′, e, z)
+
+-- What fits, by its parts
+
+fits-var : {i : ℕ} → Fits (var i) → i < byte-values
+fits-var f = elim (f .writable) [ each-var h ↦ h ]
+
+fits-name : {k : ℕ} → Fits (name k) → k < byte-values
+fits-name {k} f = go (ltb k byte-values) refl
+  where
+    go : (b : Bool) → ltb k byte-values ≡ b → k < byte-values
+    go true e = ltb-true k byte-values e
+    go false e = absurd (clash (sym (f .names k (omega (arith, ltb-false k byte-values e))) ∙ count-same k))
+
+fits-const : {c : Const} → Fits (const c) → WritableConst c
+fits-const f = elim (f .writable) [ each-const h ↦ h ]
+
+pub fits-lam : {t : ℕ} {e : Exp} → Fits (lam t e) → (t < byte-values) × Fits e
+unfolding count
+fits-lam f = elim (f .writable) [ each-lam h w ↦ (h, record { writable = w; names = f .names }) ]
+
+pub fits-app : {f a : Exp} → Fits (app f a) → Fits f × Fits a
+unfolding count
+fits-app {f} {a} h = elim (h .writable) [
+  | each-app w v ↦ (
+    record { writable = w; names = λ k le. omega (arith, h .names k le) },
+    record { writable = v; names = λ k le. omega (arith, h .names k le) },
+  )
+]
+
+-- What fits is well-formed
+
+pub exp-fits : (t : Tree) → WellFormed t → Fits (exp-of t)
+unfolding exp-of count
+exp-fits (leaf tag arg) w = leaf-fits tag arg w
+exp-fits (one tag arg t) (w, v) =
+    let f = exp-fits t v in
+    record { writable = each-lam (is-lambda tag arg w .1) (f .writable); names = f .names }
+exp-fits (two tag arg t u) (w, v, v′) =
+    let f = exp-fits t v in
+    let g = exp-fits u v′ in
+    record { writable = each-app (f .writable) (g .writable); names = λ k le. omega (arith, f .names k le, g .names k le) }
+
+-- a node of the table that is no num has any operand that its bytes can say
+op-in-table : (o : Op) (t : ℕ) → t < byte-values → InTable (op-tag o) t 0
+unfolding op-tag form-of forms
+op-in-table cell t h = record { known = omega arith; shape = refl; fits = h; low = or-true (leb t max-num) }
+op-in-table exch t h = record { known = omega arith; shape = refl; fits = h; low = or-true (leb t max-num) }
+op-in-table thread t h = record { known = omega arith; shape = refl; fits = h; low = or-true (leb t max-num) }
+op-in-table handle t h = record { known = omega arith; shape = refl; fits = h; low = or-true (leb t max-num) }
+
+const-well-formed : (c : Const) → WritableConst c → WellFormed (const-tree c)
+unfolding const-tree form-of forms
+const-well-formed unit w = record { known = omega arith; shape = refl; fits = omega arith; low = refl }
+const-well-formed (num n) w = record { known = omega arith; shape = refl; fits = omega arith; low = or-false (leb n max-num) ∙ le-leb n max-num w }
+const-well-formed (op o t) w = op-in-table o t w
+
+pub tree-well-formed : (e : Exp) → Fits e → WellFormed (tree-of e)
+unfolding tree-of form-of forms
+tree-well-formed (var i) f = record { known = omega arith; shape = refl; fits = fits-var f; low = or-true (leb i max-num) }
+tree-well-formed (name k) f = record { known = omega arith; shape = refl; fits = fits-name f; low = or-true (leb k max-num) }
+tree-well-formed (const c) f = const-well-formed c (fits-const f)
+tree-well-formed (lam t e) f =
+    let (h, g) = fits-lam f in
+    (record { known = omega arith; shape = refl; fits = h; low = or-true (leb t max-num) }, tree-well-formed e g)
+tree-well-formed (app f a) h =
+    let (g, g′) = fits-app h in
+    (record { known = omega arith; shape = refl; fits = omega arith; low = refl }, tree-well-formed f g, tree-well-formed a g′)
+
+-- The bytes of an expression are those of its tree
+
+-- one byte
+byte : (n : ℕ) → n < byte-values → n ∷ [] ≡ little-endian 1 n
+unfolding little-endian
+byte n h = let e : n ≡ n % 256 = omega arith in ap (λ x. x ∷ []) e
+
+op-bytes : (o : Op) (t : ℕ) → t < byte-values → op-tag o ∷ t ∷ [] ≡ tree-bytes (leaf (op-tag o) t)
+unfolding tree-bytes op-tag form-of forms
+op-bytes cell t h = ap (λ l. 5 ∷ l) (byte t h)
+op-bytes exch t h = ap (λ l. 6 ∷ l) (byte t h)
+op-bytes thread t h = ap (λ l. 7 ∷ l) (byte t h)
+op-bytes handle t h = ap (λ l. 8 ∷ l) (byte t h)
+
+const-tree-bytes : (c : Const) → WritableConst c → const-bytes c ≡ tree-bytes (const-tree c)
+unfolding const-bytes tree-bytes const-tree form-of forms little-endian
+const-tree-bytes unit w = refl
+const-tree-bytes (num n) w = refl
+const-tree-bytes (op o t) w = op-bytes o t w
+
+pub bytes-tree : (e : Exp) → Fits e → bytes e ≡ tree-bytes (tree-of e)
+unfolding bytes tree-bytes tree-of form-of forms little-endian
+bytes-tree (var i) f = ap (λ l. 0 ∷ l) (byte i (fits-var f))
+bytes-tree (name k) f = ap (λ l. 9 ∷ l) (byte k (fits-name f))
+bytes-tree (const c) f = const-tree-bytes c (fits-const f)
+bytes-tree (lam t e) f =
+    let (h, g) = fits-lam f in
+    ap₂ (λ l m. 1 ∷ (l ++ m)) (byte t h) (bytes-tree e g)
+bytes-tree (app f a) h =
+    let (g, g′) = fits-app h in
+    ap₂ (λ l m. 2 ∷ (l ++ m)) (bytes-tree f g) (bytes-tree a g′)
+
+pub exp-bytes : (t : Tree) → WellFormed t → bytes (exp-of t) ≡ tree-bytes t
+exp-bytes t w = bytes-tree (exp-of t) (exp-fits t w) ∙ ap tree-bytes (tree-exp t w)
+
+pub exp-size : (t : Tree) → WellFormed t → tree-size t ≡ size (exp-of t)
+exp-size t w = sym (size-bytes t) ∙ ap length (sym (exp-bytes t w)) ∙ length-bytes (exp-of t)

@@ -1,0 +1,92 @@
+-- The calculus's expressions in bytes, by document 01's table of node forms.
+use mathlib.Core.Path.{_≡_}
+use mathlib.Core.List.{List, [], _++_, _∷_}
+use Prim.Native.Nat.{_+_, _≤_, max, suc, ℕ}
+use lib.ListN.{drop, getD, length}
+use Rattle.calculus.specs.Syntax.{Const, unit, num, op, Each, Exp, var, name, const, lam, app, Op, cell, exch, thread, handle}
+use Rattle.calculus.specs.Names.{count}
+use Rattle.calculus.specs.Limits.{byte-values}
+use Rattle.calculus.specs.Image.{size, Writable}
+use Rattle.term.specs.Numbers.{little-endian}
+use Rattle.term.specs.Tree.{Tree, leaf, one, two}
+use Rattle.term.specs.Reader.{tree-at}
+
+-- document 01, the table of node forms: tags 5 to 8
+unfoldable pub op-tag : Op → ℕ
+op-tag cell = 5
+op-tag exch = 6
+op-tag thread = 7
+op-tag handle = 8
+
+-- document 01, "A term is written root first, by this table of node forms"
+unfoldable pub const-bytes : Const → List ℕ
+const-bytes unit = 3 ∷ []
+const-bytes (num n) = 4 ∷ little-endian 2 n
+const-bytes (op o t) = op-tag o ∷ t ∷ []
+
+unfoldable pub bytes : Exp → List ℕ
+bytes (var i) = 0 ∷ i ∷ []
+bytes (lam t e) = 1 ∷ t ∷ bytes e
+bytes (app f a) = 2 ∷ (bytes f ++ bytes a)
+bytes (const c) = const-bytes c
+bytes (name k) = 9 ∷ k ∷ []
+
+-- what can be written so: indices, type numbers and names in one byte, nums at most 1000
+pub record Fits (e : Exp) : Type 0 where
+  pub writable : Each Writable e
+  pub names : (k : ℕ) → byte-values ≤ k → count k e ≡ 0
+
+-- document 01, "nesting 100, the root being 1"
+unfoldable pub nesting : Exp → ℕ
+nesting (var i) = 1
+nesting (name k) = 1
+nesting (const c) = 1
+nesting (lam t e) = suc (nesting e)
+nesting (app f a) = suc (max (nesting f) (nesting a))
+
+-- the leaf that each tag says, where arg is after the tag; 1 and 2 have no leaf
+unfoldable pub leaves : ℕ → List Exp
+leaves arg =
+    var arg
+    ∷ const unit
+    ∷ const unit
+    ∷ const unit
+    ∷ const (num arg)
+    ∷ const (op cell arg)
+    ∷ const (op exch arg)
+    ∷ const (op thread arg)
+    ∷ const (op handle arg)
+    ∷ name arg
+    ∷ []
+
+-- the expression that a tree says
+unfoldable pub leaf-exp : ℕ → ℕ → Exp
+leaf-exp tag arg = getD (leaves arg) tag (const unit)
+
+unfoldable pub exp-of : Tree → Exp
+exp-of (leaf tag arg) = leaf-exp tag arg
+exp-of (one tag arg t) = lam arg (exp-of t)
+exp-of (two tag arg t u) = app (exp-of t) (exp-of u)
+
+-- and the tree of an expression
+unfoldable pub const-tree : Const → Tree
+const-tree unit = leaf 3 0
+const-tree (num n) = leaf 4 n
+const-tree (op o t) = leaf (op-tag o) t
+
+unfoldable pub tree-of : Exp → Tree
+tree-of (var i) = leaf 0 i
+tree-of (lam t e) = one 1 t (tree-of e)
+tree-of (app f a) = two 2 0 (tree-of f) (tree-of a)
+tree-of (const c) = const-tree c
+tree-of (name k) = leaf 9 k
+
+-- the expression whose bytes begin at a position; anything, where there is none
+unfoldable pub term-at : List ℕ → ℕ → Exp
+term-at l at = exp-of (tree-at l at)
+
+-- the bytes of an expression stand at a position
+pub record TermAt (l : List ℕ) (at : ℕ) (e : Exp) : Type 0 where
+  pub inside : at ≤ length l
+  pub stands : drop at l ≡ bytes e ++ drop (at + size e) l
+  pub fits : Fits e

@@ -1,0 +1,37 @@
+-- Document 01, the table of node forms.
+use mathlib.Core.Bool.{Bool, _||_, not}
+use mathlib.Core.List.{List, [], _∷_}
+use Prim.Native.Nat.{ℕ}
+use lib.Dec.{eqb, leb}
+use lib.ListN.{getD}
+use Rattle.calculus.specs.Limits.{max-num}
+use Rattle.term.specs.declared.Form.{Form}
+
+-- the columns "After the tag", as a number of bytes, and "Subterms"
+abbrev pub form : ℕ → ℕ → Form
+form operand subterms = record { operand = operand; subterms = subterms }
+
+-- variable, lambda, application, unit, num, cell, exch, thread, handle, name
+unfoldable pub forms : List Form
+forms = form 1 0 ∷ form 1 1 ∷ form 0 2 ∷ form 0 0 ∷ form 2 0 ∷ form 1 0 ∷ form 1 0 ∷ form 1 0 ∷ form 1 0 ∷ form 1 0 ∷ []
+
+-- how many tags there are
+abbrev pub tags : ℕ
+tags = 10
+
+-- the form of a tag; of an unknown one, nothing after the tag and no subterm
+unfoldable pub form-of : ℕ → Form
+form-of tag = getD forms tag (form 0 0)
+
+abbrev pub operand-of : ℕ → ℕ
+operand-of tag = form-of tag .operand
+
+abbrev pub subterms-of : ℕ → ℕ
+subterms-of tag = form-of tag .subterms
+
+abbrev pub num-tag : ℕ
+num-tag = 4
+
+-- document 01, "constants 0 to 1000": a num is in range, and so is every operand of another node
+abbrev pub in-range : ℕ → ℕ → Bool
+in-range tag arg = leb arg max-num || not (eqb tag num-tag)

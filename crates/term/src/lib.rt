@@ -1,0 +1,165 @@
+// Terms written root first, by document 01's table of node forms. A function that walks a term takes the whole slice and the position of the
+// next node, reads that node's head, and goes on where the head ends: what falls is the part still unread.
+ghost use mathlib.Core.Path.{_≡_};
+ghost use Prim.Native.Nat.{_≤_, _<_};
+ghost use lib.ListN.{length, drop};
+ghost use Rattle.calculus.specs.Limits.{max-num};
+ghost use Rattle.term.specs.Numbers.{value-of};
+ghost use Rattle.term.specs.Forms.{form-of, tags};
+ghost use Rattle.term.specs.Reader.{head-at, head-of};
+
+// What the table of node forms says of a tag: the number of bytes after the tag, and the number of subterms.
+pub struct Form {
+    pub operand: u8,
+    pub subterms: u8,
+}
+
+// A node without its subterms: its tag, the number after the tag, the bytes that the two take, and how many subterms follow.
+pub struct Node {
+    pub tag: u8,
+    pub arg: usize,
+    pub size: usize,
+    pub subterms: u8,
+}
+
+impl Node {
+    // Document 01: "constants 0 to 1000".
+    pub const MAX_NUM: usize = 1000;
+
+    pub const VARIABLE: u8 = 0;
+
+    pub const LAMBDA: u8 = 1;
+
+    pub const APPLICATION: u8 = 2;
+
+    pub const UNIT: u8 = 3;
+
+    pub const NUM: u8 = 4;
+
+    pub const CELL: u8 = 5;
+
+    pub const EXCH: u8 = 6;
+
+    pub const THREAD: u8 = 7;
+
+    pub const HANDLE: u8 = 8;
+
+    pub const NAME: u8 = 9;
+
+    pub const TAGS: u8 = 10;
+}
+
+// The node at the front of some bytes, or that there is none.
+pub enum Head {
+    Is(Node),
+    Bad,
+}
+
+// Document 01, the table of node forms, in the order of the tags.
+pub const FORMS: [Form; 10] = [
+    Form {
+        operand: 1,
+        subterms: 0,
+    },
+    Form {
+        operand: 1,
+        subterms: 1,
+    },
+    Form {
+        operand: 0,
+        subterms: 2,
+    },
+    Form {
+        operand: 0,
+        subterms: 0,
+    },
+    Form {
+        operand: 2,
+        subterms: 0,
+    },
+    Form {
+        operand: 1,
+        subterms: 0,
+    },
+    Form {
+        operand: 1,
+        subterms: 0,
+    },
+    Form {
+        operand: 1,
+        subterms: 0,
+    },
+    Form {
+        operand: 1,
+        subterms: 0,
+    },
+    Form {
+        operand: 1,
+        subterms: 0,
+    },
+];
+
+pub fn max_num() -> usize
+    ensures { λ r. ⌜ r ≡ max-num ⌝ }
+{
+    Node::MAX_NUM
+}
+
+pub fn form_of(tag: u8) -> Form
+    requires { ⌜ tag < tags ⌝ }
+    ensures { λ r. ⌜ r ≡ form-of tag ⌝ }
+{
+    let i = tag as usize;
+    FORMS[i]
+}
+
+// The number that the n bytes after the tag give, little-endian.
+fn operand_of(s: &[u8], n: u8) -> usize
+    requires { ⌜ (n ≤ 2) × (n < length (now s)) ⌝ }
+    ensures { λ r. ⌜ r ≡ value-of n (drop 1 (now (s .entry))) ⌝ }
+{
+    if n == 0 {
+        return 0;
+    }
+    if n == 1 {
+        return s[1] as usize;
+    }
+    (s[1] as usize) + 256 * (s[2] as usize)
+}
+
+pub fn head_of(s: &[u8]) -> Head
+    ensures { λ r. ⌜ r ≡ head-of (now (s .entry)) ⌝ }
+{
+    if s.len() == 0 {
+        return Head::Bad;
+    }
+    let tag = s[0];
+    if Node::TAGS <= tag {
+        return Head::Bad;
+    }
+    let form = form_of(tag);
+    let size = 1 + (form.operand as usize);
+    if s.len() < size {
+        return Head::Bad;
+    }
+    let arg = operand_of(s, form.operand);
+    if Node::MAX_NUM < arg {
+        if tag == Node::NUM {
+            return Head::Bad;
+        }
+    }
+    Head::Is(Node {
+        tag,
+        arg,
+        size,
+        subterms: form.subterms,
+    })
+}
+
+// The same at a position.
+pub fn head_at(s: &[u8], at: usize) -> Head
+    requires { ⌜ at ≤ length (now s) ⌝ }
+    ensures { λ r. ⌜ r ≡ head-at (now (s .entry)) at ⌝ }
+{
+    head_of(&s[at..])
+}

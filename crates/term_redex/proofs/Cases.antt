@@ -1,0 +1,40 @@
+-- The place of some expressions in bytes, by computing it.
+use mathlib.Core.Path.{_≡_, refl}
+use mathlib.Core.List.{List, [], _∷_}
+use Prim.Native.Nat.{ℕ}
+use Rattle.calculus.specs.Step.{beside, place, place-app}
+use Rattle.calculus.specs.Image.{const-size, size}
+use Rattle.term.specs.Forms.{form-of, forms}
+use Rattle.term.specs.Numbers.{value-of}
+use Rattle.term.specs.Reader.{first-tree, head-of, read, read-term, tree-at}
+use Rattle.term.specs.Expressions.{bytes, const-bytes, exp-of, leaf-exp, leaves, op-tag, term-at}
+use Rattle.term_redex.specs.declared.Place.{Place}
+use Rattle.term_redex.specs.declared.Place.the-variants.{Done, Meet}
+use Rattle.term_redex.specs.Contexts.{front, hole-at}
+use Rattle.term_redex.specs.Places.{meeting-of, place-of}
+
+-- the bytes of an expression, and its place
+pub record Row : Type 0 where
+  pub term : List ℕ
+  pub place-is : Place
+
+abbrev Hold : List Row → Type 0
+Hold [] = Unit {0}
+Hold (r ∷ rs) = (place-of 0 (place (term-at (r .term) 0)) ≡ r .place-is) × Hold rs
+
+-- unit; a lambda, whose body is not searched; exch of exch of unit; case B; case C; a function searched before its argument; an argument whose
+-- exch is no value
+abbrev rows : List Row
+rows =
+    record { term = 3 ∷ []; place-is = Done }
+    ∷ record { term = 1 ∷ 0 ∷ 2 ∷ 3 ∷ 3 ∷ []; place-is = Done }
+    ∷ record { term = 2 ∷ 6 ∷ 0 ∷ 2 ∷ 6 ∷ 0 ∷ 3 ∷ []; place-is = Done }
+    ∷ record { term = 2 ∷ 2 ∷ 6 ∷ 4 ∷ 9 ∷ 0 ∷ 4 ∷ 250 ∷ 0 ∷ []; place-is = Meet (record { at = 0; argument = 6; end = 9 }) }
+    ∷ record { term = 2 ∷ 8 ∷ 6 ∷ 1 ∷ 5 ∷ 1 ∷ 4 ∷ 2 ∷ 0 ∷ 0 ∷ 0 ∷ 1 ∷ []; place-is = Meet (record { at = 0; argument = 3; end = 12 }) }
+    ∷ record { term = 2 ∷ 2 ∷ 9 ∷ 0 ∷ 3 ∷ 2 ∷ 9 ∷ 1 ∷ 3 ∷ []; place-is = Meet (record { at = 1; argument = 4; end = 5 }) }
+    ∷ record { term = 2 ∷ 9 ∷ 0 ∷ 2 ∷ 6 ∷ 0 ∷ 2 ∷ 9 ∷ 1 ∷ 3 ∷ []; place-is = Meet (record { at = 6; argument = 9; end = 10 }) }
+    ∷ []
+
+pub cases : Hold rows
+unfolding place-of meeting-of hole-at front place place-app beside size const-size bytes const-bytes op-tag term-at exp-of leaf-exp leaves tree-at first-tree read-term read head-of form-of forms value-of
+cases = (refl, (refl, (refl, (refl, (refl, (refl, (refl, tt)))))))

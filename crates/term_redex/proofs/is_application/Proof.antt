@@ -1,0 +1,15 @@
+-- `places::is_application` meets its contract: an application is the node with two subterms.
+use mathlib.Core.Path.{sym}
+use borrow.Author.Needs.{needs}
+use Rattle.term_redex.proofs.Nodes.{application-node}
+use Rattle.term_redex.proofs.is_application.Statement.{statement}
+use Rattle.term_redex.proofs.is_application.Tie as tie
+
+node-at-requires : tie.Need-node-at-requires
+node-at-requires c κs = search needs
+
+returns : tie.Need-returns
+returns c = sym (application-node (c .before .node-at .ensures) (c .before .before .before .pre))
+
+pub is-application-spec : {M : Type 1} → statement M
+is-application-spec = tie.close (tie.spec node-at-requires returns)

@@ -1,0 +1,74 @@
+-- Scope of leaves, by the tag; and scope as an image asks it.
+use mathlib.Core.Path.{_≡_, ap, ap₂, refl, sym}
+use mathlib.Core.Bool.{_&&_, true}
+use Prim.Native.Nat.{_<_, _≤_, suc, ℕ}
+use native.Mathlib.Omega.{arith}
+use borrow.Author.Tests.{lt-ltb}
+use lib.Dec.{ltb}
+use Rattle.calculus.specs.Syntax.{Const, unit, num, op, Each, each-app, each-const, each-lam, each-name, each-var, Exp, var, name, const, lam, app}
+use Rattle.calculus.specs.Limits.{byte-values, max-num}
+use Rattle.calculus.specs.Image.{constant-test, expression-test, Writable, WritableConst}
+use Rattle.calculus.specs.Verdict.{scoped, scoped-const}
+use Rattle.term.specs.Forms.{tags}
+use Rattle.term.specs.Expressions.{leaf-exp, leaves}
+use Rattle.term.proofs.Table.{below, end-of-row, Row, _∣_}
+use Rattle.term.proofs.Leaves.{leaf-unknown}
+
+module _ (types names lambdas arg : ℕ) where
+  pub scoped-variable : (tag : ℕ) → tag ≡ 0 → ltb arg lambdas ≡ scoped types names lambdas (leaf-exp tag arg)
+  unfolding scoped leaf-exp leaves
+  scoped-variable tag e = rw e
+
+  pub scoped-name : (tag : ℕ) → tag ≡ 9 → ltb arg names ≡ scoped types names lambdas (leaf-exp tag arg)
+  unfolding scoped leaf-exp leaves
+  scoped-name tag e = rw e
+
+  -- cell, exch, thread, handle
+  pub scoped-op : (tag : ℕ) → 5 ≤ tag → tag ≤ 8 → ltb arg types ≡ scoped types names lambdas (leaf-exp tag arg)
+  unfolding scoped scoped-const leaf-exp leaves
+  scoped-op tag low high = below row tag (omega arith) low
+    where
+      lower : (tag : ℕ) → tag < 5 → 5 ≤ tag → ltb arg types ≡ scoped types names lambdas (leaf-exp tag arg)
+      lower tag h low = absurd (omega arith)
+
+      row : Row (λ tag. 5 ≤ tag → ltb arg types ≡ scoped types names lambdas (leaf-exp tag arg)) 0 9
+      row =
+          lower 0 (omega arith)
+          ∣ lower 1 (omega arith)
+          ∣ lower 2 (omega arith)
+          ∣ lower 3 (omega arith)
+          ∣ lower 4 (omega arith)
+          ∣ (λ low. refl)
+          ∣ (λ low. refl)
+          ∣ (λ low. refl)
+          ∣ (λ low. refl)
+          ∣ end-of-row
+
+  -- lambda, application, unit, num
+  pub scoped-plain : (tag : ℕ) → (tag ≡ 0 → ⊥) → tag < 5 → true ≡ scoped types names lambdas (leaf-exp tag arg)
+  unfolding scoped scoped-const leaf-exp leaves
+  scoped-plain tag not-0 high = below row tag high not-0
+    where
+      row : Row (λ tag. (tag ≡ 0 → ⊥) → true ≡ scoped types names lambdas (leaf-exp tag arg)) 0 5
+      row = (λ not-0. absurd (not-0 refl)) ∣ (λ not-0. refl) ∣ (λ not-0. refl) ∣ (λ not-0. refl) ∣ (λ not-0. refl) ∣ end-of-row
+
+  -- what is no tag
+  pub scoped-unknown : (tag : ℕ) → tags ≤ tag → true ≡ scoped types names lambdas (leaf-exp tag arg)
+  unfolding scoped scoped-const
+  scoped-unknown tag h = sym (ap (scoped types names lambdas) (leaf-unknown tag arg h))
+
+-- an image asks no more than this of an expression that can be written: document 01, "variables are bound inside them, names are below m, nums at
+-- most 1000, type bytes free"
+const-image : (c : Const) → WritableConst c → scoped-const byte-values c ≡ constant-test c
+unfolding scoped-const constant-test
+const-image unit w = refl
+const-image (num n) w = sym (lt-ltb n (suc max-num) (omega arith))
+const-image (op o t) w = lt-ltb t byte-values w
+
+pub scoped-image : (m depth : ℕ) (e : Exp) → Each Writable e → scoped byte-values m depth e ≡ expression-test m depth e
+unfolding scoped expression-test
+scoped-image m depth (var i) (each-var w) = refl
+scoped-image m depth (name k) each-name = refl
+scoped-image m depth (const c) (each-const w) = const-image c w
+scoped-image m depth (lam t e) (each-lam h w) = ap₂ _&&_ (lt-ltb t byte-values h) (scoped-image m (suc depth) e w)
+scoped-image m depth (app f a) (each-app w v) = ap₂ _&&_ (scoped-image m depth f w) (scoped-image m depth a v)

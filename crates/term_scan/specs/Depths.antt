@@ -1,0 +1,16 @@
+-- Where a term ends that begins at a position, if it nests no deeper than a limit.
+use mathlib.Core.Bool.{Bool, false, true}
+use mathlib.Core.List.{List}
+use Prim.Native.Nat.{ℕ}
+use lib.Dec.{leb}
+use Rattle.term.specs.Reader.{end-at}
+use Rattle.term.specs.Expressions.{nesting, term-at}
+use Rattle.term_scan.specs.declared.Reach.{Reach}
+use Rattle.term_scan.specs.declared.Reach.the-variants.{End, TooDeep}
+
+abbrev pub pick-end : Bool → ℕ → Reach
+pick-end true e = End e
+pick-end false e = TooDeep
+
+unfoldable pub reach : List ℕ → ℕ → ℕ → Reach
+reach l limit at = pick-end (leb (nesting (term-at l at)) limit) (end-at l at)
