@@ -13,8 +13,8 @@ use Rattle.calculus.specs.Run.{reply-of}
 use Rattle.calculus.specs.Recipe.{loaded, bay-types, type-found, with-type}
 use Rattle.term.specs.Numbers.{little-endian, value-of}
 use Rattle.term.specs.Forms.{form-of, forms}
-use Rattle.term.specs.Reader.{first-tree, head-of, one-term, read, read-term, tree-at}
-use Rattle.term.specs.Expressions.{bytes, const-bytes, op-tag, exp-of, leaf-exp, leaves, term-at}
+use Rattle.term.specs.Reader.{first-tree, node-of, one-term, read, read-term, tree-at}
+use Rattle.term.specs.Expressions.{bytes, const-bytes, op-tag, exp-of, leaf-exp, leaf-forms, term-at}
 use Rattle.recipe_file.specs.File.{bays, parts, offset-of, length-of, part, table-bytes, term-bytes}
 use Rattle.recipe_file.specs.Whole.{file-of, joined, pairs-of}
 use Rattle.recipe_table.specs.Entries.{table-of, type-table}
@@ -27,7 +27,7 @@ use Rattle.image.specs.Stands.{terms-stand, image-stands}
 use Rattle.load_spec.specs.Starting.{starting-image}
 use Rattle.step_spec.specs.declared.Outcome.{Outcome}
 use Rattle.step_spec.specs.declared.Outcome.the-variants.{Rule, Done, Refused}
-use Rattle.step_spec.specs.Stepping.{step-reply, answered, written, outcome-of, out-after}
+use Rattle.step_spec.specs.Stepping.{step-reply, outcome-of-reply, out-after-reply, outcome-of, out-after-step}
 use Rattle.runs.specs.Run.{image-left}
 use Rattle.bay_cases.specs.Cases.{T3, T5, T7}
 
@@ -52,7 +52,7 @@ pub record Ran : Type 0 where
 unfoldable ran : List ℕ → List ℕ → Ran
 ran image [] = record { answers = []; last = image }
 ran image (x ∷ threads) =
-    let rest : Ran = ran (image-left (outcome-of image x out) (out-after image x out) image) threads in
+    let rest : Ran = ran (image-left (outcome-of image x out) (out-after-step image x out) image) threads in
     record { answers = outcome-of image x out ∷ rest .answers; last = rest .last }
 
 abbrev file : Row → List ℕ
@@ -96,5 +96,5 @@ rows =
     ∷ []
 
 cases : map computed rows ≡ rows
-unfolding computed ran starting-image image-left outcome-of out-after step-reply answered written config-of decode components image-of encode terms-stand image-stands kind-test companion-test length-test head-agrees head-stands stand-from heads-stand names kind-at companion-at offset-in length-at expression-at encoded-at encoded-all head heads expressions image-bytes bay-term bay-terms table-of type-table file-of joined pairs-of bays parts offset-of length-of part table-bytes term-bytes bytes const-bytes op-tag exp-of leaf-exp leaves term-at first-tree head-of one-term read read-term tree-at form-of forms little-endian value-of loaded bay-types type-found with-type reply-of nodes sum-in sum-all constant-test expression-test is-settled is-awaited handle-for handles-for component-test each-test limits-test image-test beside place-app place when-done step-call step-exchange step-meeting step-place step-component step-of substitute plug two-bytes word tabulate each-below sum-below
+unfolding computed ran starting-image image-left outcome-of out-after-step step-reply outcome-of-reply out-after-reply config-of decode components image-of encode terms-stand image-stands kind-test companion-test length-test head-agrees head-stands stand-from heads-stand names kind-at companion-at offset-in length-at expression-at encoded-at encoded-all head heads expressions image-bytes bay-term bay-terms table-of type-table file-of joined pairs-of bays parts offset-of length-of part table-bytes term-bytes bytes const-bytes op-tag exp-of leaf-exp leaf-forms term-at first-tree node-of one-term read read-term tree-at form-of forms little-endian value-of loaded bay-types type-found with-type reply-of nodes sum-in sum-all constant-test expression-test is-settled is-awaited handle-for handles-for component-test each-test limits-test image-test beside place-app place when-done step-call step-exchange step-meeting step-place step-component step-of substitute plug two-bytes word tabulate each-below sum-below
 cases = refl

@@ -1,6 +1,6 @@
 // Writers into a lent buffer. Each writes at a place, answers the next place, and promises by `Wrote` what the buffer holds then.
 ghost use Prim.Native.Nat.{_+_, _-_, _<_, _≤_};
-ghost use mathlib.Core.List.{_∷_, []};
+ghost use mathlib.Core.List.{[], _∷_};
 ghost use lib.ListN.{length, take, drop};
 ghost use Rattle.calculus.specs.Bytes.{two-byte-values, two-bytes};
 ghost use Rattle.buffer.specs.Written.{Wrote};

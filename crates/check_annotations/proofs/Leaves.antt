@@ -4,28 +4,28 @@ use mathlib.Core.Bool.{true}
 use Prim.Native.Nat.{suc, zero, ℕ}
 use Rattle.calculus.specs.Table.{Table}
 use Rattle.calculus.specs.Verdict.{annotated, annotated-const, is-cell-type, is-exch-type, is-handle-type, is-thread-type}
-use Rattle.term.specs.Expressions.{leaf-exp, leaves}
+use Rattle.term.specs.Expressions.{leaf-exp, leaf-forms}
 
 module _ (T : Table) (tag arg : ℕ) where
   pub cell-leaf : tag ≡ 5 → is-cell-type T arg ≡ annotated T (leaf-exp tag arg)
-  unfolding leaf-exp leaves annotated annotated-const
+  unfolding leaf-exp leaf-forms annotated annotated-const
   cell-leaf e = rw e refl
 
   pub exch-leaf : tag ≡ 6 → is-exch-type T arg ≡ annotated T (leaf-exp tag arg)
-  unfolding leaf-exp leaves annotated annotated-const
+  unfolding leaf-exp leaf-forms annotated annotated-const
   exch-leaf e = rw e refl
 
   pub thread-leaf : tag ≡ 7 → is-thread-type T arg ≡ annotated T (leaf-exp tag arg)
-  unfolding leaf-exp leaves annotated annotated-const
+  unfolding leaf-exp leaf-forms annotated annotated-const
   thread-leaf e = rw e refl
 
   pub handle-leaf : tag ≡ 8 → is-handle-type T arg ≡ annotated T (leaf-exp tag arg)
-  unfolding leaf-exp leaves annotated annotated-const
+  unfolding leaf-exp leaf-forms annotated annotated-const
   handle-leaf e = rw e refl
 
 -- a leaf of any other tag has no annotation
 pub plain-leaf : (T : Table) (tag arg : ℕ) → (tag ≡ 5 → ⊥) → (tag ≡ 6 → ⊥) → (tag ≡ 7 → ⊥) → (tag ≡ 8 → ⊥) → true ≡ annotated T (leaf-exp tag arg)
-unfolding leaf-exp leaves annotated annotated-const
+unfolding leaf-exp leaf-forms annotated annotated-const
 plain-leaf T zero arg a b c d = refl
 plain-leaf T (suc zero) arg a b c d = refl
 plain-leaf T (suc (suc zero)) arg a b c d = refl

@@ -1,7 +1,7 @@
 // Document 01, cause 8: the types that lambdas and constants are annotated with.
+use numbers::Type;
 use recipe_table::Entry;
 use term::Node;
-use check_types::Typed;
 ghost use mathlib.Core.Path.{_≡_};
 ghost use Prim.Native.Nat.{_<_};
 ghost use Rattle.calculus.specs.Limits.{byte-values};
@@ -38,13 +38,13 @@ fn is_from_to(entry: Entry, p: u8, q: u8) -> bool
 fn is_handle_of(entry: Entry, a: u8) -> bool
     ensures { λ r. ⌜ r ≡ handle-of entry a ⌝ }
 {
-    if entry.kind != Typed::ONCE {
+    if entry.kind != Type::ONCE {
         return false;
     }
     if entry.p != a {
         return false;
     }
-    entry.q == Typed::UNIT
+    entry.q == Type::UNIT_ENTRY
 }
 
 // Fig. 8: a to a ref.

@@ -17,7 +17,7 @@ use Rattle.check_spec.specs.Bays.{bay-term}
 use Rattle.check_bays.specs.declared.Test.{Test}
 use Rattle.check_bays.specs.declared.Test.the-variants.{Nesting, Scope}
 use Rattle.check_bays.specs.Tests.{passes, bay-passes}
-use Rattle.check_bays.specs.Stages.{Scoped}
+use Rattle.check_bays.specs.Stages.{ScopedTerms}
 use Rattle.check_bays.proofs.Known.{good-part, scoped-part, shallow-part}
 
 module _ (s : List ℕ) (bay : ℕ) {l : List ℕ} (e : l ≡ term-bytes s bay) (test : Test) (r : Bool) where
@@ -30,7 +30,7 @@ module _ (s : List ℕ) (bay : ℕ) {l : List ℕ} (e : l ≡ term-bytes s bay) 
   scope-is k types names t m q = rw (q, k, e, m, t) refl
 
 -- the walk of one bay
-module _ {s : List ℕ} (c : Scoped s) {bay : ℕ} (b : bay < bays s) {l : List ℕ} (e : l ≡ term-bytes s bay) where
+module _ {s : List ℕ} (c : ScopedTerms s) {bay : ℕ} (b : bay < bays s) {l : List ℕ} (e : l ≡ term-bytes s bay) where
   pub whole : Whole l
   whole = record {
     good = good-part (c .terms) b e;

@@ -14,7 +14,7 @@ use Rattle.term.specs.Expressions.{term-at}
 use Rattle.term.proofs.Sizes.{nodes-exp}
 use Rattle.term.proofs.Views.{end-inside, nodes-inside}
 use Rattle.recipe_file.specs.File.{bays, part, term-bytes}
-use Rattle.recipe_file.specs.Laid.{Laid}
+use Rattle.recipe_file.specs.FileRule.{FileRule}
 use Rattle.term_scan.specs.declared.Part.the-variants.{Nodes, NoTerm}
 use Rattle.term_scan.specs.Extents.{exactly, part-of}
 use Rattle.term_scan.proofs.Answers.{part-single, Single}
@@ -23,12 +23,12 @@ use Rattle.check_bays.specs.Terms.{bay-single, bay-nodes, nodes-in}
 use Rattle.check_bays.proofs.Each.{failed, Passed, passed-all, passed-next, passed-none}
 
 -- the loop stands at a bay, all parts before are terms, and these are their nodes
-pub record Counted (s : List ℕ) (bay total : ℕ) : Type 0 where
+pub record NodesCounted (s : List ℕ) (bay total : ℕ) : Type 0 where
   pub passed : Passed (bays s) (bay-single s) bay
   pub sum : total ≡ sum-below bay (bay-nodes s)
   pub bound : total ≤ bay * max-file-length
 
-pub counted-none : (s : List ℕ) → Counted s 0 0
+pub counted-none : (s : List ℕ) → NodesCounted s 0 0
 unfolding sum-below
 counted-none s = record { passed = passed-none _ _; sum = refl; bound = zero-le }
 
@@ -37,7 +37,7 @@ unfolding term-bytes part
 short s bay = simp (length-take, length-drop) (omega arith)
 
 -- a part that is one term has no more nodes than the file has bytes
-part-nodes : (s : List ℕ) (bay n : ℕ) → Laid s → Single (term-bytes s bay) n → n ≤ max-file-length
+part-nodes : (s : List ℕ) (bay n : ℕ) → FileRule s → Single (term-bytes s bay) n → n ≤ max-file-length
 unfolding term-at
 part-nodes s bay n l h =
     let p = term-bytes s bay in
@@ -47,8 +47,8 @@ one-part : (s : List ℕ) (bay n : ℕ) → Single (term-bytes s bay) n → bay-
 unfolding bay-single one-term
 one-part s bay n h = rw (h .reads) refl
 
-module _ {s : List ℕ} {bay : ℕ} (l : Laid s) (b : bay < bays s) {p : List ℕ} (is : p ≡ term-bytes s bay) where
-  pub counted-next : {total : ℕ} (n : ℕ) → Counted s bay total → Nodes n ≡ part-of p → Counted s (bay + 1) (total + n)
+module _ {s : List ℕ} {bay : ℕ} (l : FileRule s) (b : bay < bays s) {p : List ℕ} (is : p ≡ term-bytes s bay) where
+  pub counted-next : {total : ℕ} (n : ℕ) → NodesCounted s bay total → Nodes n ≡ part-of p → NodesCounted s (bay + 1) (total + n)
   unfolding sum-below bay-nodes bay-term
   counted-next {total} n c e =
       let h : Single (term-bytes s bay) n = part-single (term-bytes s bay) n (e ∙ ap part-of is) in
@@ -67,7 +67,7 @@ module _ {s : List ℕ} {bay : ℕ} (l : Laid s) (b : bay < bays s) {p : List �
       over (got t []) r q = absurd (clash (let z : NoTerm ≡ exactly (got t []) = q ∙ ap exactly r in cc))
       over (got t (x ∷ rest)) r q = rw r refl
 
-pub counted-all : {s : List ℕ} {bay total : ℕ} → Counted s bay total → bays s ≤ bay → Nodes total ≡ nodes-in s
+pub counted-all : {s : List ℕ} {bay total : ℕ} → NodesCounted s bay total → bays s ≤ bay → Nodes total ≡ nodes-in s
 unfolding nodes-in
 counted-all {s} {bay} {total} c h =
     let z : bays s ≡ bay = omega (arith, c .passed .inside) in

@@ -14,13 +14,13 @@ use Rattle.term.specs.Reader.{Good, GoodAt, Got, got, none, one-term, read-term
 use Rattle.term.specs.Expressions.{nesting, term-at}
 use Rattle.term.proofs.Fronts.{is-good}
 use Rattle.recipe_file.specs.File.{bays, term-bytes}
-use Rattle.recipe_file.specs.Laid.{HasBay}
+use Rattle.recipe_file.specs.FileRule.{HasBay}
 use Rattle.recipe_table.specs.Entries.{type-table}
 use Rattle.check_spec.specs.Bays.{bay-term}
 use Rattle.check_bays.specs.declared.Test.the-variants.{Nesting, Scope}
 use Rattle.check_bays.specs.Terms.{bay-single, bay-nodes}
 use Rattle.check_bays.specs.Tests.{passes, bay-passes, each-passes}
-use Rattle.check_bays.specs.Stages.{Scoped, Terms}
+use Rattle.check_bays.specs.Stages.{ScopedTerms, Terms}
 use Rattle.check_bays.proofs.Each.{part-below}
 
 pub good-of : (l : List ℕ) (g : Got) → read-term l ≡ g → one-term g ≡ true → Good l
@@ -45,7 +45,7 @@ module _ {s : List ℕ} (t : Terms s) {bay : ℕ} (b : bay < bays s) where
     unfolding bay-nodes bay-term
     few-nodes = rw e (omega (arith, t .few, part-below (bays s) (bay-nodes s) bay b))
 
-module _ {s : List ℕ} (c : Scoped s) {bay : ℕ} (b : bay < bays s) {l : List ℕ} (e : l ≡ term-bytes s bay) where
+module _ {s : List ℕ} (c : ScopedTerms s) {bay : ℕ} (b : bay < bays s) {l : List ℕ} (e : l ≡ term-bytes s bay) where
   pub shallow-part : nesting (term-at l 0) ≤ max-nesting
   unfolding each-passes bay-passes passes bay-term
   shallow-part = rw e (leb-sound _ _ (each-below-sound (bays s) (bay-passes s Nesting) (c .shallow) bay b))

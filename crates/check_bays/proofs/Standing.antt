@@ -16,7 +16,7 @@ use Rattle.term.specs.Reader.{first-tree, Got, got, none, one-term, read-term, 
 use Rattle.term.specs.Expressions.{exp-of, nesting, term-at}
 use Rattle.term.proofs.Sizes.{nodes-exp}
 use Rattle.recipe_file.specs.File.{bays, table-bytes, term-bytes}
-use Rattle.recipe_file.specs.Laid.{Laid}
+use Rattle.recipe_file.specs.FileRule.{FileRule}
 use Rattle.term_scan.specs.declared.Part.{Part}
 use Rattle.term_scan.specs.declared.Part.the-variants.{Nodes, NoTerm}
 use Rattle.term_scan.specs.Extents as extents
@@ -27,7 +27,7 @@ use Rattle.check_bays.specs.declared.Test.the-variants.{Nesting, Scope}
 use Rattle.check_bays.specs.Terms.{bay-nodes, bay-single}
 use Rattle.check_bays.specs.Tests.{bay-passes, each-passes, passes}
 use Rattle.check_bays.specs.Standing.{all-stand, bay-annotated, bay-stands, is-term}
-use Rattle.check_bays.proofs.Counting.{Counted, counted-next, counted-none}
+use Rattle.check_bays.proofs.Counting.{NodesCounted, counted-next, counted-none}
 use Rattle.check_bays.proofs.Each.{failed, Passed, passed-all, passed-next, passed-none}
 
 is-term-cond : (b : Bool) (n : ℕ) → is-term (cond b (Nodes n) NoTerm) ≡ b
@@ -85,7 +85,7 @@ all-tests s =
 -- the loop stands at a bay, all before stand, and these are their nodes
 pub record Stood (s : List ℕ) (bay total : ℕ) : Type 0 where
   pub passed : Passed (bays s) (bay-stands s) bay
-  pub counted : Counted s bay total
+  pub counted : NodesCounted s bay total
 
 pub stood-none : (s : List ℕ) → Stood s 0 0
 stood-none s = record { passed = passed-none _ _; counted = counted-none s }
@@ -104,7 +104,7 @@ is-part T names n l e = by (read-term l) e
         go false e = absurd (clash (cc))
     by (got t (x ∷ r)) e = absurd (clash (cc))
 
-module _ {s : List ℕ} {bay : ℕ} (l : Laid s) (b : bay < bays s) {p t : List ℕ} (is : p ≡ term-bytes s bay) (table : t ≡ table-bytes s) {names : ℕ} (m : names ≡ bays s) where
+module _ {s : List ℕ} {bay : ℕ} (l : FileRule s) (b : bay < bays s) {p t : List ℕ} (is : p ≡ term-bytes s bay) (table : t ≡ table-bytes s) {names : ℕ} (m : names ≡ bays s) where
   same : glance (table-of t) names p ≡ glance (type-table s) (bays s) (term-bytes s bay)
   unfolding type-table
   same = rw (is, table, m) refl

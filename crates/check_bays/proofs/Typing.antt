@@ -21,7 +21,7 @@ use Rattle.check_walk.specs.declared.Walked.{Walked}
 use Rattle.check_walk.specs.declared.Walked.the-variants.{Has, Nothing}
 use Rattle.check_walk.specs.Walk.{Decides, types-in}
 use Rattle.check_spec.specs.Bays.{bay-term}
-use Rattle.check_spec.specs.Verdict.{number-in, bay-type, bay-types}
+use Rattle.check_spec.specs.Verdict.{number-in, bay-type-number, bay-type-numbers}
 use Rattle.check_bays.specs.declared.BayTypes.{BayTypes}
 use Rattle.check_bays.specs.Numbers.{bay-linear, bay-number, has-many, has-type, Numbered}
 use Rattle.check_bays.proofs.Each.{failed, Passed, passed-all, passed-next, passed-none}
@@ -73,7 +73,7 @@ missing (some m) end e = absurd (clash (cc))
 
 module _ (s : List ℕ) (bay : ℕ) (b : bay < bays s) {r : Walked} (d : Decides (type-table s) (term-bytes s bay) r) where
   number-is : (n end : ℕ) (k : Bool) → r ≡ Has n end k → bay-number s bay ≡ some n
-  unfolding types-in walk.type-at bay-number bay-term
+  unfolding types-in walk.typed-at bay-number bay-term
   number-is n end k e = found _ n end _ (sym (ap types-in e) ∙ d .types)
 
   pub typing-next : {linear many : Bool} {numbers : List ℕ} (n end : ℕ) (k m next all : Bool) → Typing s bay linear many numbers → r ≡ Has n end k
@@ -89,7 +89,7 @@ module _ (s : List ℕ) (bay : ℕ) (b : bay < bays s) {r : Walked} (d : Decides
       }
 
   pub typing-not : (found : BayTypes) → found .each ≡ false → r ≡ Nothing → Numbered s found
-  unfolding has-type on-number types-in walk.type-at bay-number bay-term
+  unfolding has-type on-number types-in walk.typed-at bay-number bay-term
   typing-not found f e = record {
     each = f ∙ sym (failed (bays s) (has-type s) bay b (has-type s bay) refl (rw (missing _ _ (sym (ap types-in e) ∙ d .types)) refl));
     linear = λ t. absurd (false≢true (sym f ∙ t));
@@ -99,7 +99,7 @@ module _ (s : List ℕ) (bay : ℕ) (b : bay < bays s) {r : Walked} (d : Decides
 
 pub typing-all : {s : List ℕ} {bay : ℕ} {linear many : Bool} {numbers : List ℕ} → Typing s bay linear many numbers → bays s ≤ bay
     → Numbered s (record { each = true; linear = linear; many = many; numbers = numbers })
-unfolding bay-types bay-type number-to bay-number
+unfolding bay-type-numbers bay-type-number number-to bay-number
 typing-all {s} {bay} t h =
     let z : bays s ≡ bay = omega (arith, t .passed .inside) in
     record {

@@ -9,7 +9,7 @@ use Rattle.calculus.specs.Verdict.{is-many, linear, on-number, type-number}
 use Rattle.recipe_file.specs.File.{bays}
 use Rattle.recipe_table.specs.Entries.{type-table}
 use Rattle.check_spec.specs.Bays.{bay-term}
-use Rattle.check_spec.specs.Verdict.{bay-types}
+use Rattle.check_spec.specs.Verdict.{bay-type-numbers}
 use Rattle.check_bays.specs.declared.BayTypes.{BayTypes}
 
 -- the number of the type of a bay's term
@@ -32,4 +32,4 @@ pub record Numbered (s : List ℕ) (r : BayTypes) : Type 0 where
   pub each : r .each ≡ each-below (bays s) (has-type s)
   pub linear : r .each ≡ true → r .linear ≡ each-below (bays s) (bay-linear s)
   pub many : r .each ≡ true → r .many ≡ each-below (bays s) (has-many s)
-  pub numbers : r .each ≡ true → r .numbers ≡ bay-types s
+  pub numbers : r .each ≡ true → r .numbers ≡ bay-type-numbers s

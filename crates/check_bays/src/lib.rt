@@ -1,19 +1,19 @@
 // Loops over all bays of a recipe: whether each part is one term and how many nodes they have, whether each term passes a test, and the types.
-ghost use mathlib.Core.Path.{_≡_};
 ghost use mathlib.Core.Bool.{_&&_};
+ghost use mathlib.Core.Path.{_≡_};
 ghost use Prim.Native.Nat.{_<_};
 ghost use Rattle.recipe_file.specs.File.{bays, term-bytes};
-ghost use Rattle.recipe_file.specs.Laid.{Laid};
+ghost use Rattle.recipe_file.specs.FileRule.{FileRule};
 ghost use Rattle.check_bays.specs.Tests.{bay-passes, each-passes};
 ghost use Rattle.check_bays.specs.Standing.{all-stand};
 ghost use Rattle.check_bays.specs.Terms.{nodes-in};
-ghost use Rattle.check_bays.specs.Stages.{Scoped, Terms};
+ghost use Rattle.check_bays.specs.Stages.{ScopedTerms, Terms};
 ghost use Rattle.check_bays.specs.Numbers.{Numbered};
 ghost use Rattle.recipe_table.specs.Entries.{type-table};
 ghost use Rattle.check_walk.specs.Walk.{Decides};
-use recipe_file::Recipe;
-use term_scan::Part;
 use check_walk::Walked;
+use numbers::Recipe;
+use term_scan::Part;
 
 // A test of a bay's term: causes 6 (its nesting) and 7.
 pub enum Test {
@@ -31,7 +31,7 @@ pub struct BayTypes {
 
 // Document 01, cause 5: the nodes of all terms, or that a part is not exactly one term.
 pub fn count_nodes(recipe: &[u8]) -> Part
-    requires { ⌜ Laid (now recipe) ⌝ }
+    requires { ⌜ FileRule (now recipe) ⌝ }
     ensures { λ r. ⌜ r ≡ nodes-in (now (recipe .entry)) ⌝ }
 {
     let bays = recipe_file::bay_count(recipe);
@@ -50,7 +50,7 @@ pub fn count_nodes(recipe: &[u8]) -> Part
 
 // None of causes 5 to 8 fits: all bays in one pass each. Where one fits, it is not said which.
 pub fn each_stands(recipe: &[u8]) -> bool
-    requires { ⌜ Laid (now recipe) ⌝ }
+    requires { ⌜ FileRule (now recipe) ⌝ }
     ensures { λ r. ⌜ r ≡ all-stand (now (recipe .entry)) ⌝ }
 {
     let bays = recipe_file::bay_count(recipe);
@@ -107,7 +107,7 @@ fn both(a: bool, b: bool) -> bool
 
 // Causes 9 and 10 of a bay's term, by the type walk.
 fn walk_bay(recipe: &[u8], bay: usize) -> Walked
-    requires { ⌜ Scoped (now recipe) × (bay < bays (now recipe)) ⌝ }
+    requires { ⌜ ScopedTerms (now recipe) × (bay < bays (now recipe)) ⌝ }
     ensures { λ r. ⌜ Decides (type-table (now (recipe .entry))) (term-bytes (now (recipe .entry)) bay) r ⌝ }
 {
     let table = recipe_file::table_bytes(recipe);
@@ -117,7 +117,7 @@ fn walk_bay(recipe: &[u8], bay: usize) -> Walked
 
 // Document 01, causes 9 to 11: the types of all bays.
 pub fn types_of(recipe: &[u8]) -> BayTypes
-    requires { ⌜ Scoped (now recipe) ⌝ }
+    requires { ⌜ ScopedTerms (now recipe) ⌝ }
     ensures { λ r. ⌜ Numbered (now (recipe .entry)) r ⌝ }
 {
     let bays = recipe_file::bay_count(recipe);

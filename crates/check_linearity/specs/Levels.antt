@@ -21,10 +21,10 @@ unfoldable pub floor-under : ℕ → ℕ → ℕ → ℕ
 floor-under kind floor above = cond (eqb kind 3) floor above
 
 -- what a walk answers: whether the term keeps the rule, and if so the marks that it leaves
-unfoldable pub answered : Bool → Marks → Option Marks
-answered false M = none
-answered true M = some M
+unfoldable pub marks-left : Bool → Marks → Option Marks
+marks-left false M = none
+marks-left true M = some M
 
 -- a walk over e, from the array a to the array a′
-pub record Walked (T : Table) (floor above : ℕ) (a : List ℕ) (e : Exp) (keeps : Bool) (a′ : List ℕ) : Type 0 where
-  pub holds : spend T (above - floor) (marks-of above a) e ≡ answered keeps (marks-of above a′)
+pub record LinearWalk (T : Table) (floor above : ℕ) (a : List ℕ) (e : Exp) (keeps : Bool) (a′ : List ℕ) : Type 0 where
+  pub holds : spend T (above - floor) (marks-of above a) e ≡ marks-left keeps (marks-of above a′)

@@ -12,10 +12,10 @@ use Rattle.calculus.specs.Syntax.{app, const, Exp, lam, name, var}
 use Rattle.calculus.specs.Table.{Table}
 use Rattle.calculus.specs.Verdict.{annotated, on-function, scoped}
 use Rattle.calculus.specs.Theory.Tests.{and-parts, leb-complete, leb-sound, ltb-complete, ltb-not}
-use Rattle.term.specs.declared.Head.the-variants.{Bad, Is}
+use Rattle.term.specs.declared.Front.the-variants.{Bad, Is}
 use Rattle.term.specs.declared.Node.{Node}
 use Rattle.term.specs.Tree.{Tree, tree-nodes}
-use Rattle.term.specs.Reader.{close-one, close-two, Got, got, head-of, none, read-term, then-second}
+use Rattle.term.specs.Reader.{close-one, close-two, Got, got, node-of, none, read-term, then-second}
 use Rattle.term.specs.Expressions.{exp-of, leaf-exp, nesting}
 use Rattle.term.proofs.Reading.{step, step-node}
 use Rattle.term_scan.specs.declared.Part.{Part}
@@ -129,11 +129,11 @@ module _ (T : Table) (names : ℕ) where
       by (got t r) = rw (lt-leb (d + nesting (exp-of t)) max-nesting (omega (arith, nesting-some (exp-of t)))) refl
 
   module _ (d k n : ℕ) (fs : List Frame) (l : List ℕ) where
-    pub coming-bad : head-of l ≡ Bad → coming (frame d k ∷ fs) n l ≡ NoTerm
+    pub coming-bad : node-of l ≡ Bad → coming (frame d k ∷ fs) n l ≡ NoTerm
     unfolding coming
     coming-bad is = rw (step l, is)
 
-    module _ (h : Node) (is : head-of l ≡ Is h) where
+    module _ (h : Node) (is : node-of l ≡ Is h) where
       pub coming-leaf : h .subterms ≡ 0 → coming (frame d k ∷ fs) n l ≡ cond (stands T names d k (leaf-exp (h .tag) (h .arg))) (coming fs (n + 1) (drop (h .size) l)) NoTerm
       unfolding coming exp-of tree-nodes
       coming-leaf e = rw (step-node l h is 0 e)

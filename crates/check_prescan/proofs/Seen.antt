@@ -11,12 +11,12 @@ use lib.Seq.{drop-drop, getD-set-other, getD-set-same}
 use Rattle.calculus.specs.Limits.{max-nesting}
 use Rattle.calculus.specs.Table.{Table}
 use Rattle.calculus.specs.Theory.Tests.{eqb-complete, eqb-sound, leb-complete}
-use Rattle.term.specs.declared.Head.the-variants.{Bad, Is}
+use Rattle.term.specs.declared.Front.the-variants.{Bad, Is}
 use Rattle.term.specs.declared.Node.{Node}
-use Rattle.term.specs.Reader.{head-at}
+use Rattle.term.specs.Reader.{node-at}
 use Rattle.term.specs.Expressions.{leaf-exp, nesting}
 use Rattle.term.proofs.Leaves.{leaf-nesting}
-use Rattle.term.proofs.Views.{node-at, NodeAt}
+use Rattle.term.proofs.Views.{node-there, NodeAt}
 use Rattle.term_scan.specs.declared.Part.the-variants.{NoTerm}
 use Rattle.check_prescan.specs.Stands.{ended, glance, leaf-stands, stands}
 use Rattle.check_prescan.proofs.Coming.{coming, coming-bad, coming-deep, coming-end, coming-lambda, coming-leaf, coming-start, coming-two, Frame, frame, lambda-test}
@@ -73,20 +73,20 @@ seen-start T names l a b wide long = record {
 }
 
 module _ {T : Table} {names : ℕ} {l a b : List ℕ} {waits level lambdas here nodes : ℕ} (s : Seen T names l a b waits level lambdas here nodes) where
-  pub seen-bad : head-at l here ≡ Bad → NoTerm ≡ glance T names l
-  unfolding head-at
+  pub seen-bad : node-at l here ≡ Bad → NoTerm ≡ glance T names l
+  unfolding node-at
   seen-bad is = sym (coming-bad T names level lambdas nodes (frames-of waits a b) (drop here l) is) ∙ s .same
 
-  module _ {h : Node} (is : head-at l here ≡ Is h) where
+  module _ {h : Node} (is : node-at l here ≡ Is h) where
     node : NodeAt l here h
-    node = node-at (s .inside) is
+    node = node-there (s .inside) is
 
     past : drop (h .size) (drop here l) ≡ drop (here + h .size) l
     past = drop-drop (h .size) here l
 
     -- a leaf
     leaf : h .subterms ≡ 0 → glance T names l ≡ cond (leaf-stands T names lambdas (leaf-exp (h .tag) (h .arg))) (coming T names (frames-of waits a b) (nodes + 1) (drop (here + h .size) l)) NoTerm
-    unfolding head-at stands
+    unfolding node-at stands
     leaf e =
         sym (s .same)
         ∙ coming-leaf T names level lambdas nodes (frames-of waits a b) (drop here l) h is e
@@ -120,11 +120,11 @@ module _ {T : Table} {names : ℕ} {l a b : List ℕ} {waits level lambdas here 
 
     -- a node with subterms
     pub seen-deep : (h .subterms ≡ 0 → ⊥) → level ≡ 99 → NoTerm ≡ glance T names l
-    unfolding head-at
+    unfolding node-at
     seen-deep some z = sym (coming-deep T names level lambdas nodes (frames-of waits a b) (drop here l) h is (omega arith) some (node .few)) ∙ s .same
 
     lambda : h .subterms ≡ 1 → glance T names l ≡ cond (lambda-test T names (h .arg)) (coming T names (frame (suc level) (suc lambdas) ∷ frames-of waits a b) (nodes + 1) (drop (here + h .size) l)) NoTerm
-    unfolding head-at
+    unfolding node-at
     lambda e = sym (s .same) ∙ coming-lambda T names level lambdas nodes (frames-of waits a b) (drop here l) h is e ∙ rw past refl
 
     pub seen-no-type : h .subterms ≡ 1 → lambda-test T names (h .arg) ≡ false → NoTerm ≡ glance T names l
@@ -145,7 +145,7 @@ module _ {T : Table} {names : ℕ} {l a b : List ℕ} {waits level lambdas here 
 
     pub seen-two : h .subterms ≡ 2 → (level ≡ 99 → ⊥) →
         Seen T names l (set a waits (level + 1)) (set b waits lambdas) (waits + 1) (level + 1) lambdas (here + h .size) (nodes + 1)
-    unfolding head-at
+    unfolding node-at
     seen-two e not-last = record {
       inside = node .inside;
       few = omega (arith, s .few, node .onward);

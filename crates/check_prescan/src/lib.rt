@@ -1,10 +1,10 @@
 // Causes 5 to 8 of a part in one pass: whether it is exactly one term, nests within the limit, and has its variables, names and types. The loop reads one
 // node after the other; of an application whose function is read, the argument is still to come.
+use numbers::Recipe;
 use recipe_file::ENTRY_LENGTH;
-use recipe_file::Recipe;
-use term_scan::Part;
-use term::Head;
+use term::Front;
 use term::Node;
+use term_scan::Part;
 ghost use mathlib.Core.Path.{_≡_};
 ghost use mathlib.Core.Bool.{_&&_, true};
 ghost use Prim.Native.Nat.{_≤_};
@@ -85,7 +85,7 @@ pub fn glance(table: &[u8], names: usize, s: &[u8]) -> Part
     let mut here: usize = 0;
     let mut nodes: usize = 0;
     loop {
-        let Head::Is(node) = term::head_at(s, here) else {
+        let Front::Is(node) = term::node_at(s, here) else {
             return Part::NoTerm;
         };
         let tag = node.tag;

@@ -10,14 +10,14 @@ use Rattle.calculus.specs.Limits.{max-recipe-nodes}
 use Rattle.calculus.specs.Table.{TableRule}
 use Rattle.calculus.specs.Theory.Tests.{and-parts, leb-complete, leb-sound, ltb-not}
 use Rattle.recipe_file.specs.File.{bays}
-use Rattle.recipe_file.specs.Laid.{Laid}
+use Rattle.recipe_file.specs.FileRule.{FileRule}
 use Rattle.recipe_table.specs.Entries.{type-table}
 use Rattle.check_spec.specs.Bays.{cause-5, cause-6}
 use Rattle.check_bays.specs.declared.Test.the-variants.{Nesting, Scope}
 use Rattle.check_bays.specs.Terms.{bay-nodes, bay-single}
 use Rattle.check_bays.specs.Tests.{bay-passes, each-passes, passes}
 use Rattle.check_bays.specs.Standing.{all-stand, bay-annotated}
-use Rattle.check_bays.specs.Stages.{Scoped, Terms}
+use Rattle.check_bays.specs.Stages.{ScopedTerms, Terms}
 use Rattle.check_bays.proofs.Standing.{all-tests}
 use Rattle.check_recipe.specs.Refusals.{parts-refusal, terms-refusal}
 use Rattle.check_recipe.proofs.Terms.{neither}
@@ -61,7 +61,7 @@ module _ (s : List ℕ) where
       go false true d = refl
       go false false d = absurd (d refl)
 
-  module _ (l : Laid s) (r : TableRule (type-table s)) (e : terms-refusal s ≡ 0) where
+  module _ (l : FileRule s) (r : TableRule (type-table s)) (e : terms-refusal s ≡ 0) where
     pub terms-stand : Terms s
     terms-stand = neither s l r e .0
 
@@ -79,12 +79,12 @@ module _ (s : List ℕ) where
             ∙ rw (terms-stand .single, neither s l r e .1, c, leb-complete total max-recipe-nodes (terms-stand .few)) at (sym (all-tests s) ∙ f)
 
   -- none fits
-  pub none-of-parts : Laid s → TableRule (type-table s) → parts-refusal s ≡ 0 → Scoped s
+  pub none-of-parts : FileRule s → TableRule (type-table s) → parts-refusal s ≡ 0 → ScopedTerms s
   unfolding terms-refusal
   none-of-parts l r e = go (cause-5 s) refl (cause-6 s) refl (each-passes s Scope) refl (sym terms-first ∙ e)
     where
       go : (a : Bool) → cause-5 s ≡ a → (b : Bool) → cause-6 s ≡ b → (c : Bool) → each-passes s Scope ≡ c
-          → _≡_ {A = ℕ} (cond a 5 (cond b 6 (cond (not c) 7 (cond (not annotated) 8 0)))) 0 → Scoped s
+          → _≡_ {A = ℕ} (cond a 5 (cond b 6 (cond (not c) 7 (cond (not annotated) 8 0)))) 0 → ScopedTerms s
       go false p false q true w z = let (t, n) = neither s l r (rw (p, q) refl) in record { terms = t; shallow = n; scope = w }
       go false p false q false w z = absurd (omega arith)
       go false p true q c w z = absurd (omega arith)

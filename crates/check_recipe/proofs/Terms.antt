@@ -10,7 +10,7 @@ use Rattle.calculus.specs.Limits.{max-recipe-nodes}
 use Rattle.calculus.specs.Table.{TableRule}
 use Rattle.calculus.specs.Theory.Tests.{clash, ltb-complete, ltb-false, ltb-not}
 use Rattle.recipe_file.specs.File.{bays}
-use Rattle.recipe_file.specs.Laid.{Laid}
+use Rattle.recipe_file.specs.FileRule.{FileRule}
 use Rattle.term_scan.specs.declared.Part.the-variants.{Nodes, NoTerm}
 use Rattle.recipe_table.specs.Entries.{type-table}
 use Rattle.check_spec.specs.Bays.{cause-5, cause-6}
@@ -57,7 +57,7 @@ module _ (s : List ℕ) where
         or true = refl
         or false = refl
 
-    pub terms-known : Laid s → TableRule (type-table s) → n ≤ max-recipe-nodes → Terms s
+    pub terms-known : FileRule s → TableRule (type-table s) → n ≤ max-recipe-nodes → Terms s
     terms-known l r m = let (p, q) = counted n e in record { laid = l; rule = r; single = p; few = omega arith }
 
     module _ (m : n ≤ max-recipe-nodes) (t : Bool) (f : t ≡ each-passes s Nesting) where
@@ -68,7 +68,7 @@ module _ (s : List ℕ) where
       none-fits z = let (p, q) = counted n e in rw (by-tests, p, q, ← f, z, ltb-not max-recipe-nodes n m) refl
 
 -- where neither fits
-pub neither : (s : List ℕ) → Laid s → TableRule (type-table s) → terms-refusal s ≡ 0 → Terms s × (each-passes s Nesting ≡ true)
+pub neither : (s : List ℕ) → FileRule s → TableRule (type-table s) → terms-refusal s ≡ 0 → Terms s × (each-passes s Nesting ≡ true)
 neither s l r e = go (single s) refl (each-passes s Nesting) refl (ltb max-recipe-nodes (total s)) refl (sym (by-tests s) ∙ e)
   where
     go : (a : Bool) → single s ≡ a → (b : Bool) → each-passes s Nesting ≡ b → (c : Bool) → ltb max-recipe-nodes (total s) ≡ c

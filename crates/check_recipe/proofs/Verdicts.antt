@@ -11,7 +11,7 @@ use Rattle.calculus.specs.Verdict.{annotated, is-many, linear, on-number, scope
 use Rattle.calculus.specs.Theory.Tests.{eqb-differ}
 use Rattle.calculus.specs.Theory.Tabulate.{every-tabulate, length-tabulate}
 use Rattle.recipe_file.specs.File.{bays, cause-1, cause-2, cause-3}
-use Rattle.recipe_file.specs.Laid.{Laid}
+use Rattle.recipe_file.specs.FileRule.{FileRule}
 use Rattle.recipe_table.specs.Entries.{cause-4, table-refusal, type-table}
 use Rattle.recipe_table.proofs.Tables.{table-admitted-iff}
 use Rattle.check_spec.specs.declared.Verdict.{Verdict}
@@ -21,7 +21,7 @@ use Rattle.check_bays.specs.declared.BayTypes.{BayTypes}
 use Rattle.check_bays.specs.declared.Test.the-variants.{Scope}
 use Rattle.check_bays.specs.Tests.{bay-passes, each-passes, passes}
 use Rattle.check_bays.specs.Standing.{bay-annotated}
-use Rattle.check_bays.specs.Stages.{Scoped}
+use Rattle.check_bays.specs.Stages.{ScopedTerms}
 use Rattle.check_bays.specs.Numbers.{bay-linear, bay-number, has-many, has-type, Numbered}
 use Rattle.check_recipe.specs.Refusals.{parts-refusal}
 use Rattle.check_recipe.proofs.Parts.{none-of-parts}
@@ -102,14 +102,14 @@ module _ (s : List ℕ) (file : ℕ) (e : file ≡ table-refusal s) where
   pub file-refused : (file ≡ 0 → ⊥) → refused file ≡ verdict-of s
   file-refused d = refused-is s file (by-causes s ∙ first-some _ _ (λ z. d (e ∙ z)) ∙ sym e) d
 
-  pub filed : file ≡ 0 → Laid s × TableRule (type-table s)
+  pub filed : file ≡ 0 → FileRule s × TableRule (type-table s)
   filed z = table-admitted-iff s .0 (sym e ∙ z)
 
 -- The parts
 
 -- no cause up to 8 fits
 pub record Admitted (s : List ℕ) : Type 0 where
-  pub scoped : Scoped s
+  pub scoped : ScopedTerms s
   pub rest : refusal s ≡ late (typed s) (kept s) (many s)
 
 module _ (s : List ℕ) (file : ℕ) (e : file ≡ table-refusal s) (z : file ≡ 0) (parts : ℕ) (f : parts ≡ parts-refusal s) where

@@ -1,14 +1,14 @@
 // Checking a recipe file: each cause over the whole file before the next, and the lowest number is answered.
 ghost use mathlib.Core.Path.{_≡_};
 ghost use Rattle.calculus.specs.Table.{TableRule};
-ghost use Rattle.recipe_file.specs.Laid.{Laid};
+ghost use Rattle.recipe_file.specs.FileRule.{FileRule};
 ghost use Rattle.recipe_table.specs.Entries.{type-table};
 ghost use Rattle.check_spec.specs.Verdict.{refused, verdict-of};
 ghost use Rattle.check_recipe.specs.Refusals.{parts-refusal, terms-refusal};
 use check_bays::Test;
-use recipe_file::Recipe;
-use term_scan::Part;
 use check_spec::Verdict;
+use numbers::Recipe;
+use term_scan::Part;
 
 // A refusal has its number and nothing else.
 fn refused(number: u8) -> Verdict
@@ -23,7 +23,7 @@ fn refused(number: u8) -> Verdict
 
 // Causes 5 and 6: the number of the lower one that fits, or 0.
 fn terms_refusal(recipe: &[u8]) -> u8
-    requires { ⌜ Laid (now recipe) × TableRule (type-table (now recipe)) ⌝ }
+    requires { ⌜ FileRule (now recipe) × TableRule (type-table (now recipe)) ⌝ }
     ensures { λ r. ⌜ r ≡ terms-refusal (now (recipe .entry)) ⌝ }
 {
     let Part::Nodes(nodes) = check_bays::count_nodes(recipe) else {
@@ -40,7 +40,7 @@ fn terms_refusal(recipe: &[u8]) -> u8
 
 // Causes 5 to 8: the number of the lowest that fits, or 0. One pass decides whether one fits; only then is it sought.
 fn parts_refusal(recipe: &[u8]) -> u8
-    requires { ⌜ Laid (now recipe) × TableRule (type-table (now recipe)) ⌝ }
+    requires { ⌜ FileRule (now recipe) × TableRule (type-table (now recipe)) ⌝ }
     ensures { λ r. ⌜ r ≡ parts-refusal (now (recipe .entry)) ⌝ }
 {
     if check_bays::each_stands(recipe) {

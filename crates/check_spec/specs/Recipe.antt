@@ -13,9 +13,9 @@ use Rattle.calculus.specs.Limits.{max-nesting, max-recipe-nodes}
 use Rattle.calculus.specs.Image.{nodes-all}
 use Rattle.calculus.specs.Table.{Table, TableRule, type-at}
 use Rattle.calculus.specs.Recipe.{setting-types}
-use Rattle.term.specs.Expressions.{bytes, Fits, nesting}
+use Rattle.term.specs.Expressions.{bytes, FitsBytes, nesting}
 use Rattle.recipe_file.specs.File.{bays, table-bytes, term-bytes}
-use Rattle.recipe_file.specs.Laid.{Laid}
+use Rattle.recipe_file.specs.FileRule.{FileRule}
 
 -- document 01, "entries of three bytes: kind, p, q"
 unfoldable pub entry-bytes : Table → List ℕ
@@ -28,13 +28,13 @@ Derived T b e = (α : LinType) × Derivation (type-at T) (setting-types b) [] e 
 
 pub record Recipe (s : List ℕ) (T : Table) (es : List Exp) : Type 0 where
   -- causes 1 to 3: the layout and its limits
-  pub laid : Laid s
+  pub laid : FileRule s
   -- cause 4: the first part is the table, and it keeps its rule
   pub table : table-bytes s ≡ entry-bytes T
   pub table-rule : TableRule T
   -- cause 5: each other part is the bytes of an expression that the node forms can write
   pub count : length es ≡ bays s
-  pub terms : (bay : ℕ) (e : Exp) → at es bay ≡ some e → (term-bytes s bay ≡ bytes e) × Fits e
+  pub terms : (bay : ℕ) (e : Exp) → at es bay ≡ some e → (term-bytes s bay ≡ bytes e) × FitsBytes e
   -- cause 6: nesting, and nodes over all terms
   pub shallow : (bay : ℕ) (e : Exp) → at es bay ≡ some e → nesting e ≤ max-nesting
   pub few-nodes : nodes-all (map thread-of es) ≤ max-recipe-nodes

@@ -24,18 +24,18 @@ unfoldable pub number-in : Option ℕ → ℕ
 number-in none = 0
 number-in (some n) = n
 
-unfoldable pub bay-type : List ℕ → ℕ → ℕ
-bay-type s bay = cond (ltb bay (bays s)) (number-in (type-number (type-table s) [] (bay-term s bay))) 0
+unfoldable pub bay-type-number : List ℕ → ℕ → ℕ
+bay-type-number s bay = cond (ltb bay (bays s)) (number-in (type-number (type-table s) [] (bay-term s bay))) 0
 
-unfoldable pub bay-types : List ℕ → List ℕ
-bay-types s = tabulate max-bays (bay-type s)
+unfoldable pub bay-type-numbers : List ℕ → List ℕ
+bay-type-numbers s = tabulate max-bays (bay-type-number s)
 
 -- a refusal has its number and nothing else
 abbrev pub refused : ℕ → Verdict
 refused number = record { refusal = number; bays = 0; types = replicate max-bays 0 }
 
 abbrev pub accepted : List ℕ → Verdict
-accepted s = record { refusal = 0; bays = bays s; types = bay-types s }
+accepted s = record { refusal = 0; bays = bays s; types = bay-type-numbers s }
 
 -- what checking a file answers
 unfoldable pub verdict-of : List ℕ → Verdict

@@ -9,24 +9,24 @@ use lib.ListN.{getD}
 use Rattle.calculus.specs.Limits.{byte-values}
 use Rattle.calculus.specs.Syntax.{const, Exp, name, num, Op, cell, exch, thread, handle, op, unit, var}
 use Rattle.calculus.specs.Verdict.{const-number, scoped, scoped-const, type-number}
-use Rattle.term.specs.Expressions.{leaf-exp, leaves}
-use Rattle.check_types.specs.Walk.{environment, HasNumber, Scoped}
+use Rattle.term.specs.Expressions.{leaf-exp, leaf-forms}
+use Rattle.check_types.specs.Walk.{environment, HasNumber, ScopedExp}
 use Rattle.check_types.proofs.Environments.{environment-at}
 
 variable-leaf : (tag arg : ℕ) → tag ≡ 0 → leaf-exp tag arg ≡ var arg
-unfolding leaf-exp leaves
+unfolding leaf-exp leaf-forms
 variable-leaf tag arg e = rw e refl
 
 num-leaf : (tag arg : ℕ) → tag ≡ 4 → leaf-exp tag arg ≡ const (num arg)
-unfolding leaf-exp leaves
+unfolding leaf-exp leaf-forms
 num-leaf tag arg e = rw e refl
 
 name-leaf : (tag arg : ℕ) → tag ≡ 9 → leaf-exp tag arg ≡ name arg
-unfolding leaf-exp leaves
+unfolding leaf-exp leaf-forms
 name-leaf tag arg e = rw e refl
 
 low-leaf : (tag arg : ℕ) → (tag ≡ 0 → ⊥) → (tag ≡ 4 → ⊥) → tag < 5 → leaf-exp tag arg ≡ const unit
-unfolding leaf-exp leaves
+unfolding leaf-exp leaf-forms
 low-leaf zero arg a b h = absurd (a refl)
 low-leaf (suc zero) arg a b h = refl
 low-leaf (suc (suc zero)) arg a b h = refl
@@ -34,11 +34,11 @@ low-leaf (suc (suc (suc zero))) arg a b h = refl
 low-leaf (suc (suc (suc (suc n)))) arg a b h = absurd (b (omega arith))
 
 high-leaf : (tag arg : ℕ) → (tag ≡ 9 → ⊥) → 8 < tag → leaf-exp tag arg ≡ const unit
-unfolding leaf-exp leaves
+unfolding leaf-exp leaf-forms
 high-leaf tag arg a h = let e : tag ≡ suc (suc (suc (suc (suc (suc (suc (suc (suc (suc (tag - 10)))))))))) = omega arith in rw e refl
 
 op-leaf : (tag arg : ℕ) → 5 ≤ tag → tag ≤ 8 → (o : Op) × (leaf-exp tag arg ≡ const (op o arg))
-unfolding leaf-exp leaves
+unfolding leaf-exp leaf-forms
 op-leaf (suc (suc (suc (suc (suc zero))))) arg l h = (cell, refl)
 op-leaf (suc (suc (suc (suc (suc (suc zero)))))) arg l h = (exch, refl)
 op-leaf (suc (suc (suc (suc (suc (suc (suc zero))))))) arg l h = (thread, refl)
@@ -50,7 +50,7 @@ op-leaf (suc (suc zero)) arg l h = absurd (omega arith)
 op-leaf (suc (suc (suc zero))) arg l h = absurd (omega arith)
 op-leaf (suc (suc (suc (suc zero)))) arg l h = absurd (omega arith)
 
-module _ (tag arg count above : ℕ) (s : Scoped count above (leaf-exp tag arg)) where
+module _ (tag arg count above : ℕ) (s : ScopedExp count above (leaf-exp tag arg)) where
   scope : (e : Exp) → leaf-exp tag arg ≡ e → scoped count (s .names) above e ≡ true
   scope e is = subst (λ x. scoped count (s .names) above x ≡ true) is (s .scope)
 

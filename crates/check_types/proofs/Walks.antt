@@ -19,28 +19,28 @@ use Rattle.term.specs.Expressions.{leaf-exp, nesting, term-at}
 use Rattle.term.proofs.Views.{LeafAt, OneAt, past-first, TwoAt}
 use Rattle.check_types.specs.declared.Typed.the-variants.{Has, Nothing}
 use Rattle.check_types.specs.Entries.{entry-of}
-use Rattle.check_types.specs.Walk.{HasNumber, Ready, Scoped, type-at, typed}
+use Rattle.check_types.specs.Walk.{HasNumber, TypeReady, ScopedExp, typed-at, typed}
 use Rattle.check_types.proofs.Entries.{lambda-is, on-function-is, result-is}
 
 -- Scope
 
 module _ {count above : ℕ} where
-  scoped-as : {e e′ : Exp} → e ≡ e′ → Scoped count above e → Scoped count above e′
-  scoped-as is s = subst (Scoped count above) is s
+  scoped-as : {e e′ : Exp} → e ≡ e′ → ScopedExp count above e → ScopedExp count above e′
+  scoped-as is s = subst (ScopedExp count above) is s
 
-  lambda-annotation : {t : ℕ} {e : Exp} → Scoped count above (lam t e) → t < byte-values
+  lambda-annotation : {t : ℕ} {e : Exp} → ScopedExp count above (lam t e) → t < byte-values
   unfolding scoped
   lambda-annotation {t} {e} s =
       let (b, i) = and-parts (ltb t count) (scoped count (s .names) (suc above) e) (s .scope) in
       omega (arith, ltb-true t count b, s .entries)
 
-  lambda-body : {t : ℕ} {e : Exp} → Scoped count above (lam t e) → Scoped count (above + 1) e
+  lambda-body : {t : ℕ} {e : Exp} → ScopedExp count above (lam t e) → ScopedExp count (above + 1) e
   unfolding scoped nesting
   lambda-body {t} {e} s =
       let (b, i) = and-parts (ltb t count) (scoped count (s .names) (suc above) e) (s .scope) in
       record { entries = s .entries; nests = omega (arith, s .nests); names = s .names; scope = rw (add-one above) i }
 
-  applied-both : {f a : Exp} → Scoped count above (app f a) → Scoped count above f × Scoped count above a
+  applied-both : {f a : Exp} → ScopedExp count above (app f a) → ScopedExp count above f × ScopedExp count above a
   unfolding scoped nesting
   applied-both {f} {a} s =
       let (i, j) = and-parts (scoped count (s .names) above f) (scoped count (s .names) above a) (s .scope) in (
@@ -48,20 +48,20 @@ module _ {count above : ℕ} where
         record { entries = s .entries; nests = omega (arith, s .nests); names = s .names; scope = j },
       )
 
-module _ {l : List ℕ} {at count above : ℕ} {h : Node} (r : Ready l at count above) where
-  pub leaf-ready : LeafAt l at h → Scoped count above (leaf-exp (h .tag) (h .arg))
+module _ {l : List ℕ} {at count above : ℕ} {h : Node} (r : TypeReady l at count above) where
+  pub leaf-ready : LeafAt l at h → ScopedExp count above (leaf-exp (h .tag) (h .arg))
   leaf-ready o = scoped-as (o .term) (r .term)
 
-  pub body-ready : OneAt l at h → Ready l (at + h .size) count (above + 1)
+  pub body-ready : OneAt l at h → TypeReady l (at + h .size) count (above + 1)
   body-ready o = record { good = o .good; term = lambda-body (scoped-as (o .term) (r .term)) }
 
   pub annotation-byte : OneAt l at h → h .arg < byte-values
   annotation-byte o = lambda-annotation (scoped-as (o .term) (r .term))
 
-  pub function-ready : TwoAt l at h → Ready l (at + h .size) count above
+  pub function-ready : TwoAt l at h → TypeReady l (at + h .size) count above
   function-ready o = record { good = o .good; term = applied-both (scoped-as (o .term) (r .term)) .0 }
 
-  pub argument-ready : TwoAt l at h → Ready l (past-first l at h) count above
+  pub argument-ready : TwoAt l at h → TypeReady l (past-first l at h) count above
   argument-ready o = record { good = o .second; term = applied-both (scoped-as (o .term) (r .term)) .1 }
 
 -- Types
@@ -93,8 +93,8 @@ unfolding lambda-number
 body-is x t b body e = rw e refl
 
 module _ (T : Table) (Δ l : List ℕ) (at : ℕ) (h : Node) where
-  pub leaf-type : LeafAt l at h → (n : ℕ) → HasNumber Δ (leaf-exp (h .tag) (h .arg)) n → Has n (at + h .size) ≡ type-at T Δ l at
-  unfolding type-at typed
+  pub leaf-type : LeafAt l at h → (n : ℕ) → HasNumber Δ (leaf-exp (h .tag) (h .arg)) n → Has n (at + h .size) ≡ typed-at T Δ l at
+  unfolding typed-at typed
   leaf-type o n i = rw (o .term, o .ends, i .number T) refl
 
   module _ (o : OneAt l at h) where
@@ -105,18 +105,18 @@ module _ (T : Table) (Δ l : List ℕ) (at : ℕ) (h : Node) where
     unfolding type-number entry-of
     lambda = rw (o .term) (lambda-is (entry-at T (h .arg)) (h .arg) body)
 
-    pub no-lambda : on-function T (h .arg) (λ p q. true) ≡ false → Nothing ≡ type-at T Δ l at
-    unfolding type-at typed
+    pub no-lambda : on-function T (h .arg) (λ p q. true) ≡ false → Nothing ≡ typed-at T Δ l at
+    unfolding typed-at typed
     no-lambda e = rw (lambda, no-function (entry-of T (h .arg)) (h .arg) body (sym (on-function-is T (h .arg) (λ p q. true)) ∙ e)) refl
 
-    pub one-nothing : Nothing ≡ type-at T (entry-of T (h .arg) .p ∷ Δ) l (at + h .size) → Nothing ≡ type-at T Δ l at
-    unfolding type-at typed
+    pub one-nothing : Nothing ≡ typed-at T (entry-of T (h .arg) .p ∷ Δ) l (at + h .size) → Nothing ≡ typed-at T Δ l at
+    unfolding typed-at typed
     one-nothing e =
         rw (lambda, no-body (entry-of T (h .arg)) (h .arg) body (missing (body (entry-of T (h .arg) .p)) (end-at l (at + h .size)) e)) refl
 
-    pub one-type : (b end : ℕ) → Has b end ≡ type-at T (entry-of T (h .arg) .p ∷ Δ) l (at + h .size) →
-        typed (lambda-number (h .arg) (some (entry-of T (h .arg))) (λ p. some b)) end ≡ type-at T Δ l at
-    unfolding type-at
+    pub one-type : (b end : ℕ) → Has b end ≡ typed-at T (entry-of T (h .arg) .p ∷ Δ) l (at + h .size) →
+        typed (lambda-number (h .arg) (some (entry-of T (h .arg))) (λ p. some b)) end ≡ typed-at T Δ l at
+    unfolding typed-at
     one-type b end e =
         let f = found (body (entry-of T (h .arg) .p)) b (end-at l (at + h .size)) end e in
         rw (lambda, body-is (entry-of T (h .arg)) (h .arg) b body (f .number), o .ends, f .ends) refl
@@ -132,28 +132,28 @@ module _ (T : Table) (Δ l : List ℕ) (at : ℕ) (h : Node) where
     unfolding type-number
     application = rw (o .term) refl
 
-    pub two-nothing : Nothing ≡ type-at T Δ l (at + h .size) → Nothing ≡ type-at T Δ l at
-    unfolding type-at typed applied-number
+    pub two-nothing : Nothing ≡ typed-at T Δ l (at + h .size) → Nothing ≡ typed-at T Δ l at
+    unfolding typed-at typed applied-number
     two-nothing e = rw (application, missing function (past-first l at h) e) refl
 
-    module _ (f second : ℕ) (first : Has f second ≡ type-at T Δ l (at + h .size)) where
+    module _ (f second : ℕ) (first : Has f second ≡ typed-at T Δ l (at + h .size)) where
       first-found : Found function f (past-first l at h) second
-      unfolding type-at
+      unfolding typed-at
       first-found = found function f (past-first l at h) second first
 
       -- the second subterm begins where the first ends
       pub second-at : past-first l at h ≡ second
       second-at = first-found .ends
 
-      pub two-nothing-second : Nothing ≡ type-at T Δ l second → Nothing ≡ type-at T Δ l at
-      unfolding type-at typed applied-number
+      pub two-nothing-second : Nothing ≡ typed-at T Δ l second → Nothing ≡ typed-at T Δ l at
+      unfolding typed-at typed applied-number
       two-nothing-second e =
-          let e′ : Nothing ≡ type-at T Δ l (past-first l at h) = subst (λ x. Nothing ≡ type-at T Δ l x) (sym second-at) e in
+          let e′ : Nothing ≡ typed-at T Δ l (past-first l at h) = subst (λ x. Nothing ≡ typed-at T Δ l x) (sym second-at) e in
           rw (application, first-found .number, missing argument (end-at l (past-first l at h)) e′) refl
 
-      pub two-type : (a end : ℕ) → Has a end ≡ type-at T Δ l second → typed (result-number (some (entry-of T f)) a) end ≡ type-at T Δ l at
-      unfolding type-at applied-number entry-of
+      pub two-type : (a end : ℕ) → Has a end ≡ typed-at T Δ l second → typed (result-number (some (entry-of T f)) a) end ≡ typed-at T Δ l at
+      unfolding typed-at applied-number entry-of
       two-type a end e =
-          let e′ : Has a end ≡ type-at T Δ l (past-first l at h) = subst (λ x. Has a end ≡ type-at T Δ l x) (sym second-at) e in
+          let e′ : Has a end ≡ typed-at T Δ l (past-first l at h) = subst (λ x. Has a end ≡ typed-at T Δ l x) (sym second-at) e in
           let g = found argument a (end-at l (past-first l at h)) end e′ in
           rw (application, first-found .number, g .number, result-is (entry-at T f) a, o .ends, g .ends) refl

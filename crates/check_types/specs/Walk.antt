@@ -24,15 +24,15 @@ unfoldable pub typed : Option ℕ → ℕ → Typed
 typed none end = Nothing
 typed (some n) end = Has n end
 
-unfoldable pub type-at : Table → List ℕ → List ℕ → ℕ → Typed
-type-at T Δ l at = typed (type-number T Δ (term-at l at)) (end-at l at)
+unfoldable pub typed-at : Table → List ℕ → List ℕ → ℕ → Typed
+typed-at T Δ l at = typed (type-number T Δ (term-at l at)) (end-at l at)
 
 -- an expression whose type has number n by any table
 pub record HasNumber (Δ : List ℕ) (e : Exp) (n : ℕ) : Type 0 where
   pub number : (T : Table) → type-number T Δ e ≡ some n
 
 -- an expression under `above` lambdas to which no cause below 8 fits; the table has `count` entries
-pub record Scoped (count above : ℕ) (e : Exp) : Type 0 where
+pub record ScopedExp (count above : ℕ) (e : Exp) : Type 0 where
   pub entries : count ≤ max-entries
   pub nests : above + nesting e ≤ max-nesting
   pub names : ℕ
@@ -41,9 +41,9 @@ pub record Scoped (count above : ℕ) (e : Exp) : Type 0 where
 -- the same, whatever the number of entries
 pub record LeafScoped (above : ℕ) (e : Exp) : Type 0 where
   pub count : ℕ
-  pub scoped : Scoped count above e
+  pub scoped : ScopedExp count above e
 
 -- at a position stands such a term
-pub record Ready (l : List ℕ) (at count above : ℕ) : Type 0 where
+pub record TypeReady (l : List ℕ) (at count above : ℕ) : Type 0 where
   pub good : GoodAt l at
-  pub term : Scoped count above (term-at l at)
+  pub term : ScopedExp count above (term-at l at)

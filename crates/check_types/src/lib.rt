@@ -1,6 +1,7 @@
 // The type of a term from those of its subterms, with the parameter types of the lambdas around.
+use numbers::Recipe;
+use numbers::Type;
 use recipe_file::ENTRY_LENGTH;
-use recipe_file::Recipe;
 use recipe_table::Entry;
 use term::Node;
 ghost use mathlib.Core.Path.{_≡_};
@@ -20,25 +21,11 @@ pub enum Typed {
     Nothing,
 }
 
-impl Typed {
-    // Document 01: "Entries 0, 1, 2 are unit, num, cell of num".
-    pub const UNIT: u8 = 0;
-
-    pub const NUM: u8 = 1;
-
-    pub const SETTING: u8 = 2;
-
-    // Document 01, kinds of entries: "3 function from p to q usable once, 4 function from p to q usable many times".
-    pub const ONCE: u8 = 3;
-
-    pub const MANY: u8 = 4;
-}
-
 // An entry of this kind is a function.
 pub fn is_function(kind: u8) -> bool
     ensures { λ r. ⌜ r ≡ is-function-kind kind ⌝ }
 {
-    kind == Typed::ONCE || kind == Typed::MANY
+    kind == Type::ONCE || kind == Type::MANY
 }
 
 // The entry with a number, in the bytes of a table; where there is none, an unused one.
@@ -68,7 +55,7 @@ pub fn many_at(table: &[u8], t: usize) -> bool
 {
     let at = ENTRY_LENGTH * t;
     if at + 2 < table.len() {
-        return table[at] != Typed::ONCE;
+        return table[at] != Type::ONCE;
     }
     false
 }
@@ -83,16 +70,16 @@ pub fn leaf_type(tag: u8, arg: usize, env: &[u8; Recipe::MAX_NESTING], above: us
         return env[i];
     }
     if tag == Node::NUM {
-        return Typed::NUM;
+        return Type::NUM_ENTRY;
     }
     if tag == Node::NAME {
-        return Typed::SETTING;
+        return Type::SETTING_ENTRY;
     }
     if tag < Node::CELL {
-        return Typed::UNIT;
+        return Type::UNIT_ENTRY;
     }
     if Node::HANDLE < tag {
-        return Typed::UNIT;
+        return Type::UNIT_ENTRY;
     }
     arg as u8
 }

@@ -18,7 +18,7 @@ use Rattle.recipe_table.specs.Filled.{as-entry}
 use Rattle.check_types.specs.declared.Typed.{Typed}
 use Rattle.check_types.specs.declared.Typed.the-variants as typing
 use Rattle.check_types.specs.Entries.{entry-of}
-use Rattle.check_types.specs.Walk.{environment, HasNumber, type-at, typed}
+use Rattle.check_types.specs.Walk.{environment, HasNumber, typed-at, typed}
 use Rattle.check_types.proofs.Environments.{environment-more}
 use Rattle.check_types.proofs.Walks.{leaf-type, no-lambda, one-nothing, one-type, second-at, two-nothing, two-nothing-second, two-type}
 use Rattle.check_walk.specs.declared.Walked.{Walked as Answer}
@@ -29,11 +29,11 @@ use Rattle.check_walk.proofs.Codes.{all-coded, known-code, no-function-
 use Rattle.check_walk.proofs.Walks.{application-spent, lambda-spent, leaf-spent, whole-spent}
 
 module _ {T : calculus.Table} {s : List ℕ} {at above floor : ℕ} {env marks : List ℕ} where
-  nothing-at : {env′ marks′ : List ℕ} → typing.Nothing ≡ type-at T (environment above env) s at → WalkedAt T s at above floor env env′ marks marks′ Nothing
+  nothing-at : {env′ marks′ : List ℕ} → typing.Nothing ≡ typed-at T (environment above env) s at → WalkedAt T s at above floor env env′ marks marks′ Nothing
   unfolding types-in
   nothing-at e = record { types = e; left = λ n end kept q. absurd (clash (cc)) }
 
-  has-at : {env′ marks′ : List ℕ} {n end : ℕ} {k : Bool} → typing.Has n end ≡ type-at T (environment above env) s at →
+  has-at : {env′ marks′ : List ℕ} {n end : ℕ} {k : Bool} → typing.Has n end ≡ typed-at T (environment above env) s at →
       Left T s at above floor env env′ marks marks′ end k → WalkedAt T s at above floor env env′ marks marks′ (Has n end k)
   unfolding types-in
   has-at {end = end} {k = k} e l = record {
@@ -46,7 +46,7 @@ module _ {T : calculus.Table} {s : List ℕ} {at above floor : ℕ} {env marks :
 
   -- a type that was found, with its uses
   found-at : {env′ marks′ : List ℕ} (f : Typed) (end : ℕ) (k : Bool) (o : Option ℕ) {r : Answer} → r ≡ with-uses f k → f ≡ typed o end →
-      f ≡ type-at T (environment above env) s at → Left T s at above floor env env′ marks marks′ end k → WalkedAt T s at above floor env env′ marks marks′ r
+      f ≡ typed-at T (environment above env) s at → Left T s at above floor env env′ marks marks′ end k → WalkedAt T s at above floor env env′ marks marks′ r
   unfolding with-uses typed
   found-at typing.Nothing end k o q p e l = rw q (nothing-at e)
   found-at (typing.Has n last) end k none q p e l = absurd (clash (cc))
@@ -54,12 +54,12 @@ module _ {T : calculus.Table} {s : List ℕ} {at above floor : ℕ} {env marks :
 
 -- what a sub-walk answers
 type-of : {T : calculus.Table} {s : List ℕ} {at above floor : ℕ} {env env′ marks marks′ : List ℕ} {r : Answer} {n end : ℕ} {k : Bool} →
-    WalkedAt T s at above floor env env′ marks marks′ r → r ≡ Has n end k → typing.Has n end ≡ type-at T (environment above env) s at
+    WalkedAt T s at above floor env env′ marks marks′ r → r ≡ Has n end k → typing.Has n end ≡ typed-at T (environment above env) s at
 unfolding types-in
 type-of w e = sym (ap types-in e) ∙ w .types
 
 none-of : {T : calculus.Table} {s : List ℕ} {at above floor : ℕ} {env env′ marks marks′ : List ℕ} {r : Answer} →
-    WalkedAt T s at above floor env env′ marks marks′ r → r ≡ Nothing → typing.Nothing ≡ type-at T (environment above env) s at
+    WalkedAt T s at above floor env env′ marks marks′ r → r ≡ Nothing → typing.Nothing ≡ typed-at T (environment above env) s at
 unfolding types-in
 none-of w e = sym (ap types-in e) ∙ w .types
 
@@ -82,7 +82,7 @@ module _ (T : calculus.Table) (s : List ℕ) (at above floor : ℕ) (env marks :
       inner = environment-more above env (x .p) room ∙ ap (λ (y : calculus.Entry). y .p ∷ environment above env) entry
 
       pub walked-no-body : {env′ marks′ : List ℕ} → r ≡ Nothing → WalkedAt T s at above floor env env′ marks marks′ Nothing
-      walked-no-body e = nothing-at (one-nothing T (environment above env) s at h o (none-of w e ∙ ap (λ (y : List ℕ). type-at T y s (at + h .size)) inner))
+      walked-no-body e = nothing-at (one-nothing T (environment above env) s at h o (none-of w e ∙ ap (λ (y : List ℕ). typed-at T y s (at + h .size)) inner))
 
       module _ (b end : ℕ) (k : Bool) (e : r ≡ Has b end k) (some-code : ¬ (code ≡ 0)) (is-under : under ≡ code-floor code floor above)
           (is-mark : mark ≡ code-mark code) (low : floor ≤ above) (space : above < length marks) where
@@ -98,7 +98,7 @@ module _ (T : calculus.Table) (s : List ℕ) (at above floor : ℕ) (env marks :
             let t : f ≡ typed (lambda-number (h .arg) (some (entry-of T (h .arg))) (λ p. some b)) end =
             p ∙ ap (λ (y : calculus.Entry). typed (lambda-number (h .arg) (some y) (λ p. some b)) end) entry in
             found-at f end last _ q t
-            (t ∙ one-type T (environment above env) s at h o b end (type-of w e ∙ ap (λ (y : List ℕ). type-at T y s (at + h .size)) inner))
+            (t ∙ one-type T (environment above env) s at h o b end (type-of w e ∙ ap (λ (y : List ℕ). typed-at T y s (at + h .size)) inner))
             (record {
               spent = rw l (lambda-spent o coded some-code above floor is-under is-mark marks k end (w .left _ _ _ e .spent) low space);
               around = around;
@@ -115,8 +115,8 @@ module _ (T : calculus.Table) (s : List ℕ) (at above floor : ℕ) (env marks :
       second-is = second-at T (environment above env) s at h o f second (type-of w e)
 
       module _ (env₂ marks₂ : List ℕ) {r₂ : Answer} (v : WalkedAt T s second above floor env₁ env₂ marks₁ marks₂ r₂) where
-        outer : (y : Typed) → y ≡ type-at T (environment above env₁) s second → y ≡ type-at T (environment above env) s second
-        outer y q = q ∙ ap (λ (Δ : List ℕ). type-at T Δ s second) (w .left _ _ _ e .around)
+        outer : (y : Typed) → y ≡ typed-at T (environment above env₁) s second → y ≡ typed-at T (environment above env) s second
+        outer y q = q ∙ ap (λ (Δ : List ℕ). typed-at T Δ s second) (w .left _ _ _ e .around)
 
         pub walked-no-second : {env′ marks′ : List ℕ} → r₂ ≡ Nothing → WalkedAt T s at above floor env env′ marks marks′ Nothing
         walked-no-second q = nothing-at (two-nothing-second T (environment above env) s at h o f second (type-of w e) (outer _ (none-of v q)))

@@ -11,11 +11,11 @@ use Rattle.calculus.specs.Verdict.{linear}
 use Rattle.calculus.specs.Theory.Tests.{eqb-complete, eqb-sound}
 use Rattle.term.specs.declared.Node.{Node}
 use Rattle.term.specs.Reader.{end-at}
-use Rattle.term.specs.Expressions.{leaf-exp, leaves, term-at}
+use Rattle.term.specs.Expressions.{leaf-exp, leaf-forms, term-at}
 use Rattle.term.proofs.Table.{every-at}
 use Rattle.term.proofs.Views.{LeafAt, OneAt, TwoAt}
 use Rattle.check_linearity.specs.Spend.{new-mark}
-use Rattle.check_linearity.specs.Levels.{floor-under, Walked}
+use Rattle.check_linearity.specs.Levels.{floor-under, LinearWalk}
 use Rattle.check_linearity.specs.Theory.Walks.{walked-application, walked-body, walked-const, walked-function, walked-lambda, walked-name, walked-unused, walked-whole}
 use Rattle.check_walk.specs.Codes.{lambda-code, code-mark, code-floor, Codes}
 use Rattle.check_walk.specs.Walk.{keeps, LeafSpent, Spent, Broken, To, spent-of, SpentAt}
@@ -31,21 +31,21 @@ is-still (lam t e) = false
 is-still (app f a) = false
 
 leaf-still : (tag arg : ℕ) → ¬ (tag ≡ 0) → T (is-still (leaf-exp tag arg))
-unfolding leaf-exp leaves
+unfolding leaf-exp leaf-forms
 leaf-still zero arg n = absurd (n refl)
-leaf-still (suc tag) arg n = every-at is-still (drop 1 (leaves arg)) (const unit) tt tt tag
+leaf-still (suc tag) arg n = every-at is-still (drop 1 (leaf-forms arg)) (const unit) tt tt tag
 
 pub still-leaf : (tag arg : ℕ) {above floor : ℕ} {marks : List ℕ} → ¬ (tag ≡ 0) → LeafSpent tag arg above floor marks marks true
 still-leaf tag arg {above} {floor} {marks} n = record { walked = λ types. go types (leaf-exp tag arg) (leaf-still tag arg n); same = refl }
   where
-    go : (types : Table) (e : Exp) → T (is-still e) → Walked types floor above marks e true marks
+    go : (types : Table) (e : Exp) → T (is-still e) → LinearWalk types floor above marks e true marks
     go types (var i) t = absurd t
     go types (name k) t = walked-name k
     go types (const c) t = walked-const c
     go types (lam t e) x = absurd x
     go types (app f a) t = absurd t
 
-pub variable-leaf : (tag arg : ℕ) {above floor : ℕ} {marks marks′ : List ℕ} {k : Bool} → tag ≡ 0 → ((T : Table) → Walked T floor above marks (var arg) k marks′) →
+pub variable-leaf : (tag arg : ℕ) {above floor : ℕ} {marks marks′ : List ℕ} {k : Bool} → tag ≡ 0 → ((T : Table) → LinearWalk T floor above marks (var arg) k marks′) →
     length marks′ ≡ length marks → LeafSpent tag arg above floor marks marks′ k
 variable-leaf tag arg z w same = record { walked = λ T. rw (leaf-variable tag arg z) (w T); same = same }
 
@@ -59,13 +59,13 @@ unfolding keeps
 is-broken e = ap keeps e
 
 broken : {codes s : List ℕ} {at above floor : ℕ} {marks marks′ : List ℕ} →
-    ((T : Table) → Codes T codes → Walked T floor above marks (term-at s at) false marks′) → length marks′ ≡ length marks →
+    ((T : Table) → Codes T codes → LinearWalk T floor above marks (term-at s at) false marks′) → length marks′ ≡ length marks →
     SpentAt codes s at above floor marks marks′ Broken
 unfolding keeps
 broken w same = record { walked = w; ends = λ end e. absurd (false≢true (is-kept e)); same = same }
 
 kept : {codes s : List ℕ} {at above floor end : ℕ} {marks marks′ : List ℕ} →
-    ((T : Table) → Codes T codes → Walked T floor above marks (term-at s at) true marks′) → end ≡ end-at s at → length marks′ ≡ length marks →
+    ((T : Table) → Codes T codes → LinearWalk T floor above marks (term-at s at) true marks′) → end ≡ end-at s at → length marks′ ≡ length marks →
     SpentAt codes s at above floor marks marks′ (To end)
 unfolding keeps
 kept {end = end} w e same = record { walked = w; ends = λ last q. let z : last ≡ end = cc in z ∙ e; same = same }
@@ -111,7 +111,7 @@ module _ {codes s : List ℕ} {at : ℕ} {h : Node} {code : ℕ} (o : OneAt s at
 
   module _ (above floor : ℕ) {under mark : ℕ} (is-under : under ≡ code-floor code floor above) (is-mark : mark ≡ code-mark code) (marks : List ℕ) {marks₁ : List ℕ} {r : Spent}
       (w : SpentAt codes s (at + h .size) (above + 1) under (set marks above mark) marks₁ r) where
-    body : (T : Table) (is : Codes T codes) → Walked T (floor-under (function T is .entry .kind) floor above) (above + 1)
+    body : (T : Table) (is : Codes T codes) → LinearWalk T (floor-under (function T is .entry .kind) floor above) (above + 1)
         (set marks above (new-mark T (function T is .entry .p))) (term-at s (at + h .size)) (keeps r) marks₁
     body T is =
         let f = function T is in

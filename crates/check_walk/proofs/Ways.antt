@@ -12,16 +12,16 @@ use Rattle.calculus.specs.Syntax.{var}
 use Rattle.calculus.specs.Verdict.{scoped}
 use Rattle.calculus.specs.Theory.Tests.{and-parts, ltb-sound}
 use Rattle.term.specs.declared.Node.{Node}
-use Rattle.term.specs.Expressions.{leaf-exp, leaves, nesting, term-at}
+use Rattle.term.specs.Expressions.{leaf-exp, leaf-forms, nesting, term-at}
 use Rattle.term.proofs.Views.{LeafAt, OneAt, past-first, TwoAt}
 use Rattle.check_types.specs.Walk.{LeafScoped}
-use Rattle.check_walk.specs.Walk.{InScope, Ready, Whole}
+use Rattle.check_walk.specs.Walk.{InScope, WalkReady, Whole}
 
 pub leaf-variable : (tag arg : ℕ) → tag ≡ 0 → leaf-exp tag arg ≡ var arg
-unfolding leaf-exp leaves
+unfolding leaf-exp leaf-forms
 leaf-variable tag arg z = rw z
 
-pub ready-whole : {s env marks : List ℕ} → Whole s → length env ≡ max-nesting → length marks ≡ max-nesting → Ready s 0 0 0 env marks
+pub ready-whole : {s env marks : List ℕ} → Whole s → length env ≡ max-nesting → length marks ≡ max-nesting → WalkReady s 0 0 0 env marks
 ready-whole w wide long = record {
   good = w .good;
   shallow = omega (arith, w .shallow);
@@ -34,7 +34,7 @@ ready-whole w wide long = record {
   long = long;
 }
 
-module _ {s : List ℕ} {at above floor : ℕ} {env marks : List ℕ} {h : Node} (r : Ready s at above floor env marks) where
+module _ {s : List ℕ} {at above floor : ℕ} {env marks : List ℕ} {h : Node} (r : WalkReady s at above floor env marks) where
   -- a node with no subterm
   pub leaf-scope : LeafAt s at h → InScope (h .tag) (h .arg) above marks
   unfolding scoped
@@ -67,7 +67,7 @@ module _ {s : List ℕ} {at above floor : ℕ} {env marks : List ℕ} {h : Node}
     level-below = omega (arith, r .shallow, body-nesting)
 
     pub ready-body : {under : ℕ} {env′ marks′ : List ℕ} → under ≤ above + 1 → length env′ ≡ length env → length marks′ ≡ length marks →
-        Ready s (at + h .size) (above + 1) under env′ marks′
+        WalkReady s (at + h .size) (above + 1) under env′ marks′
     ready-body low wide same = record {
       good = o .good;
       shallow = omega (arith, r .shallow, body-nesting);
@@ -90,7 +90,7 @@ module _ {s : List ℕ} {at above floor : ℕ} {env marks : List ℕ} {h : Node}
     unfolding nesting
     both-nesting = ap nesting (o .term)
 
-    pub ready-function : Ready s (at + h .size) above floor env marks
+    pub ready-function : WalkReady s (at + h .size) above floor env marks
     ready-function = record {
       good = o .good;
       shallow = omega (arith, r .shallow, both-nesting);
@@ -104,7 +104,7 @@ module _ {s : List ℕ} {at above floor : ℕ} {env marks : List ℕ} {h : Node}
     }
 
     pub ready-argument : {second : ℕ} {env′ marks′ : List ℕ} → second ≡ past-first s at h → length env′ ≡ length env → length marks′ ≡ length marks →
-        Ready s second above floor env′ marks′
+        WalkReady s second above floor env′ marks′
     ready-argument e wide same = rw e record {
       good = o .second;
       shallow = omega (arith, r .shallow, both-nesting);

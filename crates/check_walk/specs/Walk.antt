@@ -9,16 +9,16 @@ use Rattle.calculus.specs.Table.{Table}
 use Rattle.calculus.specs.Verdict as calculus
 use Rattle.term.specs.Reader.{end-at, GoodAt}
 use Rattle.term.specs.Expressions.{leaf-exp, nesting, term-at}
-use Rattle.check_linearity.specs.Levels.{Walked}
+use Rattle.check_linearity.specs.Levels.{LinearWalk}
 use Rattle.check_types.specs.declared.Typed.{Typed}
 use Rattle.check_types.specs.declared.Typed.the-variants as typing
-use Rattle.check_types.specs.Walk.{environment, type-at}
+use Rattle.check_types.specs.Walk.{environment, typed-at}
 use Rattle.check_walk.specs.declared.Walked.{Walked as Answer}
 use Rattle.check_walk.specs.declared.Walked.the-variants.{Has, Nothing}
 use Rattle.check_walk.specs.Codes.{all-codes, Codes}
 
 -- a term stands at a position, below `above` lambdas whose marks are there; causes 6 and 7 do not fit it
-pub record Ready (s : List ℕ) (at above floor : ℕ) (env marks : List ℕ) : Type 0 where
+pub record WalkReady (s : List ℕ) (at above floor : ℕ) (env marks : List ℕ) : Type 0 where
   pub good : GoodAt s at
   pub shallow : above + nesting (term-at s at) ≤ max-nesting
   pub types : ℕ
@@ -46,7 +46,7 @@ pub record InScope (tag arg above : ℕ) (marks : List ℕ) : Type 0 where
 
 -- what it makes of the marks, with any table
 pub record LeafSpent (tag arg above floor : ℕ) (marks marks′ : List ℕ) (keeps : Bool) : Type 0 where
-  pub walked : (T : Table) → Walked T floor above marks (leaf-exp tag arg) keeps marks′
+  pub walked : (T : Table) → LinearWalk T floor above marks (leaf-exp tag arg) keeps marks′
   pub same : length marks′ ≡ length marks
 
 -- a term keeps the rule and ends somewhere, or breaks it
@@ -64,7 +64,7 @@ spent-of false end = Broken
 
 -- what the marks are after the term at a position, with every table that has these codes
 pub record SpentAt (codes s : List ℕ) (at above floor : ℕ) (marks marks′ : List ℕ) (r : Spent) : Type 0 where
-  pub walked : (T : Table) → Codes T codes → Walked T floor above marks (term-at s at) (keeps r) marks′
+  pub walked : (T : Table) → Codes T codes → LinearWalk T floor above marks (term-at s at) (keeps r) marks′
   pub ends : (end : ℕ) → r ≡ To end → end ≡ end-at s at
   pub same : length marks′ ≡ length marks
 
@@ -85,10 +85,10 @@ pub record Left (T : Table) (s : List ℕ) (at above floor : ℕ) (env env′ ma
 
 -- what the walk answers of the term at a position: its type, and whether cause 10 does not fit
 pub record WalkedAt (T : Table) (s : List ℕ) (at above floor : ℕ) (env env′ marks marks′ : List ℕ) (r : Answer) : Type 0 where
-  pub types : types-in r ≡ type-at T (environment above env) s at
+  pub types : types-in r ≡ typed-at T (environment above env) s at
   pub left : (n end : ℕ) (kept : Bool) → r ≡ Has n end kept → Left T s at above floor env env′ marks marks′ end kept
 
 -- the same of the term that a part is
 pub record Decides (T : Table) (s : List ℕ) (r : Answer) : Type 0 where
-  pub types : types-in r ≡ type-at T [] s 0
+  pub types : types-in r ≡ typed-at T [] s 0
   pub uses : (n end : ℕ) (kept : Bool) → r ≡ Has n end kept → kept ≡ calculus.linear T (term-at s 0)

@@ -9,12 +9,13 @@ ghost use Rattle.check_linearity.specs.Spend.{due-mark, many-mark};
 ghost use Rattle.recipe_table.specs.Entries.{table-of};
 ghost use Rattle.recipe_table.specs.Filled.{as-entry};
 ghost use Rattle.check_walk.specs.Codes.{code-floor, code-mark, code-of, function-code};
-ghost use Rattle.check_walk.specs.Walk.{Decides, InScope, LeafSpent, Ready, WalkedAt, Whole, with-uses};
-use recipe_file::Recipe;
-use recipe_table::Entry;
-use term::Head;
-use term::Node;
+ghost use Rattle.check_walk.specs.Walk.{Decides, InScope, LeafSpent, WalkReady, WalkedAt, Whole, with-uses};
 use check_types::Typed;
+use numbers::Recipe;
+use numbers::Type;
+use recipe_table::Entry;
+use term::Front;
+use term::Node;
 
 // The mark of a variable: a many-variable, a once-variable still to be used, a once-variable that was used.
 const MANY_MARK: u8 = 0;
@@ -51,10 +52,10 @@ fn function_code(kind: u8, mark: u8) -> u8
     requires { ⌜ mark ≤ 1 ⌝ }
     ensures { λ r. ⌜ r ≡ function-code kind mark ⌝ }
 {
-    if kind == Typed::ONCE {
+    if kind == Type::ONCE {
         return ONCE_CODE + mark;
     }
-    if kind == Typed::MANY {
+    if kind == Type::MANY {
         return MANY_CODE + mark;
     }
     NO_FUNCTION
@@ -130,7 +131,7 @@ fn both(a: bool, b: bool) -> bool
 }
 
 // A lambda keeps the rule if its body does and does not leave its variable due.
-fn leaves(kept: bool, mark: u8) -> bool
+fn used_up(kept: bool, mark: u8) -> bool
     ensures { λ r. ⌜ r ≡ (kept && not (eqb mark due-mark)) ⌝ }
 {
     kept && mark != DUE_MARK
@@ -157,10 +158,10 @@ pub fn walk_at(
     above: usize,
     floor: usize,
 ) -> Walked
-    requires { ⌜ Ready (now s) at above floor (now env) (now marks) ⌝ }
+    requires { ⌜ WalkReady (now s) at above floor (now env) (now marks) ⌝ }
     ensures { λ r. ⌜ WalkedAt (table-of (now (table .entry))) (now (s .entry)) at above floor (now (env .entry)) (now (env .exit)) (now (marks .entry)) (now (marks .exit)) r ⌝ }
 {
-    let Head::Is(node) = term::head_at(s, at) else {
+    let Front::Is(node) = term::node_at(s, at) else {
         return Walked::Nothing;
     };
     let tag = node.tag;
@@ -186,7 +187,7 @@ pub fn walk_at(
         };
         return with_uses(
             check_types::lambda_type(entry, arg as u8, body, end),
-            leaves(kept, marks[above]),
+            used_up(kept, marks[above]),
         );
     }
     let Walked::Has(function, second, first) = walk_at(table, s, next, env, marks, above, floor)

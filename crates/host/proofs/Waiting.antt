@@ -20,7 +20,7 @@ use Rattle.image_layout.specs.Layout.{heads-stand}
 use Rattle.image.specs.Configuration.{config-of}
 use Rattle.image.specs.Stands.{image-stands, terms-stand}
 use Rattle.step_spec.specs.declared.Outcome.the-variants.{Waiting}
-use Rattle.step_spec.specs.Stepping.{answered, outcome-of, step-reply}
+use Rattle.step_spec.specs.Stepping.{outcome-of-reply, outcome-of, step-reply}
 use Rattle.host.specs.Numbers.{NameSmall}
 
 unready-below : (C : Config) (y : ℕ) → Unready C y → y < length C
@@ -34,8 +34,8 @@ few-names s t =
     let (e, i) = and-parts (terms-stand s) (image-test (config-of s)) r in
     image-test-iff (config-of s) .0 i .limits .few-names
 
-waits-for : (q : Reply) {y : ℕ} → answered q ≡ Waiting y → q ≡ waits y
-unfolding answered
+waits-for : (q : Reply) {y : ℕ} → outcome-of-reply q ≡ Waiting y → q ≡ waits y
+unfolding outcome-of-reply
 waits-for (moved r C) e = absurd (clash (cc))
 waits-for (waits y) e = cc
 waits-for finished e = absurd (clash (cc))

@@ -1,12 +1,12 @@
 // The supplier's host: the functions of include/fikarehu.h, thin over the proved library. Numbers pass as themselves, a slice as a pointer and a length.
+use check_spec::Verdict;
 use load_spec::Loaded;
 use step_spec::Outcome;
-use check_spec::Verdict;
 ghost use mathlib.Core.Path.{_≡_};
 ghost use lib.ListN.{length};
 ghost use Rattle.check_spec.specs.Verdict.{verdict-of};
 ghost use Rattle.load_spec.specs.Loading as load;
-ghost use Rattle.step_spec.specs.Stepping.{out-after, outcome-of};
+ghost use Rattle.step_spec.specs.Stepping.{out-after-step, outcome-of};
 ghost use Rattle.host.specs.Numbers.{NameSmall, numbers};
 
 // What a step came to, in document 01's numbers: 0 done; 1 and the rule, with the new image's length; 2 and the awaited name; 3 and the refusal.
@@ -29,7 +29,7 @@ pub extern "C" fn fikarehu_check(recipe: &[u8]) -> Verdict
 #[no_mangle]
 pub extern "C" fn fikarehu_load(recipe: &[u8], out: &mut [u8]) -> Loaded
     ensures { λ r. ⌜ r ≡ load.loaded-of (now (recipe .entry)) (length (now (out .entry))) ⌝ }
-    ensures { λ r. ⌜ now (out .exit) ≡ load.out-after (now (recipe .entry)) (now (out .entry)) ⌝ }
+    ensures { λ r. ⌜ now (out .exit) ≡ load.out-after-load (now (recipe .entry)) (now (out .entry)) ⌝ }
 {
     load_recipe::load(recipe, out)
 }
@@ -67,7 +67,7 @@ fn numbers_of(outcome: Outcome) -> Stepped
 #[no_mangle]
 pub extern "C" fn fikarehu_step(image: &[u8], thread: u64, out: &mut [u8]) -> Stepped
     ensures { λ r. ⌜ r ≡ numbers (outcome-of (now (image .entry)) thread (now (out .entry))) ⌝ }
-    ensures { λ r. ⌜ now (out .exit) ≡ out-after (now (image .entry)) thread (now (out .entry)) ⌝ }
+    ensures { λ r. ⌜ now (out .exit) ≡ out-after-step (now (image .entry)) thread (now (out .entry)) ⌝ }
 {
     numbers_of(step_thread::step(image, thread as usize, out))
 }

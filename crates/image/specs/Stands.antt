@@ -6,7 +6,7 @@ use lib.Dec.{leb}
 use Rattle.calculus.specs.Lists.{each-below}
 use Rattle.calculus.specs.Image.{image-test}
 use Rattle.term.specs.Reader.{one-term, read-term}
-use Rattle.image_layout.specs.Kinds.{open-handle-kind}
+use Rattle.calculus.specs.Kinds.{open-handle-kind}
 use Rattle.image_layout.specs.Slice.{names, kind-at, expression-at}
 use Rattle.image_layout.specs.Layout.{heads-stand}
 use Rattle.image.specs.Configuration.{config-of}

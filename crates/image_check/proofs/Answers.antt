@@ -19,7 +19,7 @@ use Rattle.image.specs.Configuration.{config-of}
 use Rattle.image.specs.Stands.{image-stands}
 use Rattle.image_check.specs.declared.Checked.the-variants.{Nodes, Broken}
 use Rattle.image_check.specs.Answer.{checked, pick-checked}
-use Rattle.image_check.specs.Parts.{all-part, expression-stands, nodes-of, pair-at, pairs-stand}
+use Rattle.image_check.specs.Parts.{all-part, expression-stands, nodes-of, pair-stands, pairs-stand}
 use Rattle.image_check.specs.Theory.Names.{config-nodes}
 use Rattle.image_check.specs.Theory.Whole.{Whole, whole-complete, whole-sound}
 use Rattle.image_check.proofs.Picks.{picked, unpicked}
@@ -55,7 +55,7 @@ module _ (s : List ℕ) where
 
   pub no-pairs : pairs-stand s ≡ false → Broken ≡ checked s
   unfolding pairs-stand
-  no-pairs f = broken (λ w. false≢true (sym f ∙ each-below-complete (names s) (pair-at s) (w .pairs)))
+  no-pairs f = broken (λ w. false≢true (sym f ∙ each-below-complete (names s) (pair-stands s) (w .pairs)))
 
   pub all-stand : {m n : ℕ} → m ≡ names s → m ≤ max-names → heads-stand s ≡ true → some-nodes n ≡ all-part s → pairs-stand s ≡ true → Nodes n ≡ checked s
   unfolding checked all-part pairs-stand
@@ -67,6 +67,6 @@ module _ (s : List ℕ) where
         few-names = omega arith;
         expressions = each-below-sound (names s) (expression-stands s (names s)) each;
         few-nodes = leb-sound (sum-below (names s) (nodes-of s)) max-nodes nodes;
-        pairs = each-below-sound (names s) (pair-at s) pairs;
+        pairs = each-below-sound (names s) (pair-stands s) pairs;
       } in
       rw stands (ap Nodes (sym (config-nodes s ∙ count)))

@@ -14,7 +14,7 @@ use Rattle.calculus.specs.Theory.Tests.{and-parts, and-true, leb-complete, leb-
 use Rattle.term.specs.Reader.{GoodAt, one-term, read-term}
 use Rattle.term.specs.Expressions.{term-at}
 use Rattle.term_scan.specs.declared.Part.the-variants.{Nodes, NoTerm}
-use Rattle.image_layout.specs.Kinds.{thread-kind, cell-kind, open-handle-kind, future-kind}
+use Rattle.calculus.specs.Kinds.{thread-kind, cell-kind, open-handle-kind, future-kind}
 use Rattle.image_layout.specs.Slice.{kind-at, expression-at}
 use Rattle.image_layout.specs.Readable.{HasHead, HasExpression}
 use Rattle.image_layout.specs.Theory.Reading.{has-expression, has-head}

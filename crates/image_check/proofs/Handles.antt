@@ -12,7 +12,7 @@ use Rattle.calculus.specs.Syntax.{Component, thread-of, holds, open-for, used, 
 use Rattle.calculus.specs.Lists.{sum-below}
 use Rattle.calculus.specs.Limits.{max-names}
 use Rattle.calculus.specs.Image.{handle-for}
-use Rattle.image_layout.specs.Kinds.{open-handle-kind}
+use Rattle.calculus.specs.Kinds.{open-handle-kind}
 use Rattle.image_layout.specs.Slice.{names, kind-at, companion-at}
 use Rattle.image_layout.specs.Layout.{heads-stand}
 use Rattle.image.specs.Configuration.{components}

@@ -15,7 +15,7 @@ use Rattle.term.specs.Reader.{one-term, read-term}
 use Rattle.term.specs.Expressions.{term-at}
 use Rattle.term_scan.specs.declared.Part.{Part}
 use Rattle.term_scan.specs.declared.Part.the-variants.{Nodes, NoTerm}
-use Rattle.image_layout.specs.Kinds.{open-handle-kind}
+use Rattle.calculus.specs.Kinds.{open-handle-kind}
 use Rattle.image_layout.specs.Slice.{names, kind-at, expression-at, encoded-at}
 use Rattle.image_layout.specs.Layout.{heads-stand}
 use Rattle.image.specs.Configuration.{config-of, decode}
@@ -55,8 +55,8 @@ nodes-of s k = sum-in nodes (component-of s k)
 unfoldable pub expression-stands : List ℕ → ℕ → ℕ → Bool
 expression-stands s m k = term-stands s k && expression-keeps m (component-of s k)
 
-unfoldable pub pair-at : List ℕ → ℕ → Bool
-pair-at s k = pair-keeps (config-of s) k (component-of s k)
+unfoldable pub pair-stands : List ℕ → ℕ → Bool
+pair-stands s k = pair-keeps (config-of s) k (component-of s k)
 
 -- answers: a number of nodes where a test passes
 abbrev pub pick-part : Bool → ℕ → Part
@@ -77,7 +77,7 @@ unfoldable pub all-part : List ℕ → Part
 all-part s = pick-part (each-below (names s) (expression-stands s (names s)) && leb (sum-below (names s) (nodes-of s)) max-nodes) (sum-below (names s) (nodes-of s))
 
 unfoldable pub pairs-stand : List ℕ → Bool
-pairs-stand s = each-below (names s) (pair-at s)
+pairs-stand s = each-below (names s) (pair-stands s)
 
 -- of the first k names, how many are open handles with the companion y
 unfoldable pub handles-below : List ℕ → ℕ → ℕ → ℕ
@@ -89,7 +89,7 @@ pub record Tally (s : List ℕ) (counts : List ℕ) : Type 0 where
   pub each : (y : ℕ) → y < max-names → getD counts y 0 ≡ handles-for y (config-of s)
 
 -- name k is one of m names, and `count` open handles have it as companion
-pub record Counted (s : List ℕ) (m k count : ℕ) : Type 0 where
+pub record HandlesCounted (s : List ℕ) (m k count : ℕ) : Type 0 where
   pub named : Named s k
   pub all : m ≡ names s
   pub handles : count ≡ handles-for k (config-of s)

@@ -1,6 +1,6 @@
 // Document 01, refusal 13: whether a slice of any length and any bytes is an image that keeps every rule and limit. One pass over the heads, one over
 // the expressions, which are read by loops, and two over the handles: no recursion, and no walk that is quadratic in the number of names.
-use image_layout::Image;
+use numbers::Image;
 use term_scan::Extent;
 use term_scan::Part;
 ghost use mathlib.Core.Path.{_≡_};
@@ -10,7 +10,7 @@ ghost use lib.ListN.{length};
 ghost use Rattle.calculus.specs.Limits.{byte-values, max-names, max-nodes};
 ghost use Rattle.image_layout.specs.Slice.{names};
 ghost use Rattle.image_layout.specs.Layout.{heads-stand};
-ghost use Rattle.image_check.specs.Parts.{all-part, component-part, Counted, expression-part, Named, pair-at, pairs-stand, Tally};
+ghost use Rattle.image_check.specs.Parts.{all-part, component-part, HandlesCounted, expression-part, Named, pair-stands, pairs-stand, Tally};
 ghost use Rattle.image_check.specs.Answer.{checked};
 
 // The number of nodes of an image that keeps every rule and limit, or that it breaks one.
@@ -80,7 +80,7 @@ fn all_nodes(image: &[u8]) -> Part
     ensures { λ r. ⌜ r ≡ all-part (now (image .entry)) ⌝ }
 {
     let names = image_layout::names_of(image);
-    let mut outer = [0u16; Extent::MAX_NODES];
+    let mut outer = [0u16; Image::MAX_NODES];
     let mut left = Image::MAX_NODES;
     let mut k = 0;
     while k < names {
@@ -115,8 +115,8 @@ fn handle_counts(image: &[u8]) -> [u16; Image::MAX_NAMES]
 
 // A future is the companion of one open handle, `count` being how many have it, and the companion of an open handle is a future.
 fn pair_stands(image: &[u8], names: usize, k: usize, count: u16) -> bool
-    requires { ⌜ Counted (now image) names k count ⌝ }
-    ensures { λ r. ⌜ r ≡ pair-at (now (image .entry)) k ⌝ }
+    requires { ⌜ HandlesCounted (now image) names k count ⌝ }
+    ensures { λ r. ⌜ r ≡ pair-stands (now (image .entry)) k ⌝ }
 {
     let kind = image_layout::kind_at(image, k);
     if kind == Image::FUTURE {

@@ -7,7 +7,7 @@ use native.Mathlib.Omega.{arith}
 use lib.Dec.{eqb, leb}
 use lib.ListN.{length}
 use borrow.Author.Tests.{leb-true, leb-false, lt-ltb, le-ltb, le-leb, lt-leb, eq-eqb, ne-eqb}
-use Rattle.image_layout.specs.Kinds.{thread-kind, open-handle-kind, future-kind}
+use Rattle.calculus.specs.Kinds.{thread-kind, open-handle-kind, future-kind}
 use Rattle.image_layout.specs.Slice.{kind-at, companion-at, offset-at, length-at}
 use Rattle.image_layout.specs.Layout.{kind-test, companion-test, length-test, head-agrees, head-stands}
 

@@ -9,32 +9,32 @@ use native.Mathlib.Omega.{arith}
 use lib.Dec.{eqb}
 use lib.ListN.{length}
 use borrow.Author.Tests.{le-leb, lt-leb}
-use Rattle.image_layout.specs.Encoded.{head-at}
+use Rattle.image_layout.specs.Encoded.{head-offset}
 use Rattle.image_layout.specs.Slice.{names, length-at}
 use Rattle.image_layout.specs.Layout.{head-stands, stand-from, heads-stand}
 use Rattle.image_layout.specs.Readable.{HasHead}
 use Rattle.image_layout.specs.Theory.Test.{head-stands-iff}
 
 -- the heads are not inside the slice
-pub no-room : (s : List ℕ) → length s < head-at (names s) → false ≡ heads-stand s
+pub no-room : (s : List ℕ) → length s < head-offset (names s) → false ≡ heads-stand s
 unfolding heads-stand
-no-room s h = rw (lt-leb (head-at (names s)) (length s) h)
+no-room s h = rw (lt-leb (head-offset (names s)) (length s) h)
 
 -- k names of m have stood, and the next expression is due at `end`
 pub record Passed (s : List ℕ) (m k end : ℕ) : Type 0 where
   pub few : k ≤ m
-  pub heads-inside : head-at m ≤ length s
+  pub heads-inside : head-offset m ≤ length s
   pub inside : end ≤ length s
   pub same : heads-stand s ≡ stand-from s (m - k) k end
 
 -- before the first
-pub passed-none : (s : List ℕ) (m : ℕ) → m ≡ names s → head-at m ≤ length s → Passed s m 0 (head-at m)
+pub passed-none : (s : List ℕ) (m : ℕ) → m ≡ names s → head-offset m ≤ length s → Passed s m 0 (head-offset m)
 unfolding heads-stand
 passed-none s m e h = record {
   few = omega arith;
   heads-inside = h;
   inside = h;
-  same = rw (← e, le-leb (head-at m) (length s) h, sub-zero m);
+  same = rw (← e, le-leb (head-offset m) (length s) h, sub-zero m);
 }
 
 module _ {s : List ℕ} {m k end : ℕ} (p : Passed s m k end) where

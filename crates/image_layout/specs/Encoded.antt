@@ -16,8 +16,8 @@ unfoldable pub head : ℕ → ℕ → ℕ → ℕ → List ℕ
 head kind companion offset size = (kind ∷ companion ∷ []) ++ two-bytes offset ++ two-bytes size
 
 -- where the head of name k stands; with m for k, where the heads end
-abbrev pub head-at : ℕ → ℕ
-head-at k = 2 + 6 * k
+abbrev pub head-offset : ℕ → ℕ
+head-offset k = 2 + 6 * k
 
 -- the heads of the components, the first expression being due at `offset`: "each next begins where the former ends"
 unfoldable pub heads : ℕ → List Encoded → List ℕ
@@ -31,4 +31,4 @@ expressions (e ∷ E) = e .expression ++ expressions E
 
 -- the image: "The first expression's offset is 2 + 6m"
 unfoldable pub image-bytes : List Encoded → List ℕ
-image-bytes E = two-bytes (length E) ++ heads (head-at (length E)) E ++ expressions E
+image-bytes E = two-bytes (length E) ++ heads (head-offset (length E)) E ++ expressions E

@@ -8,13 +8,13 @@ use Prim.Native.Nat.{ℕ, zero, suc, _+_, _≤_, _<_}
 use lib.Dec.{eqb, leb, ltb}
 use lib.ListN.{length}
 use Rattle.calculus.specs.Syntax.{at}
-use Rattle.image_layout.specs.Kinds.{thread-kind, open-handle-kind, future-kind}
-use Rattle.image_layout.specs.Encoded.{Encoded, head-at}
+use Rattle.calculus.specs.Kinds.{thread-kind, open-handle-kind, future-kind}
+use Rattle.image_layout.specs.Encoded.{Encoded, head-offset}
 use Rattle.image_layout.specs.Slice.{names, kind-at, companion-at, offset-at, length-at}
 
 -- document 01, "the end of the expressions of lower names (2 + 6m before any)"
 unfoldable pub end-below : List ℕ → ℕ → ℕ
-end-below s zero = head-at (names s)
+end-below s zero = head-offset (names s)
 end-below s (suc k) = end-below s k + length-at s k
 
 -- what a head says by itself
@@ -27,9 +27,9 @@ pub record HeadRule (kind companion size : ℕ) : Type 0 where
   pub lengths : open-handle-kind ≤ kind → size ≡ 0
 
 -- the slice keeps the layout
-pub record Laid (s : List ℕ) : Type 0 where
+pub record LayoutRule (s : List ℕ) : Type 0 where
   -- "Then come m heads of six bytes"
-  pub heads-inside : head-at (names s) ≤ length s
+  pub heads-inside : head-offset (names s) ≤ length s
   -- the three sentences of `HeadRule`
   pub heads : (k : ℕ) → k < names s → HeadRule (kind-at s k) (companion-at s k) (length-at s k)
   -- "The first expression's offset is 2 + 6m, each next begins where the former ends"; kinds 3, 4, 5 have, "as offset, the end of the expressions of lower names"
@@ -67,4 +67,4 @@ stand-from s zero k end = eqb end (length s)
 stand-from s (suc left) k end = head-stands s k end && stand-from s left (suc k) (end + length-at s k)
 
 unfoldable pub heads-stand : List ℕ → Bool
-heads-stand s = leb (head-at (names s)) (length s) && stand-from s (names s) 0 (head-at (names s))
+heads-stand s = leb (head-offset (names s)) (length s) && stand-from s (names s) 0 (head-offset (names s))

@@ -1,7 +1,5 @@
 -- Document 01, "The image": an image as a list of components in bytes, written and read back, without looking into expressions.
 
--- document 01, "Kinds"
-pub mod Kinds
 -- a component in bytes, and the bytes of an image
 pub mod Encoded
 -- a slice read as an image

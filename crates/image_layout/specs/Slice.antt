@@ -8,7 +8,7 @@ use lib.Dec.{eqb}
 use lib.ListN.{length, getD, take, drop, set}
 use Rattle.calculus.specs.Bytes.{word}
 use Rattle.calculus.specs.Syntax.{at}
-use Rattle.image_layout.specs.Encoded.{Encoded, head-at}
+use Rattle.image_layout.specs.Encoded.{Encoded, head-offset}
 use Rattle.calculus.specs.Lists.{tabulate}
 use Rattle.calculus.specs.Theory.Tabulate.{length-tabulate, tabulate-at, set-tabulate}
 
@@ -18,16 +18,16 @@ names s = word s 0
 
 -- document 01, "heads of six bytes: kind, companion byte, offset, length"
 unfoldable pub kind-at : List ℕ → ℕ → ℕ
-kind-at s k = getD s (head-at k) 0
+kind-at s k = getD s (head-offset k) 0
 
 unfoldable pub companion-at : List ℕ → ℕ → ℕ
-companion-at s k = getD s (head-at k + 1) 0
+companion-at s k = getD s (head-offset k + 1) 0
 
 unfoldable pub offset-at : List ℕ → ℕ → ℕ
-offset-at s k = word s (head-at k + 2)
+offset-at s k = word s (head-offset k + 2)
 
 unfoldable pub length-at : List ℕ → ℕ → ℕ
-length-at s k = word s (head-at k + 4)
+length-at s k = word s (head-offset k + 4)
 
 unfoldable pub expression-at : List ℕ → ℕ → List ℕ
 expression-at s k = take (length-at s k) (drop (offset-at s k) s)

@@ -1,72 +1,16 @@
 // Document 01, "The image": its limits and kinds, and its heads and expressions read and written in bytes.
 use buffer::put_byte;
 use buffer::put_u16;
+use numbers::Image;
 ghost use mathlib.Core.Path.{_≡_};
-ghost use mathlib.Core.List.{_∷_, []};
 ghost use Prim.Native.Nat.{_+_, _<_, _≤_};
 ghost use lib.ListN.{length};
 ghost use Rattle.calculus.specs.Bytes.{two-byte-values, word};
-ghost use Rattle.calculus.specs.Limits.{max-names, max-nodes, max-image-length};
 ghost use Rattle.buffer.specs.Written.{Wrote};
-ghost use Rattle.image_layout.specs.Kinds.{thread-kind, cell-kind, open-handle-kind, used-handle-kind, future-kind};
 ghost use Rattle.image_layout.specs.Encoded.{head};
 ghost use Rattle.image_layout.specs.Slice.{names, kind-at, companion-at, offset-at, length-at, expression-at};
 ghost use Rattle.image_layout.specs.Layout.{head-agrees, head-stands, heads-stand};
 ghost use Rattle.image_layout.specs.Readable.{HasHead, HasExpression};
-
-// An image: its limits, and the kinds of its names.
-pub struct Image {}
-
-impl Image {
-    // At most so many names.
-    pub const MAX_NAMES: usize = 256;
-    // At most so many nodes in all its expressions.
-    pub const MAX_NODES: usize = 4096;
-    // No image is longer, in bytes.
-    pub const MAX_LENGTH: usize = 13826;
-    // The kinds.
-    pub const THREAD: u8 = 1;
-
-    pub const CELL: u8 = 2;
-
-    pub const OPEN_HANDLE: u8 = 3;
-
-    pub const USED_HANDLE: u8 = 4;
-
-    pub const FUTURE: u8 = 5;
-}
-
-// The three limits are document 01's.
-pub fn max_names() -> usize
-    ensures { λ r. ⌜ r ≡ max-names ⌝ }
-{
-    Image::MAX_NAMES
-}
-
-pub fn max_nodes() -> usize
-    ensures { λ r. ⌜ r ≡ max-nodes ⌝ }
-{
-    Image::MAX_NODES
-}
-
-pub fn max_length() -> usize
-    ensures { λ r. ⌜ r ≡ max-image-length ⌝ }
-{
-    Image::MAX_LENGTH
-}
-
-// The kinds in their order.
-pub fn kinds() -> [u8; 5]
-    ensures { λ r. ⌜ r ≡ thread-kind ∷ cell-kind ∷ open-handle-kind ∷ used-handle-kind ∷ future-kind ∷ [] ⌝ }
-{
-    [
-        Image::THREAD,
-        Image::CELL,
-        Image::OPEN_HANDLE,
-        Image::USED_HANDLE,
-        Image::FUTURE,
-    ]
-}
 
 // The two-byte number at `at`.
 fn word_at(image: &[u8], at: usize) -> usize
@@ -89,7 +33,7 @@ pub fn kind_at(image: &[u8], k: usize) -> u8
     requires { ⌜ HasHead (now image) k ⌝ }
     ensures { λ r. ⌜ r ≡ kind-at (now (image .entry)) k ⌝ }
 {
-    image[2 + 6 * k]
+    image[Image::FIRST_HEAD + Image::HEAD_LENGTH * k]
 }
 
 // The companion byte of name k: no other function reads it.
@@ -97,7 +41,7 @@ pub fn companion_at(image: &[u8], k: usize) -> u8
     requires { ⌜ HasHead (now image) k ⌝ }
     ensures { λ r. ⌜ r ≡ companion-at (now (image .entry)) k ⌝ }
 {
-    image[2 + 6 * k + 1]
+    image[Image::FIRST_HEAD + Image::HEAD_LENGTH * k + 1]
 }
 
 // Where the expression of name k begins.
@@ -105,7 +49,7 @@ pub fn offset_at(image: &[u8], k: usize) -> usize
     requires { ⌜ HasHead (now image) k ⌝ }
     ensures { λ r. ⌜ (r ≡ offset-at (now (image .entry)) k) × (r < two-byte-values) ⌝ }
 {
-    word_at(image, 2 + 6 * k + 2)
+    word_at(image, Image::FIRST_HEAD + Image::HEAD_LENGTH * k + 2)
 }
 
 // How many bytes the expression of name k has.
@@ -113,7 +57,7 @@ pub fn length_at(image: &[u8], k: usize) -> usize
     requires { ⌜ HasHead (now image) k ⌝ }
     ensures { λ r. ⌜ (r ≡ length-at (now (image .entry)) k) × (r < two-byte-values) ⌝ }
 {
-    word_at(image, 2 + 6 * k + 4)
+    word_at(image, Image::FIRST_HEAD + Image::HEAD_LENGTH * k + 4)
 }
 
 // The expression of name k: the part of the image, not a copy.
@@ -185,11 +129,11 @@ fn head_stands(image: &[u8], k: usize, end: usize) -> bool
 pub fn heads_stand(image: &[u8]) -> bool
     ensures { λ r. ⌜ r ≡ heads-stand (now (image .entry)) ⌝ }
 {
-    if image.len() < 2 {
+    if image.len() < Image::FIRST_HEAD {
         return false;
     }
     let names = names_of(image);
-    let mut end = 2 + 6 * names;
+    let mut end = Image::FIRST_HEAD + Image::HEAD_LENGTH * names;
     if image.len() < end {
         return false;
     }

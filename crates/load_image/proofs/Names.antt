@@ -11,13 +11,13 @@ use Rattle.calculus.specs.Bytes.{Bytes, two-bytes}
 use Rattle.calculus.specs.Limits.{max-bays, max-image-length}
 use Rattle.calculus.specs.Lists.{tabulate}
 use Rattle.calculus.specs.Theory.Tests.{ltb-complete, ltb-not}
-use Rattle.recipe_file.specs.File.{first-term, bays, pair-at, offset-of, term-bytes, table-bytes}
-use Rattle.recipe_file.specs.Laid.{Laid}
+use Rattle.recipe_file.specs.File.{first-term, bays, pair-offset, offset-of, term-bytes, table-bytes}
+use Rattle.recipe_file.specs.FileRule.{FileRule}
 use Rattle.recipe_file.proofs.Inside.{bays-between, length-table-bytes}
 use Rattle.check_spec.specs.Verdict.{refusal}
 use Rattle.buffer.specs.Written.{Wrote, then, known-as}
-use Rattle.image_layout.specs.Kinds.{thread-kind, cell-kind}
-use Rattle.image_layout.specs.Encoded.{Encoded, heads, head-at, expressions}
+use Rattle.calculus.specs.Kinds.{thread-kind, cell-kind}
+use Rattle.image_layout.specs.Encoded.{Encoded, heads, head-offset, expressions}
 use Rattle.image_layout.specs.Theory.Components.{expressions-append, so-far, so-far-none, so-far-next, length-tabulated}
 use Rattle.image_layout.specs.Theory.Turns.{Room, image-turns}
 use Rattle.load_spec.specs.Starting.{starting-image}
@@ -27,11 +27,11 @@ use Rattle.load_spec.specs.Theory.Image.{laid, starting-fits}
 use Rattle.load_image.specs.Theory.Image.{starting-tabulated}
 
 -- at most 16 bays
-pub few-bays : {s : List ℕ} → Laid s → bays s ≤ max-bays
+pub few-bays : {s : List ℕ} → FileRule s → bays s ≤ max-bays
 few-bays l = bays-between l .high
 
 -- the first term stands behind the pairs and the table
-pub first-begins : {s : List ℕ} → Laid s → pair-at (bays s + 1) + length (table-bytes s) ≡ offset-of s first-term
+pub first-begins : {s : List ℕ} → FileRule s → pair-offset (bays s + 1) + length (table-bytes s) ≡ offset-of s first-term
 unfolding bays
 first-begins {s} l = omega (arith, l .first, l .next 0 (omega (arith, l .has-parts .low)), length-table-bytes l, l .has-parts .low)
 
@@ -82,14 +82,14 @@ module _ (s : List ℕ) (b : Bytes s) (accepted : refusal s ≡ 0) where
       (omega (arith, settings-length (bays s), ap length (terms-are-end s l), length-drop (offset-of s first-term) s))
 
   -- the whole length, in its three parts
-  pub starting-length : head-at (starting-names s) + (3 * bays s + (length s - offset-of s first-term)) ≤ max-image-length
+  pub starting-length : head-offset (starting-names s) + (3 * bays s + (length s - offset-of s first-term)) ≤ max-image-length
   starting-length =
       omega (arith, expressions-length, length-tabulated (starting-names s) (starting-at s), ap length (starting-tabulated s b accepted), starting-fits s b accepted)
 
   -- the four writes are the image
   pub starting-wrote : {old a c d out : List ℕ} {first second third last : ℕ}
       → Wrote old 0 (two-bytes (starting-names s)) a first
-      → Wrote a first (heads (head-at (starting-names s)) (tabulate (starting-names s) (starting-at s))) c second
+      → Wrote a first (heads (head-offset (starting-names s)) (tabulate (starting-names s) (starting-at s))) c second
       → Wrote c second (expressions (tabulate (bays s) (λ k. setting))) d third
       → Wrote d third (take (length s - offset-of s first-term) (drop (offset-of s first-term) s)) out last
       → Wrote old 0 (starting-image s) out last

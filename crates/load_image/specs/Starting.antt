@@ -5,7 +5,7 @@ use mathlib.Core.List.{List, [], _∷_}
 use Prim.Native.Nat.{ℕ, _+_, _-_}
 use lib.Dec.{ltb}
 use Rattle.recipe_file.specs.File.{bays, term-bytes}
-use Rattle.image_layout.specs.Kinds.{thread-kind, cell-kind}
+use Rattle.calculus.specs.Kinds.{thread-kind, cell-kind}
 use Rattle.image_layout.specs.Encoded.{Encoded}
 
 -- the starting image name by name (Theory.Image, `starting-tabulated`): a setting, "a cell of num, starting at 0"

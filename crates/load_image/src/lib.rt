@@ -1,14 +1,14 @@
 // Document 01, "Loading": writes the starting image of an accepted recipe. Names 0 to b − 1 are the settings, b to 2b − 1 the bays' threads.
-use image_layout::Image;
-use image_layout::put_head;
-use recipe_file::bay_count;
-use recipe_file::pair_at;
-use recipe_file::table_bytes;
-use recipe_file::term_bytes;
-use term::Node;
 use buffer::put_byte;
 use buffer::put_part;
 use buffer::put_u16;
+use image_layout::put_head;
+use numbers::Image;
+use recipe_file::bay_count;
+use recipe_file::pair_offset;
+use recipe_file::table_bytes;
+use recipe_file::term_bytes;
+use term::Node;
 ghost use mathlib.Core.Path.{_≡_};
 ghost use mathlib.Core.Bool.{cond};
 ghost use Prim.Native.Nat.{_+_, _*_, _<_, _≤_};
@@ -18,21 +18,21 @@ ghost use Rattle.calculus.specs.Bytes.{two-byte-values};
 ghost use Rattle.calculus.specs.Limits.{max-image-length};
 ghost use Rattle.calculus.specs.Lists.{tabulate};
 ghost use Rattle.recipe_file.specs.File.{bays, offset-of, first-term};
-ghost use Rattle.recipe_file.specs.Laid.{Laid};
+ghost use Rattle.recipe_file.specs.FileRule.{FileRule};
 ghost use Rattle.check_spec.specs.Verdict.{refusal};
 ghost use Rattle.buffer.specs.Written.{Wrote};
-ghost use Rattle.image_layout.specs.Kinds.{thread-kind, cell-kind};
-ghost use Rattle.image_layout.specs.Encoded.{heads, head-at, expressions};
+ghost use Rattle.calculus.specs.Kinds.{thread-kind, cell-kind};
+ghost use Rattle.image_layout.specs.Encoded.{heads, head-offset, expressions};
 ghost use Rattle.image_layout.specs.Theory.Turns.{Room};
 ghost use Rattle.load_spec.specs.Starting.{starting-image};
 ghost use Rattle.load_image.specs.Starting.{setting, starting-at, starting-names};
 
 // Where the first bay's term begins: behind the pairs and the type table.
 fn first_term(recipe: &[u8]) -> usize
-    requires { ⌜ Laid (now recipe) ⌝ }
+    requires { ⌜ FileRule (now recipe) ⌝ }
     ensures { λ r. ⌜ r ≡ offset-of (now (recipe .entry)) first-term ⌝ }
 {
-    pair_at(bay_count(recipe) + 1) + table_bytes(recipe).len()
+    pair_offset(bay_count(recipe) + 1) + table_bytes(recipe).len()
 }
 
 // The kind of name k, of a recipe with so many bays.
@@ -47,7 +47,7 @@ fn kind_of(bays: usize, k: usize) -> u8
 
 // How many bytes the expression of name k has.
 fn size_of(recipe: &[u8], k: usize) -> usize
-    requires { ⌜ Laid (now recipe) × (k < starting-names (now recipe)) ⌝ }
+    requires { ⌜ FileRule (now recipe) × (k < starting-names (now recipe)) ⌝ }
     ensures { λ r. ⌜ r ≡ length (starting-at (now (recipe .entry)) k .expression) ⌝ }
 {
     let bays = bay_count(recipe);
@@ -59,8 +59,8 @@ fn size_of(recipe: &[u8], k: usize) -> usize
 
 // Writes the heads of all names.
 fn put_heads(out: &mut [u8], at: usize, recipe: &[u8]) -> usize
-    requires { ⌜ Laid (now recipe) × (Room (starting-names (now recipe)) (starting-at (now recipe)) (now out) × (at ≡ 2)) ⌝ }
-    ensures { λ r. ⌜ Wrote (now (out .entry)) at (heads (head-at (starting-names (now (recipe .entry)))) (tabulate (starting-names (now (recipe .entry))) (starting-at (now (recipe .entry))))) (now (out .exit)) r ⌝ }
+    requires { ⌜ FileRule (now recipe) × (Room (starting-names (now recipe)) (starting-at (now recipe)) (now out) × (at ≡ 2)) ⌝ }
+    ensures { λ r. ⌜ Wrote (now (out .entry)) at (heads (head-offset (starting-names (now (recipe .entry)))) (tabulate (starting-names (now (recipe .entry))) (starting-at (now (recipe .entry))))) (now (out .exit)) r ⌝ }
 {
     let bays = bay_count(recipe);
     let names = bays + bays;

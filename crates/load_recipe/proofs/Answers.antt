@@ -13,7 +13,7 @@ use Rattle.check_spec.specs.Verdict.{accepted, refusal, refused, verdict-of}
 use Rattle.buffer.specs.Written.{Wrote, beyond}
 use Rattle.load_spec.specs.Starting.{starting-image}
 use Rattle.load_spec.specs.declared.Loaded.{Loaded}
-use Rattle.load_spec.specs.Loading.{loaded-of, load-refusal, not-loaded, out-after}
+use Rattle.load_spec.specs.Loading.{loaded-of, load-refusal, not-loaded, out-after-load}
 
 -- the verdict's number is the refusal
 pub number-is : (s : List ℕ) (v : Verdict) → v ≡ verdict-of s → v .refusal ≡ refusal s
@@ -30,11 +30,11 @@ accepted-is s v e z = e ∙ rw (eqb-complete (refusal s) 0 (sym (number-is s v e
 
 -- an answer, and what is left
 abbrev pub Leaves : List ℕ → List ℕ → Loaded → List ℕ → Type 0
-Leaves s out r out′ = (r ≡ loaded-of s (length out)) × (out′ ≡ out-after s out)
+Leaves s out r out′ = (r ≡ loaded-of s (length out)) × (out′ ≡ out-after-load s out)
 
 module _ (s out : List ℕ) where
   refuses : (number : ℕ) → load-refusal s (length out) ≡ number → ¬ (number ≡ 0) → Leaves s out (not-loaded number) out
-  unfolding loaded-of out-after
+  unfolding loaded-of out-after-load
   refuses number e n = (rw (e, eqb-differ number 0 n) refl, rw (e, eqb-differ number 0 n) refl)
 
   pub too-short : length out < max-image-length → Leaves s out (not-loaded 12) out
@@ -51,7 +51,7 @@ module _ (s out : List ℕ) where
 
     pub loads : v .refusal ≡ 0 → (out′ : List ℕ) (n : ℕ) → Wrote out 0 (starting-image s) out′ n × (n ≤ max-image-length) →
         Leaves s out (record { refusal = 0; bays = v .bays; types = v .types; length = n }) out′
-    unfolding loaded-of out-after
+    unfolding loaded-of out-after-load
     loads z out′ n (w, l) =
         let e : load-refusal s (length out) ≡ 0 = number ∙ z in
         let size : n ≡ length (starting-image s) = omega (arith, w .ends) in

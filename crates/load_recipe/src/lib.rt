@@ -1,10 +1,10 @@
 // Loading a recipe: the out buffer's length, then the check, and only then the starting image is written.
-use image_layout::Image;
 use load_spec::Loaded;
-use recipe_file::Recipe;
+use numbers::Image;
+use numbers::Recipe;
 ghost use mathlib.Core.Path.{_≡_};
 ghost use lib.ListN.{length};
-ghost use Rattle.load_spec.specs.Loading.{loaded-of, out-after, not-loaded};
+ghost use Rattle.load_spec.specs.Loading.{loaded-of, out-after-load, not-loaded};
 
 fn refused(number: u32) -> Loaded
     ensures { λ r. ⌜ r ≡ not-loaded number ⌝ }
@@ -20,7 +20,7 @@ fn refused(number: u32) -> Loaded
 // Document 01: "loading and stepping try 12 first"; on a refusal the buffer is left as it was.
 pub fn load(recipe: &[u8], out: &mut [u8]) -> Loaded
     ensures { λ r. ⌜ r ≡ loaded-of (now (recipe .entry)) (length (now (out .entry))) ⌝ }
-    ensures { λ r. ⌜ now (out .exit) ≡ out-after (now (recipe .entry)) (now (out .entry)) ⌝ }
+    ensures { λ r. ⌜ now (out .exit) ≡ out-after-load (now (recipe .entry)) (now (out .entry)) ⌝ }
 {
     if out.len() < Image::MAX_LENGTH {
         return refused(12);

@@ -7,7 +7,7 @@ use lib.Dec.{eqb, ltb}
 use lib.ListN.{drop, length, replicate}
 use Rattle.calculus.specs.Limits.{max-bays, max-image-length}
 use Rattle.recipe_file.specs.File.{bays}
-use Rattle.check_spec.specs.Verdict.{bay-types, refusal}
+use Rattle.check_spec.specs.Verdict.{bay-type-numbers, refusal}
 use Rattle.load_spec.specs.Starting.{starting-image}
 use Rattle.load_spec.specs.declared.Loaded.{Loaded}
 
@@ -16,7 +16,7 @@ abbrev pub not-loaded : ℕ → Loaded
 not-loaded number = record { refusal = number; bays = 0; types = replicate max-bays 0; length = 0 }
 
 abbrev pub is-loaded : List ℕ → Loaded
-is-loaded s = record { refusal = 0; bays = bays s; types = bay-types s; length = length (starting-image s) }
+is-loaded s = record { refusal = 0; bays = bays s; types = bay-type-numbers s; length = length (starting-image s) }
 
 -- the number of the lowest cause that fits, 12 being tried first; `room` is the length of the out buffer
 unfoldable pub load-refusal : List ℕ → ℕ → ℕ
@@ -27,5 +27,5 @@ unfoldable pub loaded-of : List ℕ → ℕ → Loaded
 loaded-of s room = cond (eqb (load-refusal s room) 0) (is-loaded s) (not-loaded (load-refusal s room))
 
 -- what it leaves in the out buffer
-unfoldable pub out-after : List ℕ → List ℕ → List ℕ
-out-after s out = cond (eqb (load-refusal s (length out)) 0) (starting-image s ++ drop (length (starting-image s)) out) out
+unfoldable pub out-after-load : List ℕ → List ℕ → List ℕ
+out-after-load s out = cond (eqb (load-refusal s (length out)) 0) (starting-image s ++ drop (length (starting-image s)) out) out

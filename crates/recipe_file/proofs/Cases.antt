@@ -5,7 +5,7 @@ use mathlib.Core.List.{List, [], _++_, _∷_}
 use Prim.Native.Nat.{_+_, suc, zero, ℕ}
 use lib.ListN.{replicate}
 use Rattle.calculus.specs.Bytes.{word}
-use Rattle.recipe_file.specs.File.{parts, bays, table-bytes, term-bytes, pair-at, offset-of, length-of, part, outside, cause-1, opens, edition-known, cause-2, pairs-test, table-length-test, cause-3, layout-refusal}
+use Rattle.recipe_file.specs.File.{parts, bays, table-bytes, term-bytes, pair-offset, offset-of, length-of, part, outside, cause-1, opens, edition-known, cause-2, pairs-test, table-length-test, cause-3, layout-refusal}
 
 -- "table of three entries"
 abbrev table-3 : List ℕ
@@ -58,7 +58,7 @@ pairs-from zero at = []
 pairs-from (suc k) at = at ∷ 0 ∷ 1 ∷ 0 ∷ pairs-from k (at + 1)
 
 abbrev pub many-bays : ℕ → List ℕ
-many-bays b = 0x4C ∷ 0x46 ∷ 1 ∷ (b + 1) ∷ pair-at (b + 1) ∷ 0 ∷ 9 ∷ 0 ∷ pairs-from b (pair-at (b + 1) + 9) ++ table-3 ++ replicate b 3
+many-bays b = 0x4C ∷ 0x46 ∷ 1 ∷ (b + 1) ∷ pair-offset (b + 1) ∷ 0 ∷ 9 ∷ 0 ∷ pairs-from b (pair-offset (b + 1) + 9) ++ table-3 ++ replicate b 3
 
 pub case-J-17 : layout-refusal (many-bays 16) ≡ 0
 unfolding layout-refusal cause-1 cause-2 cause-3 outside opens edition-known parts pairs-test offset-of length-of word table-length-test pairs-from

@@ -6,7 +6,7 @@ use Prim.Native.Nat.{_%_, _<_, _≤_, ℕ}
 use borrow.Author.Tests.{eq-eqb, ne-eqb}
 use lib.ListN.{getD, length}
 use Rattle.calculus.specs.Limits.{min-file-length, max-file-length, min-parts, max-parts}
-use Rattle.recipe_file.specs.File.{edition, opening, parts, table-part, pair-at, length-of, outside, cause-1, opens, edition-known, cause-2, pairs-test, table-length-test, cause-3, layout-refusal}
+use Rattle.recipe_file.specs.File.{edition, opening, parts, table-part, pair-offset, length-of, outside, cause-1, opens, edition-known, cause-2, pairs-test, table-length-test, cause-3, layout-refusal}
 use Rattle.recipe_file.proofs.Chains.{pairs-cut}
 use Rattle.recipe_file.proofs.LaidOut.{between}
 
@@ -49,21 +49,21 @@ module _ (s : List ℕ) (n : ℕ) (e : n ≡ getD s 3 0) where
   unfolding parts
   as-parts = e
 
-  pub cut : length s < pair-at n → true ≡ cause-3 s
+  pub cut : length s < pair-offset n → true ≡ cause-3 s
   unfolding cause-3
   cut h =
-      let f : pairs-test s (parts s) 0 (pair-at (parts s)) ≡ false = pairs-cut s (parts s) 0 (pair-at (parts s)) (rw as-parts at h) in
+      let f : pairs-test s (parts s) 0 (pair-offset (parts s)) ≡ false = pairs-cut s (parts s) 0 (pair-offset (parts s)) (rw as-parts at h) in
       rw f refl
 
-  module _ (t : Bool) (p : t ≡ pairs-test s n 0 (pair-at n)) where
+  module _ (t : Bool) (p : t ≡ pairs-test s n 0 (pair-offset n)) where
     pub pairs-broken : t ≡ false → true ≡ cause-3 s
     unfolding cause-3
-    pairs-broken f = let g : pairs-test s (parts s) 0 (pair-at (parts s)) ≡ false = rw (← as-parts) (sym p ∙ f) in rw g refl
+    pairs-broken f = let g : pairs-test s (parts s) 0 (pair-offset (parts s)) ≡ false = rw (← as-parts) (sym p ∙ f) in rw g refl
 
     pub pairs-kept : t ≡ true → (size : ℕ) → size ≡ length-of s table-part → not (table-length-test size) ≡ cause-3 s
     unfolding cause-3
     pairs-kept f size q =
-        let g : pairs-test s (parts s) 0 (pair-at (parts s)) ≡ true = rw (← as-parts) (sym p ∙ f) in rw (g, q) refl
+        let g : pairs-test s (parts s) 0 (pair-offset (parts s)) ≡ true = rw (← as-parts) (sym p ∙ f) in rw (g, q) refl
 
 -- the lowest cause
 module _ (s : List ℕ) (t₁ : Bool) (e₁ : t₁ ≡ outside min-file-length max-file-length (length s)) where

@@ -8,8 +8,8 @@ use borrow.Author.Tests.{eq-eqb, eqb-true, eqb-false, ne-eqb, not-true}
 use lib.Dec.{eqb}
 use lib.ListN.{length}
 use Rattle.calculus.specs.Theory.Tests.{and-true, and-parts}
-use Rattle.recipe_file.specs.File.{parts, pair-at, offset-of, length-of, pairs-test}
-use Rattle.recipe_file.specs.Laid.{Laid}
+use Rattle.recipe_file.specs.File.{parts, pair-offset, offset-of, length-of, pairs-test}
+use Rattle.recipe_file.specs.FileRule.{FileRule}
 
 -- k pairs, of which i is the first and its part begins at `at`, keep the layout to the end of the file
 abbrev pub Chain : List ℕ → ℕ → ℕ → ℕ → Type 0
@@ -51,9 +51,9 @@ pairs-cut s k i at h = go (pairs-test s k i at) refl
     go true e = absurd (omega (arith, chain-room s k i at (chain-sound s k i at e)))
     go false e = refl
 
-module _ (s : List ℕ) (c : Chain s (parts s) 0 (pair-at (parts s))) where
-  pub chain-first : 0 < parts s → offset-of s 0 ≡ pair-at (parts s)
-  chain-first h = go (parts s) h (pair-at (parts s)) c
+module _ (s : List ℕ) (c : Chain s (parts s) 0 (pair-offset (parts s))) where
+  pub chain-first : 0 < parts s → offset-of s 0 ≡ pair-offset (parts s)
+  chain-first h = go (parts s) h (pair-offset (parts s)) c
     where
       go : (k : ℕ) → 0 < k → (at : ℕ) → Chain s k 0 at → offset-of s 0 ≡ at
       go zero h at c = absurd (omega arith)
@@ -61,25 +61,25 @@ module _ (s : List ℕ) (c : Chain s (parts s) 0 (pair-at (parts s))) where
 
   pub chain-next : (i : ℕ) → i + 1 < parts s → offset-of s (i + 1) ≡ offset-of s i + length-of s i
   chain-next i h =
-      let (at, d) = chain-at s i (parts s) 0 (pair-at (parts s)) i (suc (suc (parts s - (i + 2)))) (omega arith) (omega arith) c in
+      let (at, d) = chain-at s i (parts s) 0 (pair-offset (parts s)) i (suc (suc (parts s - (i + 2)))) (omega arith) (omega arith) c in
       omega (arith, d .0, d .2 .0)
 
   pub chain-last : (i : ℕ) → i + 1 ≡ parts s → offset-of s i + length-of s i ≡ length s
   chain-last i h =
-      let (at, d) = chain-at s i (parts s) 0 (pair-at (parts s)) i (suc zero) (omega arith) (omega arith) c in
+      let (at, d) = chain-at s i (parts s) 0 (pair-offset (parts s)) i (suc zero) (omega arith) (omega arith) c in
       omega (arith, d .0, d .2)
 
   pub chain-some : (i : ℕ) → i < parts s → 0 < length-of s i
   chain-some i h =
-      let (at, d) = chain-at s i (parts s) 0 (pair-at (parts s)) i (suc (parts s - (i + 1))) (omega arith) (omega arith) c in
+      let (at, d) = chain-at s i (parts s) 0 (pair-offset (parts s)) i (suc (parts s - (i + 1))) (omega arith) (omega arith) c in
       d .1
 
   pub chain-inside : (i : ℕ) → i < parts s → offset-of s i + length-of s i ≤ length s
   chain-inside i h =
-      let (at, d) = chain-at s i (parts s) 0 (pair-at (parts s)) i (suc (parts s - (i + 1))) (omega arith) (omega arith) c in
+      let (at, d) = chain-at s i (parts s) 0 (pair-offset (parts s)) i (suc (parts s - (i + 1))) (omega arith) (omega arith) c in
       omega (arith, d .0, chain-room s (parts s - (i + 1)) (i + 1) (at + length-of s i) (d .2))
 
-chain-of : (s : List ℕ) → Laid s → (k i at : ℕ) → i + k ≡ parts s → (0 < k → offset-of s i ≡ at) → (k ≡ 0 → at ≡ length s) → Chain s k i at
+chain-of : (s : List ℕ) → FileRule s → (k i at : ℕ) → i + k ≡ parts s → (0 < k → offset-of s i ≡ at) → (k ≡ 0 → at ≡ length s) → Chain s k i at
 chain-of s l zero i at e f g = g refl
 chain-of s l (suc k) i at e f g =
     let o = f (omega arith) in (
@@ -88,5 +88,5 @@ chain-of s l (suc k) i at e f g =
       chain-of s l k (i + 1) (at + length-of s i) (omega arith) (λ h. omega (arith, l .next i (omega arith))) (λ h. omega (arith, l .last i (omega arith))),
     )
 
-pub chain : (s : List ℕ) → Laid s → Chain s (parts s) 0 (pair-at (parts s))
-chain s l = chain-of s l (parts s) 0 (pair-at (parts s)) (omega arith) (λ h. l .first) (λ h. absurd (omega (arith, l .has-parts .low)))
+pub chain : (s : List ℕ) → FileRule s → Chain s (parts s) 0 (pair-offset (parts s))
+chain s l = chain-of s l (parts s) 0 (pair-offset (parts s)) (omega arith) (λ h. l .first) (λ h. absurd (omega (arith, l .has-parts .low)))

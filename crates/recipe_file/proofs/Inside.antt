@@ -5,12 +5,12 @@ use Prim.Native.Nat.{_+_, _-_, _<_, _≤_, suc, zero, ℕ}
 use native.Mathlib.Omega.{arith}
 use lib.ListN.{length, length-drop, length-take}
 use Rattle.calculus.specs.Limits.{max-bays}
-use Rattle.recipe_file.specs.File.{parts, table-part, first-term, bays, pair-at, offset-of, length-of, part, table-bytes}
-use Rattle.recipe_file.specs.Laid.{Between, Laid, HasPart, HasBay}
+use Rattle.recipe_file.specs.File.{parts, table-part, first-term, bays, pair-offset, offset-of, length-of, part, table-bytes}
+use Rattle.recipe_file.specs.FileRule.{Between, FileRule, HasPart, HasBay}
 use Rattle.recipe_file.proofs.Chains.{chain-room, chain-inside, chain}
 
-pub pairs-inside : {s : List ℕ} → Laid s → pair-at (parts s) ≤ length s
-pairs-inside {s} l = omega (arith, chain-room s (parts s) 0 (pair-at (parts s)) (chain s l))
+pub pairs-inside : {s : List ℕ} → FileRule s → pair-offset (parts s) ≤ length s
+pairs-inside {s} l = omega (arith, chain-room s (parts s) 0 (pair-offset (parts s)) (chain s l))
 
 pub part-inside : {s : List ℕ} {i : ℕ} → HasPart s i → offset-of s i + length-of s i ≤ length s
 part-inside {s} {i} h = chain-inside s (chain s (h .laid)) i (h .below)
@@ -20,10 +20,10 @@ unfolding part
 length-part {s} {i} h = let w = part-inside h in simp (length-take, length-drop) (omega arith)
 
 -- the table and the terms are parts
-pub table-is-part : {s : List ℕ} → Laid s → HasPart s table-part
+pub table-is-part : {s : List ℕ} → FileRule s → HasPart s table-part
 table-is-part l = record { laid = l; below = omega (arith, l .has-parts .low) }
 
-pub length-table-bytes : {s : List ℕ} → Laid s → length (table-bytes s) ≡ length-of s table-part
+pub length-table-bytes : {s : List ℕ} → FileRule s → length (table-bytes s) ≡ length-of s table-part
 unfolding table-bytes
 length-table-bytes l = length-part (table-is-part l)
 
@@ -32,17 +32,17 @@ unfolding bays
 term-is-part h = record { laid = h .laid; below = omega (arith, h .below) }
 
 -- "2 to 17 parts", so 1 to 16 bays
-pub bays-between : {s : List ℕ} → Laid s → Between 1 max-bays (bays s)
+pub bays-between : {s : List ℕ} → FileRule s → Between 1 max-bays (bays s)
 unfolding bays
 bays-between l = record { low = omega (arith, l .has-parts .low); high = omega (arith, l .has-parts .high) }
 
 -- "sorted by offset"
-sorted-by : (s : List ℕ) → Laid s → (i k : ℕ) → i + suc k < parts s → offset-of s i < offset-of s (i + suc k)
+sorted-by : (s : List ℕ) → FileRule s → (i k : ℕ) → i + suc k < parts s → offset-of s i < offset-of s (i + suc k)
 sorted-by s l i zero h = let e : i + 1 ≡ i + suc zero = omega arith in rw (← e) (omega (arith, l .next i (omega arith), l .some-length i (omega arith)))
 sorted-by s l i (suc k) h =
     let e : i + suc k + 1 ≡ i + suc (suc k) = omega arith in
     let ih = sorted-by s l i k (omega arith) in
     rw (← e) (omega (arith, l .next (i + suc k) (omega arith)))
 
-pub sorted : {s : List ℕ} → Laid s → (i j : ℕ) → i < j → j < parts s → offset-of s i < offset-of s j
+pub sorted : {s : List ℕ} → FileRule s → (i j : ℕ) → i < j → j < parts s → offset-of s i < offset-of s j
 sorted {s} l i j h b = let e : i + suc (j - (i + 1)) ≡ j = omega arith in rw e at (sorted-by s l i (j - (i + 1)) (omega arith))

@@ -10,8 +10,8 @@ use lib.Dec.{eqb, ltb}
 use lib.ListN.{getD, length, take}
 use Rattle.calculus.specs.Limits.{min-file-length, max-file-length, min-parts, max-parts, min-entries, max-entries}
 use Rattle.calculus.specs.Theory.Tests.{and-true, and-parts}
-use Rattle.recipe_file.specs.File.{opening, edition, parts, table-part, pair-at, length-of, outside, cause-1, opens, edition-known, cause-2, pairs-test, entry-length, table-length-test, cause-3, layout-refusal}
-use Rattle.recipe_file.specs.Laid.{Between, Laid}
+use Rattle.recipe_file.specs.File.{opening, edition, parts, table-part, pair-offset, length-of, outside, cause-1, opens, edition-known, cause-2, pairs-test, entry-length, table-length-test, cause-3, layout-refusal}
+use Rattle.recipe_file.specs.FileRule.{Between, FileRule}
 use Rattle.recipe_file.proofs.Chains.{chain-sound, chain-complete, chain-first, chain-next, chain-last, chain-some, chain}
 
 -- tests
@@ -65,15 +65,15 @@ entries-complete n (t, e, b) =
     and-true (eq-eqb (n % 3) 0 (omega arith))
     (ap not (within 9 768 n (record { low = omega (arith, b .low); high = omega (arith, b .high) })))
 
-pub laid : (s : List ℕ) → cause-1 s ≡ false → cause-2 s ≡ false → cause-3 s ≡ false → Laid s
+pub laid : (s : List ℕ) → cause-1 s ≡ false → cause-2 s ≡ false → cause-3 s ≡ false → FileRule s
 unfolding cause-1 cause-2 cause-3 edition-known
 laid s e₁ e₂ e₃ =
     let size = between min-file-length max-file-length (length s) e₁ in
     let (o, f) = or-parts (not (opens s)) _ e₂ in
     let (v, n) = or-parts (not (edition-known s)) (outside min-parts max-parts (parts s)) f in
-    let (p, t) = or-parts (not (pairs-test s (parts s) 0 (pair-at (parts s)))) (not (table-length-test (length-of s table-part))) e₃ in
+    let (p, t) = or-parts (not (pairs-test s (parts s) 0 (pair-offset (parts s)))) (not (table-length-test (length-of s table-part))) e₃ in
     let ps = between min-parts max-parts (parts s) n in
-    let c = chain-sound s (parts s) 0 (pair-at (parts s)) (not-false _ p) in
+    let c = chain-sound s (parts s) 0 (pair-offset (parts s)) (not-false _ p) in
     record {
       size = size;
       opens-so = opens-sound s (omega (arith, size .low)) (not-false (opens s) o);
@@ -86,7 +86,7 @@ laid s e₁ e₂ e₃ =
       entries = entries-sound (length-of s table-part) (not-false _ t);
     }
 
-module _ {s : List ℕ} (l : Laid s) where
+module _ {s : List ℕ} (l : FileRule s) where
   pub no-cause-1 : cause-1 s ≡ false
   unfolding cause-1
   no-cause-1 = within min-file-length max-file-length (length s) (l .size)
@@ -100,10 +100,10 @@ module _ {s : List ℕ} (l : Laid s) where
   pub no-cause-3 : cause-3 s ≡ false
   unfolding cause-3
   no-cause-3 =
-      or-false (ap not (chain-complete s (parts s) 0 (pair-at (parts s)) (chain s l)))
+      or-false (ap not (chain-complete s (parts s) 0 (pair-offset (parts s)) (chain s l)))
       (ap not (entries-complete (length-of s table-part) (l .entries)))
 
-pub laid-iff : (s : List ℕ) → ((cause-1 s ≡ false) × (cause-2 s ≡ false) × (cause-3 s ≡ false)) ↔ Laid s
+pub laid-iff : (s : List ℕ) → ((cause-1 s ≡ false) × (cause-2 s ≡ false) × (cause-3 s ≡ false)) ↔ FileRule s
 laid-iff s = (λ e. laid s (e .0) (e .1) (e .2), λ l. (no-cause-1 l, no-cause-2 l, no-cause-3 l))
 
 -- where the lowest of them is 0, none fits
@@ -117,5 +117,5 @@ no-layout-cause s e = go (cause-1 s) (cause-2 s) (cause-3 s) e
     go false false true e = absurd (omega arith)
     go false false false e = (refl, refl, refl)
 
-pub laid-where : (s : List ℕ) (r : ℕ) → r ≡ layout-refusal s → r ≡ 0 → Laid s
+pub laid-where : (s : List ℕ) (r : ℕ) → r ≡ layout-refusal s → r ≡ 0 → FileRule s
 laid-where s r e z = let (a, b, c) = no-layout-cause s (sym e ∙ z) in laid s a b c

@@ -6,8 +6,8 @@ use native.Mathlib.Omega.{arith}
 use lib.ListN.{drop, getD, length, length-append, length-drop, length-take}
 use lib.Seq.{drop-append-seam, drop-drop, getD-drop, take-append-seam}
 use Rattle.calculus.specs.Bytes.{two-bytes, word}
-use Rattle.recipe_file.specs.File.{edition, parts, table-part, pair-at, offset-of, length-of, part}
-use Rattle.recipe_file.specs.Laid.{Laid}
+use Rattle.recipe_file.specs.File.{edition, parts, table-part, pair-offset, offset-of, length-of, part}
+use Rattle.recipe_file.specs.FileRule.{FileRule}
 use Rattle.recipe_file.specs.Whole.{pairs-of, joined, file-of, parts-from, all-parts, NoneEmpty, Makes}
 use Rattle.recipe_file.proofs.Chains.{Chain, chain-first, chain-next, chain-last, chain-some, chain-inside}
 
@@ -32,17 +32,17 @@ length-pairs at [] = refl
 length-pairs at (p ∷ ps) = let h = length-pairs (at + length p) ps in omega arith
 
 -- the parts qs, whose pairs stand from pair i on
-made : (s : List ℕ) (qs : List (List ℕ)) (i at : ℕ) (rest : List ℕ) → NoneEmpty qs → drop (pair-at i) s ≡ pairs-of at qs ++ rest → drop at s ≡ joined qs →
+made : (s : List ℕ) (qs : List (List ℕ)) (i at : ℕ) (rest : List ℕ) → NoneEmpty qs → drop (pair-offset i) s ≡ pairs-of at qs ++ rest → drop at s ≡ joined qs →
     at + length (joined qs) ≡ length s → Chain s (length qs) i at × (parts-from s (length qs) i ≡ qs)
 unfolding pairs-of joined parts-from part offset-of length-of two-bytes
 made s [] i at rest f d j n = (omega arith, refl)
 made s (q ∷ qs) i at rest (f, g) d j n =
     let more = pairs-of (at + length q) qs ++ rest in
-    let o : offset-of s i ≡ at = word-read s (pair-at i) at (two-bytes (length q) ++ more) d in
-    let d₂ = past-word s (pair-at i) at (two-bytes (length q) ++ more) d in
-    let m : length-of s i ≡ length q = word-read s (pair-at i + 2) (length q) more d₂ in
-    let e : pair-at i + 2 + 2 ≡ pair-at (i + 1) = omega arith in
-    let d₃ : drop (pair-at (i + 1)) s ≡ more = rw e at (past-word s (pair-at i + 2) (length q) more d₂) in
+    let o : offset-of s i ≡ at = word-read s (pair-offset i) at (two-bytes (length q) ++ more) d in
+    let d₂ = past-word s (pair-offset i) at (two-bytes (length q) ++ more) d in
+    let m : length-of s i ≡ length q = word-read s (pair-offset i + 2) (length q) more d₂ in
+    let e : pair-offset i + 2 + 2 ≡ pair-offset (i + 1) = omega arith in
+    let d₃ : drop (pair-offset (i + 1)) s ≡ more = rw e at (past-word s (pair-offset i + 2) (length q) more d₂) in
     let j₂ : drop (at + length q) s ≡ joined qs = sym (drop-drop (length q) at s) ∙ (ap (drop (length q)) j ∙ drop-append-seam q (joined qs)) in
     let n₂ : at + length q + length (joined qs) ≡ length s = omega (arith, length-append q (joined qs)) in
     let (c, p) = made s qs (i + 1) (at + length q) rest g d₃ j₂ n₂ in
@@ -61,13 +61,13 @@ length-joined [] f = omega arith
 length-joined (p ∷ ps) (f, g) = omega (arith, length-append p (joined ps), length-joined ps g)
 
 module _ (ps : List (List ℕ)) (k : Makes ps) where
-  whole : Chain (file-of ps) (parts (file-of ps)) 0 (pair-at (parts (file-of ps))) × (all-parts (file-of ps) ≡ ps)
+  whole : Chain (file-of ps) (parts (file-of ps)) 0 (pair-offset (parts (file-of ps))) × (all-parts (file-of ps) ≡ ps)
   unfolding file-of parts all-parts
   whole =
-      let j : drop (pair-at (length ps)) (file-of ps) ≡ joined ps =
-      behind-four 0x4C 0x46 edition (length ps) (pairs-of (pair-at (length ps)) ps) (joined ps) (pair-at (length ps)) (omega (arith, length-pairs (pair-at (length ps)) ps)) in
-      made (file-of ps) ps 0 (pair-at (length ps)) (joined ps) (k .none-empty) refl j
-      (omega (arith, length-append (pairs-of (pair-at (length ps)) ps) (joined ps), length-pairs (pair-at (length ps)) ps))
+      let j : drop (pair-offset (length ps)) (file-of ps) ≡ joined ps =
+      behind-four 0x4C 0x46 edition (length ps) (pairs-of (pair-offset (length ps)) ps) (joined ps) (pair-offset (length ps)) (omega (arith, length-pairs (pair-offset (length ps)) ps)) in
+      made (file-of ps) ps 0 (pair-offset (length ps)) (joined ps) (k .none-empty) refl j
+      (omega (arith, length-append (pairs-of (pair-offset (length ps)) ps) (joined ps), length-pairs (pair-offset (length ps)) ps))
 
   pub made-parts : all-parts (file-of ps) ≡ ps
   made-parts = whole .1
@@ -92,13 +92,13 @@ module _ (ps : List (List ℕ)) (k : Makes ps) where
       let l : length (part s 0) ≡ length-of s 0 = simp (length-take, length-drop) (omega arith) in
       sym l ∙ ap length t
 
-  pub made-laid : Laid (file-of ps)
+  pub made-laid : FileRule (file-of ps)
   unfolding file-of parts
   made-laid =
       let s = file-of ps in
       let n = length-joined ps (k .none-empty) in
       record {
-        size = record { low = omega (arith, k .number .low, length-append (pairs-of (pair-at (length ps)) ps) (joined ps), length-pairs (pair-at (length ps)) ps); high = k .short };
+        size = record { low = omega (arith, k .number .low, length-append (pairs-of (pair-offset (length ps)) ps) (joined ps), length-pairs (pair-offset (length ps)) ps); high = k .short };
         opens-so = refl;
         has-edition = refl;
         has-parts = k .number;

@@ -7,8 +7,8 @@ use native.Mathlib.Omega.{arith}
 use lib.ListN.{drop, getD, length, take, take-append-drop}
 use lib.Seq.{drop-cons, drop-drop, drop-length}
 use Rattle.calculus.specs.Bytes.{Bytes, two-bytes, word}
-use Rattle.recipe_file.specs.File.{opening, edition, parts, pair-at, offset-of, length-of, part}
-use Rattle.recipe_file.specs.Laid.{Laid}
+use Rattle.recipe_file.specs.File.{opening, edition, parts, pair-offset, offset-of, length-of, part}
+use Rattle.recipe_file.specs.FileRule.{FileRule}
 use Rattle.recipe_file.specs.Whole.{pairs-of, joined, file-of, parts-from, all-parts}
 use Rattle.recipe_file.proofs.Chains.{Chain, chain}
 use Rattle.recipe_file.proofs.Inside.{pairs-inside, length-part}
@@ -37,7 +37,7 @@ four s j n h =
     let e₂ : j + 2 + 1 + 1 ≡ j + 4 = omega arith in
     rw (one s j (suc (suc (suc n))) (omega arith), one s (j + 1) (suc (suc n)) (omega arith), e₁, one s (j + 2) (suc n) (omega arith), one s (j + 2 + 1) n (omega arith), e₂) refl
 
-module _ (s : List ℕ) (l : Laid s) where
+module _ (s : List ℕ) (l : FileRule s) where
   -- the parts from i on are what stands from there to the end
   joined-from : (k i at : ℕ) → Chain s k i at → joined (parts-from s k i) ≡ drop at s
   unfolding joined parts-from part
@@ -46,16 +46,16 @@ module _ (s : List ℕ) (l : Laid s) where
       rw (joined-from k (i + 1) (at + length-of s i) c, o, ← drop-drop (length-of s i) at s, take-append-drop) refl
 
   -- the pairs from i on are what stands between pair i and the parts
-  pairs-from : Bytes s → (k i at : ℕ) → i + k ≡ parts s → Chain s k i at → pairs-of at (parts-from s k i) ≡ take (4 * k) (drop (pair-at i) s)
+  pairs-from : Bytes s → (k i at : ℕ) → i + k ≡ parts s → Chain s k i at → pairs-of at (parts-from s k i) ≡ take (4 * k) (drop (pair-offset i) s)
   unfolding pairs-of parts-from offset-of length-of
   pairs-from b zero i at e c = refl
   pairs-from b (suc k) i at e (o, p, c) =
       let n : length (part s i) ≡ length-of s i = length-part (record { laid = l; below = omega arith }) in
-      let q : pairs-of (at + length-of s i) (parts-from s k (i + 1)) ≡ take (4 * k) (drop (pair-at (i + 1)) s) = pairs-from b k (i + 1) (at + length-of s i) (omega arith) c in
+      let q : pairs-of (at + length-of s i) (parts-from s k (i + 1)) ≡ take (4 * k) (drop (pair-offset (i + 1)) s) = pairs-from b k (i + 1) (at + length-of s i) (omega arith) c in
       let f : 4 * suc k ≡ suc (suc (suc (suc (4 * k)))) = omega arith in
-      let g : pair-at (i + 1) ≡ pair-at i + 4 = omega arith in
+      let g : pair-offset (i + 1) ≡ pair-offset i + 4 = omega arith in
       let r = pairs-inside l in
-      rw (n, q, g, ← o, bytes-word s b (pair-at i), bytes-word s b (pair-at i + 2), f, four s (pair-at i) (4 * k) (omega arith)) refl
+      rw (n, q, g, ← o, bytes-word s b (pair-offset i), bytes-word s b (pair-offset i + 2), f, four s (pair-offset i) (4 * k) (omega arith)) refl
 
 -- the first four bytes
 head : (s : List ℕ) → 4 ≤ length s → take (length opening) s ≡ opening → getD s 2 0 ≡ edition → s ≡ opening ++ (edition ∷ parts s ∷ drop 4 s)
@@ -70,16 +70,16 @@ head (a ∷ b ∷ c ∷ d ∷ s) h e f =
     rw (p, q, f) refl
 
 -- the file is the opening, the edition, the number of its parts, their pairs, and the parts
-pub one-reading : (s : List ℕ) → Laid s → Bytes s → file-of (all-parts s) ≡ s
+pub one-reading : (s : List ℕ) → FileRule s → Bytes s → file-of (all-parts s) ≡ s
 unfolding file-of all-parts
 one-reading s l b =
     let n = length-parts s (parts s) 0 in
     let c = chain s l in
-    let p = pairs-from s l b (parts s) 0 (pair-at (parts s)) (omega arith) c in
-    let q = joined-from s l (parts s) 0 (pair-at (parts s)) c in
-    let e : drop (pair-at (parts s)) s ≡ drop (4 * parts s) (drop 4 s) = sym (drop-drop (4 * parts s) 4 s) in
+    let p = pairs-from s l b (parts s) 0 (pair-offset (parts s)) (omega arith) c in
+    let q = joined-from s l (parts s) 0 (pair-offset (parts s)) c in
+    let e : drop (pair-offset (parts s)) s ≡ drop (4 * parts s) (drop 4 s) = sym (drop-drop (4 * parts s) 4 s) in
     rw (n, p, q, e, take-append-drop) (sym (head s (omega (arith, l .size .low)) (l .opens-so) (l .has-edition)))
 
 -- so a file is known by its parts
-pub same-parts : (s s′ : List ℕ) → Laid s → Laid s′ → Bytes s → Bytes s′ → all-parts s ≡ all-parts s′ → s ≡ s′
+pub same-parts : (s s′ : List ℕ) → FileRule s → FileRule s′ → Bytes s → Bytes s′ → all-parts s ≡ all-parts s′ → s ≡ s′
 same-parts s s′ l l′ b b′ e = sym (one-reading s l b) ∙ (ap file-of e ∙ one-reading s′ l′ b′)

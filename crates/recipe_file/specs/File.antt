@@ -20,14 +20,14 @@ unfoldable pub parts : List ℕ → ℕ
 parts s = getD s 3 0
 
 -- document 01, "Then n pairs of offset and length, two bytes each": where pair i stands; behind the last of n pairs it is 4 + 4n
-abbrev pub pair-at : ℕ → ℕ
-pair-at i = 4 + 4 * i
+abbrev pub pair-offset : ℕ → ℕ
+pair-offset i = 4 + 4 * i
 
 unfoldable pub offset-of : List ℕ → ℕ → ℕ
-offset-of s i = word s (pair-at i)
+offset-of s i = word s (pair-offset i)
 
 unfoldable pub length-of : List ℕ → ℕ → ℕ
-length-of s i = word s (pair-at i + 2)
+length-of s i = word s (pair-offset i + 2)
 
 -- the part that pair i names
 unfoldable pub part : List ℕ → ℕ → List ℕ
@@ -83,7 +83,7 @@ table-length-test n = eqb (n % entry-length) 0 && not (outside (entry-length * m
 
 -- document 01, cause 3: "pairs break the layout", where "The first part begins at 4 + 4n"; or the table's length
 unfoldable pub cause-3 : List ℕ → Bool
-cause-3 s = not (pairs-test s (parts s) 0 (pair-at (parts s))) || not (table-length-test (length-of s table-part))
+cause-3 s = not (pairs-test s (parts s) 0 (pair-offset (parts s))) || not (table-length-test (length-of s table-part))
 
 -- document 01, "The lowest number that fits wins", for causes 1 to 3; 0 where none fits
 unfoldable pub layout-refusal : List ℕ → ℕ

@@ -6,8 +6,8 @@ use Prim.Native.Nat.{_*_, _+_, _<_, _≤_, suc, zero, ℕ}
 use lib.ListN.{getD, length}
 use Rattle.calculus.specs.Bytes.{Bytes, two-bytes}
 use Rattle.calculus.specs.Limits.{max-file-length, min-parts, max-parts, min-entries, max-entries}
-use Rattle.recipe_file.specs.File.{opening, edition, parts, pair-at, part, table-part, entry-length}
-use Rattle.recipe_file.specs.Laid.{Between}
+use Rattle.recipe_file.specs.File.{opening, edition, parts, pair-offset, part, table-part, entry-length}
+use Rattle.recipe_file.specs.FileRule.{Between}
 
 -- document 01, "pairs of offset and length, two bytes each", of parts that follow each other from `at` on
 unfoldable pub pairs-of : ℕ → List (List ℕ) → List ℕ
@@ -21,7 +21,7 @@ joined (p ∷ ps) = p ++ joined ps
 
 -- the file of some parts: opening, edition, their number, their pairs, the parts
 unfoldable pub file-of : List (List ℕ) → List ℕ
-file-of ps = opening ++ (edition ∷ length ps ∷ (pairs-of (pair-at (length ps)) ps ++ joined ps))
+file-of ps = opening ++ (edition ∷ length ps ∷ (pairs-of (pair-offset (length ps)) ps ++ joined ps))
 
 -- the parts of a file, k of them, of which i is the first
 unfoldable pub parts-from : List ℕ → ℕ → ℕ → List (List ℕ)

@@ -1,7 +1,7 @@
 // Where the walk over the pairs stands.
 ghost use mathlib.Core.Path.{_≡_};
 ghost use Prim.Native.Nat.{_+_, _<_};
-ghost use Rattle.recipe_file.specs.File.{pair-at};
+ghost use Rattle.recipe_file.specs.File.{pair-offset};
 
 // The next pair, and where its part is to begin.
 pub struct Cursor {
@@ -13,11 +13,11 @@ impl Cursor {
     // Before the first of n pairs.
     pub fn new(n: usize) -> Cursor
         requires { ⌜ n < 65536 ⌝ }
-        ensures { λ r. ⌜ (r .pair ≡ 0) × (r .at ≡ pair-at n) ⌝ }
+        ensures { λ r. ⌜ (r .pair ≡ 0) × (r .at ≡ pair-offset n) ⌝ }
     {
         Cursor {
             pair: 0,
-            at: crate::pair_at(n),
+            at: crate::pair_offset(n),
         }
     }
 

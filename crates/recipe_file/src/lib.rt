@@ -4,36 +4,14 @@ ghost use Prim.Native.Nat.{_+_, _*_, _<_, _≤_};
 ghost use lib.ListN.{length};
 ghost use Rattle.calculus.specs.Bytes.{word};
 ghost use Rattle.calculus.specs.Limits.{min-file-length};
-ghost use Rattle.recipe_file.specs.File.{bays, pair-at, offset-of, length-of, part, table-bytes, term-bytes, outside, cause-2, pairs-test, table-length-test, cause-3, layout-refusal};
-ghost use Rattle.recipe_file.specs.Laid.{Laid, HasPart, HasBay};
+ghost use Rattle.recipe_file.specs.File.{bays, pair-offset, offset-of, length-of, part, table-bytes, term-bytes, outside, cause-2, pairs-test, table-length-test, cause-3, layout-refusal};
+ghost use Rattle.recipe_file.specs.FileRule.{FileRule, HasPart, HasBay};
 
 mod cursor;
-pub mod limits;
 
 use cursor::Cursor;
-
-// A recipe file, with its limits.
-pub struct Recipe {}
-
-impl Recipe {
-    pub const MIN_FILE: usize = 12;
-
-    pub const MAX_FILE: usize = 8192;
-
-    pub const MIN_PARTS: usize = 2;
-
-    pub const MAX_PARTS: usize = 17;
-
-    pub const MAX_BAYS: usize = 16;
-
-    pub const MIN_ENTRIES: usize = 3;
-
-    pub const MAX_ENTRIES: usize = 256;
-
-    pub const MAX_NESTING: usize = 100;
-
-    pub const MAX_NODES: usize = 1024;
-}
+use numbers::Cause;
+use numbers::Recipe;
 
 // The first two bytes of every recipe.
 pub const OPENING: [u8; 2] = *b"LF";
@@ -50,9 +28,9 @@ const FIRST_TERM: usize = 1;
 pub const ENTRY_LENGTH: usize = 3;
 
 // Where pair i stands; behind the last of n pairs the first part begins.
-pub fn pair_at(i: usize) -> usize
+pub fn pair_offset(i: usize) -> usize
     requires { ⌜ i < 65536 ⌝ }
-    ensures { λ r. ⌜ r ≡ pair-at i ⌝ }
+    ensures { λ r. ⌜ r ≡ pair-offset i ⌝ }
 {
     4 + 4 * i
 }
@@ -74,18 +52,18 @@ fn word_at(recipe: &[u8], at: usize) -> usize
 
 // The offset that pair i says.
 fn offset_of(recipe: &[u8], i: usize) -> usize
-    requires { ⌜ (i < 256) × (pair-at (i + 1) ≤ length (now recipe)) ⌝ }
+    requires { ⌜ (i < 256) × (pair-offset (i + 1) ≤ length (now recipe)) ⌝ }
     ensures { λ r. ⌜ (r ≡ offset-of (now (recipe .entry)) i) × (r < 65536) ⌝ }
 {
-    word_at(recipe, pair_at(i))
+    word_at(recipe, pair_offset(i))
 }
 
 // The length that pair i says.
 fn length_of(recipe: &[u8], i: usize) -> usize
-    requires { ⌜ (i < 256) × (pair-at (i + 1) ≤ length (now recipe)) ⌝ }
+    requires { ⌜ (i < 256) × (pair-offset (i + 1) ≤ length (now recipe)) ⌝ }
     ensures { λ r. ⌜ (r ≡ length-of (now (recipe .entry)) i) × (r < 65536) ⌝ }
 {
-    word_at(recipe, pair_at(i) + 2)
+    word_at(recipe, pair_offset(i) + 2)
 }
 
 // n is below `least` or above `most`.
@@ -114,8 +92,8 @@ fn opening_breaks(recipe: &[u8]) -> bool
 
 // The parts of n pairs follow each other from the pairs to the end of the file, and none is empty.
 fn pairs_stand(recipe: &[u8], n: usize) -> bool
-    requires { ⌜ (n < 256) × (pair-at n ≤ length (now recipe)) ⌝ }
-    ensures { λ r. ⌜ r ≡ pairs-test (now (recipe .entry)) n 0 (pair-at n) ⌝ }
+    requires { ⌜ (n < 256) × (pair-offset n ≤ length (now recipe)) ⌝ }
+    ensures { λ r. ⌜ r ≡ pairs-test (now (recipe .entry)) n 0 (pair-offset n) ⌝ }
 {
     let mut cursor = Cursor::new(n);
     while cursor.pair < n {
@@ -152,7 +130,7 @@ fn layout_breaks(recipe: &[u8]) -> bool
     ensures { λ r. ⌜ r ≡ cause-3 (now (recipe .entry)) ⌝ }
 {
     let n = wide(recipe[3]);
-    if recipe.len() < pair_at(n) {
+    if recipe.len() < pair_offset(n) {
         return true;
     }
     if !pairs_stand(recipe, n) {
@@ -166,20 +144,20 @@ pub fn layout_refusal(recipe: &[u8]) -> u8
     ensures { λ r. ⌜ r ≡ layout-refusal (now (recipe .entry)) ⌝ }
 {
     if is_outside(Recipe::MIN_FILE, Recipe::MAX_FILE, recipe.len()) {
-        return 1;
+        return Cause::FILE_LENGTH;
     }
     if opening_breaks(recipe) {
-        return 2;
+        return Cause::OPENING;
     }
     if layout_breaks(recipe) {
-        return 3;
+        return Cause::LAYOUT;
     }
     0
 }
 
 // How many bays a recipe has.
 pub fn bay_count(recipe: &[u8]) -> usize
-    requires { ⌜ Laid (now recipe) ⌝ }
+    requires { ⌜ FileRule (now recipe) ⌝ }
     ensures { λ r. ⌜ r ≡ bays (now (recipe .entry)) ⌝ }
 {
     wide(recipe[3]) - FIRST_TERM
@@ -197,7 +175,7 @@ pub fn part(recipe: &[u8], i: usize) -> &[u8]
 
 // The bytes of the type table.
 pub fn table_bytes(recipe: &[u8]) -> &[u8]
-    requires { ⌜ Laid (now recipe) ⌝ }
+    requires { ⌜ FileRule (now recipe) ⌝ }
     ensures { λ r. ⌜ now r ≡ table-bytes (now (recipe .entry)) ⌝ }
 {
     part(recipe, TABLE_PART)

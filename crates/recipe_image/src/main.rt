@@ -1,9 +1,9 @@
 // Reads a recipe from standard input and writes document 01's two lines: the word verdict and the number, 0 for accepted; then, if accepted, the word image and
 // the starting image in upper-case hexadecimal.
-use image_layout::Image;
 use libc::STDIN_FILENO;
 use libc::STDOUT_FILENO;
-use recipe_file::Recipe;
+use numbers::Image;
+use numbers::Recipe;
 ghost use Prim.Native.Nat.{_<_};
 ghost use Rattle.io.specs.Counts.{Counts};
 

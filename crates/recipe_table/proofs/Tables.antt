@@ -10,7 +10,7 @@ use Rattle.calculus.specs.Limits.{min-entries, max-entries}
 use Rattle.calculus.specs.Table.{TableRule, table-test}
 use Rattle.calculus.specs.Theory.TableTest.{table-test-iff}
 use Rattle.recipe_file.specs.File.{entry-length, table-bytes, cause-1, cause-2, cause-3, layout-refusal}
-use Rattle.recipe_file.specs.Laid.{Between, Laid}
+use Rattle.recipe_file.specs.FileRule.{Between, FileRule}
 use Rattle.recipe_file.proofs.LaidOut.{laid, no-cause-1, no-cause-2, no-cause-3, no-layout-cause}
 use Rattle.recipe_file.proofs.Inside.{length-table-bytes}
 use Rattle.recipe_table.specs.declared.Entry.{Entry}
@@ -18,7 +18,7 @@ use Rattle.recipe_table.specs.Entries.{type-table, cause-4, table-refusa
 use Rattle.recipe_table.specs.Filled.{as-table, filled}
 use Rattle.recipe_table.proofs.Arrays.{length-table-of, as-table-filled}
 
-module _ {s : List ℕ} (l : Laid s) where
+module _ {s : List ℕ} (l : FileRule s) where
   pub length-table : length (type-table s) ≡ length (table-bytes s) / entry-length
   unfolding type-table
   length-table = length-table-of (table-bytes s)
@@ -63,7 +63,7 @@ module _ (s : List ℕ) (r : ℕ) (e : r ≡ layout-refusal s) (z : r ≡ 0) (a 
   table-sound h = rw h at decided
 
 -- no cause up to 4 fits exactly when the file is laid out and its table keeps the rules
-pub table-admitted-iff : (s : List ℕ) → (table-refusal s ≡ 0) ↔ (Laid s × TableRule (type-table s))
+pub table-admitted-iff : (s : List ℕ) → (table-refusal s ≡ 0) ↔ (FileRule s × TableRule (type-table s))
 unfolding table-refusal cause-4
 table-admitted-iff s = (there, back)
   where
@@ -74,10 +74,10 @@ table-admitted-iff s = (there, back)
     causes false false false true e = (refl, refl, refl, refl)
     causes false false false false e = absurd (omega arith)
 
-    there : table-refusal s ≡ 0 → Laid s × TableRule (type-table s)
+    there : table-refusal s ≡ 0 → FileRule s × TableRule (type-table s)
     there e =
         let (a, b, c, d) = causes (cause-1 s) (cause-2 s) (cause-3 s) (table-test (type-table s)) e in
         (laid s a b c, table-test-iff (type-table s) .0 d)
 
-    back : Laid s × TableRule (type-table s) → table-refusal s ≡ 0
+    back : FileRule s × TableRule (type-table s) → table-refusal s ≡ 0
     back (l, r) = rw (no-cause-1 l, no-cause-2 l, no-cause-3 l, table-test-iff (type-table s) .1 r) refl

@@ -1,17 +1,17 @@
 // The type table: read by value, and its rules.
-ghost use mathlib.Core.Path.{_≡_};
 ghost use mathlib.Core.Bool.{_&&_};
+ghost use mathlib.Core.Path.{_≡_};
 ghost use Prim.Native.Nat.{_-_, _≤_, _/_};
 ghost use lib.ListN.{length};
 ghost use Rattle.calculus.specs.Limits.{min-entries, max-entries};
 ghost use Rattle.calculus.specs.Table.{entry, entry-test, entries-test, same-entry, distinct-test, table-test};
 ghost use Rattle.recipe_file.specs.File.{entry-length};
-ghost use Rattle.recipe_file.specs.Laid.{Between, Laid};
+ghost use Rattle.recipe_file.specs.FileRule.{Between, FileRule};
 ghost use Rattle.recipe_table.specs.Entries.{table-of, type-table, table-refusal};
 ghost use Rattle.recipe_table.specs.Keys.{Coded, absent};
 ghost use Rattle.recipe_table.specs.Filled.{as-entry, as-table, filled, first-three};
+use numbers::Recipe;
 use recipe_file::ENTRY_LENGTH;
-use recipe_file::Recipe;
 
 // An entry of the type table.
 pub struct Entry {
@@ -185,7 +185,7 @@ pub fn table_stands(table: [Entry; Recipe::MAX_ENTRIES], count: usize) -> bool
 
 // The type table of a recipe.
 pub fn table_in(recipe: &[u8]) -> [Entry; Recipe::MAX_ENTRIES]
-    requires { ⌜ Laid (now recipe) ⌝ }
+    requires { ⌜ FileRule (now recipe) ⌝ }
     ensures { λ r. ⌜ r ≡ filled (type-table (now (recipe .entry))) ⌝ }
 {
     let bytes = recipe_file::table_bytes(recipe);
@@ -194,7 +194,7 @@ pub fn table_in(recipe: &[u8]) -> [Entry; Recipe::MAX_ENTRIES]
 
 // How many entries the type table of a recipe has.
 pub fn entry_count(recipe: &[u8]) -> usize
-    requires { ⌜ Laid (now recipe) ⌝ }
+    requires { ⌜ FileRule (now recipe) ⌝ }
     ensures { λ r. ⌜ r ≡ length (type-table (now (recipe .entry))) ⌝ }
 {
     let bytes = recipe_file::table_bytes(recipe);

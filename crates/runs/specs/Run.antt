@@ -1,6 +1,6 @@
 -- Document 01, "A run", in bytes: "an accepted recipe, its load into a buffer that is long enough, and a list of steps, none or many"; and the third demand, one
--- claim about all of the list. What is accepted and loaded is said by `verdict-of`, `loaded-of` and `out-after` of crates verdict and loader, what a step answers and
--- leaves by `outcome-of` and `out-after` of crate stepping: the definitions that the contracts of check, load and step cite.
+-- claim about all of the list. What is accepted and loaded is said by `verdict-of`, `loaded-of` and `out-after-step` of crates verdict and loader, what a step answers and
+-- leaves by `outcome-of` and `out-after-step` of crate stepping: the definitions that the contracts of check, load and step cite.
 use mathlib.Core.Path.{_≡_}
 use mathlib.Core.Logic.{_↔_}
 use mathlib.Core.Option.{some}
@@ -23,7 +23,7 @@ use Rattle.image.specs.Configuration.{config-of}
 use Rattle.load_spec.specs.Loading as load
 use Rattle.step_spec.specs.declared.Outcome.{Outcome}
 use Rattle.step_spec.specs.declared.Outcome.the-variants.{Rule, Done, Waiting, Refused}
-use Rattle.step_spec.specs.Stepping.{outcome-of, out-after}
+use Rattle.step_spec.specs.Stepping.{outcome-of, out-after-step}
 
 -- document 01, "Each step has any thread number and any out buffer, of any length and holding any bytes"
 pub record Call : Type 0 where
@@ -48,7 +48,7 @@ image-left (Waiting y) out image = image
 image-left (Refused number) out image = image
 
 abbrev pub left : Step → List ℕ
-left n = image-left (answer n) (out-after (n .image) (n .call .thread) (n .call .out)) (n .image)
+left n = image-left (answer n) (out-after-step (n .image) (n .call .thread) (n .call .out)) (n .image)
 
 -- the types of the names of the image that it leaves
 unfoldable pub types-by : Outcome → List LinType → List LinType → List LinType
@@ -87,8 +87,8 @@ Goes (Waiting y) = Unit {0}
 Goes (Refused number) = number ≡ 15
 
 -- "each cell and finished thread has a value of its type", names so typed
-abbrev pub Typed : TypeNumbers → List ℕ → List LinType → Type 0
-Typed τ image types = ValuesTyped τ (record { names = types; config = config-of image })
+abbrev pub ValuesTypedIn : TypeNumbers → List ℕ → List LinType → Type 0
+ValuesTypedIn τ image types = ValuesTyped τ (record { names = types; config = config-of image })
 
 -- the third demand: "For every run: ..", for the calls from this image with these types
 pub record Demand (τ : TypeNumbers) (image : List ℕ) (types : List LinType) (calls : List Call) : Type 0 where
@@ -106,12 +106,12 @@ pub record Demand (τ : TypeNumbers) (image : List ℕ) (types : List LinType) (
   -- "and otherwise a rule, done, waiting or 15"
   pub otherwise : (i : ℕ) (n : Step) → at (steps τ image types calls) i ≡ some n → ¬ (length (n .call .out) < max-image-length) → IsThread n → Goes (answer n)
   -- "after the load and after every step each cell and finished thread has a value of its type"
-  pub typed-loaded : Typed τ image types
-  pub typed-after : (i : ℕ) (n : Step) → at (steps τ image types calls) i ≡ some n → Typed τ (left n) (types-left τ n)
+  pub typed-loaded : ValuesTypedIn τ image types
+  pub typed-after : (i : ℕ) (n : Step) → at (steps τ image types calls) i ≡ some n → ValuesTypedIn τ (left n) (types-left τ n)
 
 -- "The first step is handed the image that the load wrote, all of it and no byte beyond": of the recipe in the file, loaded into this out buffer
 abbrev pub image-loaded : List ℕ → List ℕ → List ℕ
-image-loaded file out = take (load.loaded-of file (length out) .length) (load.out-after file out)
+image-loaded file out = take (load.loaded-of file (length out) .length) (load.out-after-load file out)
 
 -- the types of its names: "cell of num for a setting, the bay's type for its first thread"
 abbrev pub types-loaded : List ℕ → List LinType

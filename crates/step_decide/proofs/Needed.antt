@@ -18,7 +18,7 @@ use Rattle.image_layout.specs.Slice.{kind-at, companion-at, offset-at, length-a
 use Rattle.image_layout.specs.Readable.{HasHead}
 use Rattle.image.specs.Configuration.{config-of}
 use Rattle.term_redex.specs.declared.Meeting.{Meeting}
-use Rattle.step_rules.specs.Meets.{Meets, move-of}
+use Rattle.step_rules.specs.Meets.{MeetsAt, move-of}
 use Rattle.step_rules.specs.Stepped.{Stepped}
 use Rattle.step_rules.specs.Theory.Reading.{below, thread-stands}
 use Rattle.step_rules.specs.Theory.Rules.{deref-moves, deref-exch-moves, bind-moves, exchange-moves}
@@ -43,7 +43,7 @@ not-settled y (meet F f v wf wv) answer h = refl
 not-settled y loose answer h = refl
 
 -- the value of a thread is needed
-follows : {s : List ℕ} {x : ℕ} {m : Meeting} {F : Context} {f : Exp} {w : Value f} {v : Exp} → Meets s x m F w v → (y : ℕ) (e : Exp) (answer : Answer)
+follows : {s : List ℕ} {x : ℕ} {m : Meeting} {F : Context} {f : Exp} {w : Value f} {v : Exp} → MeetsAt s x m F w v → (y : ℕ) (e : Exp) (answer : Answer)
     → at (config-of s) y ≡ some (thread-of e) → step-of (config-of s) x ≡ when-done y (place e) answer
     → (Value e → Stepped s x (move-of 3 x m y (offset-at s y) (offset-at s y + length-at s y) 0)) → Follows s x m y
 follows {s} M y e answer h step done =
@@ -57,7 +57,7 @@ follows {s} M y e answer h step done =
     }
 
 -- a name that stands in the function is a name of the image
-module _ {s : List ℕ} {x : ℕ} {m : Meeting} {F : Context} {f : Exp} {w : Value f} {v : Exp} (M : Meets s x m F w v) (y : ℕ) (there : 1 ≤ count y f) where
+module _ {s : List ℕ} {x : ℕ} {m : Meeting} {F : Context} {f : Exp} {w : Value f} {v : Exp} (M : MeetsAt s x m F w v) (y : ℕ) (there : 1 ≤ count y f) where
   needed-head : HasHead s y
   needed-head = head-there s (M .in-bytes) (M .stands) y (name-there M y there)
 
@@ -74,7 +74,7 @@ one-exchanged y c = omega (arith, one-name y)
 
 -- name y is applied
 module _ {s : List ℕ} {x : ℕ} {m : Meeting} {y : ℕ} (c : Calls s x m y) where
-  abbrev called : Meets s x m (c .context) (is-name {k = y}) (c .argument)
+  abbrev called : MeetsAt s x m (c .context) (is-name {k = y}) (c .argument)
   called = c .meets
 
   pub call-head : HasHead s y
@@ -108,7 +108,7 @@ module _ {s : List ℕ} {x : ℕ} {m : Meeting} {y : ℕ} (c : Calls s x m y) wh
 
 -- name y is the first argument of a full exch
 module _ {s : List ℕ} {x : ℕ} {m : Meeting} {y : ℕ} (c : ExchangesName s x m y) where
-  abbrev exchanged : Meets s x m (c .context) (is-exch {t = c .constant} (is-name {k = y})) (c .argument)
+  abbrev exchanged : MeetsAt s x m (c .context) (is-exch {t = c .constant} (is-name {k = y})) (c .argument)
   exchanged = c .meets
 
   pub exchange-head : HasHead s y

@@ -15,10 +15,10 @@ use Rattle.term.specs.Expressions.{bytes, const-bytes, op-tag, TermAt}
 use Rattle.term.proofs.Sizes.{length-bytes}
 use Rattle.image.specs.Configuration.{config-of}
 use Rattle.term_redex.specs.declared.Meeting.{Meeting}
-use Rattle.step_rules.specs.Meets.{Deciding, Meets, move-of}
+use Rattle.step_rules.specs.Meets.{Deciding, MeetsAt, move-of}
 use Rattle.step_rules.specs.Stepped.{Stepped}
 use Rattle.step_rules.specs.Theory.Rules.{beta-moves, thread-moves, handle-moves, cell-moves}
-use Rattle.step_rules.specs.Theory.Found.{MeetsAt, found-meets}
+use Rattle.step_rules.specs.Theory.Found.{FoundMeeting, found-meets}
 use Rattle.step_rules.specs.Theory.Writers.{size-positive}
 use Rattle.step_decide.specs.Rules.{rules}
 use Rattle.step_decide.specs.Asked.{Calls, Exchanges, ExchangesName}
@@ -50,7 +50,7 @@ module _ {s : List ℕ} {x : ℕ} {m : Meeting} (tag : ℕ) (is : getD s (m .at 
   goes-not : getD rules tag 0 ≡ 0 → step-of (config-of s) x ≡ wrong-kind → Root s x m (getD s (m .at + 1) 0)
   goes-not r h = rw is (root-plain (other .0) (other .1) (other .2) (rw r (record { no-rule = λ z. h; by-rule = λ z. absurd (z refl) })))
 
-root : {s : List ℕ} {x : ℕ} {m : Meeting} {F : Context} {f : Exp} (w : Value f) {v : Exp} → Meets s x m F w v → Root s x m (getD s (m .at + 1) 0)
+root : {s : List ℕ} {x : ℕ} {m : Meeting} {F : Context} {f : Exp} (w : Value f) {v : Exp} → MeetsAt s x m F w v → Root s x m (getD s (m .at + 1) 0)
 unfolding bytes const-bytes op-tag size const-size step-meeting rules
 root {s} {x} {m} {F} (is-name {k = k}) {v} M =
     let t = M .placed .application in
@@ -68,7 +68,7 @@ root (is-const {c = op handle t}) M = goes-by 8 (byte-there (M .placed .applicat
 
 -- of the meeting that a search has found
 module _ {s : List ℕ} {x : ℕ} {m : Meeting} (b : Bytes s) (d : Deciding s x m) where
-  found : MeetsAt s x m
+  found : FoundMeeting s x m
   found = found-meets b d
 
   -- the function is inside
@@ -119,7 +119,7 @@ data First (s : List ℕ) (x : ℕ) (m : Meeting) : ℕ → Type 0 where
   first-name : m .at + 6 ≤ length s → ExchangesName s x m (getD s (m .at + 5) 0) → First s x m 9
   first-other : {tag : ℕ} → ¬ (tag ≡ 9) → step-of (config-of s) x ≡ wrong-kind → First s x m tag
 
-first : {s : List ℕ} {x t : ℕ} {m : Meeting} {F : Context} {u : Exp} (w : Value u) {v : Exp} → Meets s x m F (is-exch {t = t} w) v → First s x m (getD s (m .at + 4) 0)
+first : {s : List ℕ} {x t : ℕ} {m : Meeting} {F : Context} {u : Exp} (w : Value u) {v : Exp} → MeetsAt s x m F (is-exch {t = t} w) v → First s x m (getD s (m .at + 4) 0)
 unfolding bytes const-bytes op-tag size const-size step-meeting
 first {s} {x} {t} {m} {F} (is-name {k = k}) {v} M =
     let h = M .placed .application in

@@ -13,14 +13,14 @@ use Rattle.image_layout.specs.Slice.{offset-at, length-at}
 use Rattle.image_layout.specs.Readable.{HasHead}
 use Rattle.image.specs.Configuration.{config-of}
 use Rattle.term_redex.specs.declared.Meeting.{Meeting}
-use Rattle.step_rules.specs.Meets.{Meets, move-of}
+use Rattle.step_rules.specs.Meets.{MeetsAt, move-of}
 use Rattle.step_rules.specs.Stepped.{Stepped}
 
 -- name y is the function
 pub record Calls (s : List ℕ) (x : ℕ) (m : Meeting) (y : ℕ) : Type 0 where
   pub context : Context
   pub argument : Exp
-  pub meets : Meets s x m context (is-name {k = y}) argument
+  pub meets : MeetsAt s x m context (is-name {k = y}) argument
 
 -- exch applied to a value is
 pub record Exchanges (s : List ℕ) (x : ℕ) (m : Meeting) : Type 0 where
@@ -29,14 +29,14 @@ pub record Exchanges (s : List ℕ) (x : ℕ) (m : Meeting) : Type 0 where
   pub first : Exp
   pub first-value : Value first
   pub argument : Exp
-  pub meets : Meets s x m context (is-exch {t = constant} first-value) argument
+  pub meets : MeetsAt s x m context (is-exch {t = constant} first-value) argument
 
 -- and that value is name y
 pub record ExchangesName (s : List ℕ) (x : ℕ) (m : Meeting) (y : ℕ) : Type 0 where
   pub context : Context
   pub constant : ℕ
   pub argument : Exp
-  pub meets : Meets s x m context (is-exch {t = constant} (is-name {k = y})) argument
+  pub meets : MeetsAt s x m context (is-exch {t = constant} (is-name {k = y})) argument
 
 -- the value of thread y is needed, at the function of an application or at the first argument of a full exch
 pub record Follows (s : List ℕ) (x : ℕ) (m : Meeting) (y : ℕ) : Type 0 where

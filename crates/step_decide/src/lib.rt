@@ -1,14 +1,16 @@
 // Document 01, "A step": what comes of the place where two values meet. The tag of the function decides, and where it is a name, or exch applied to one, the kind
 // of that name.
-use image_layout::Image;
 use image_layout::companion_at;
 use image_layout::kind_at;
 use image_layout::length_at;
 use image_layout::offset_at;
+use numbers::Cause;
+use numbers::Image;
+use numbers::Rule;
 use step_rules::Move;
+use term::Node;
 use term_redex::Meeting;
 use term_redex::is_value;
-use term::Node;
 ghost use mathlib.Core.Path.{_≡_};
 ghost use Prim.Native.Nat.{_<_};
 ghost use lib.ListN.{getD};
@@ -23,34 +25,6 @@ pub enum Decision {
     Goes(Move),
     Waits(usize),
     Refuses(u8),
-}
-
-// Document 01: "Rules in Fig. 5's order are numbered 1 to 7".
-pub struct Rule {}
-
-impl Rule {
-    pub const BETA: u8 = 1;
-
-    pub const THREAD_NEW: u8 = 2;
-
-    pub const FUTURE_DEREF: u8 = 3;
-
-    pub const HANDLE_NEW: u8 = 4;
-
-    pub const HANDLE_BIND: u8 = 5;
-
-    pub const CELL_NEW: u8 = 6;
-
-    pub const CELL_EXCH: u8 = 7;
-}
-
-// Document 01, causes 16 and 17.
-pub struct Cause {}
-
-impl Cause {
-    pub const USED_HANDLE: u8 = 16;
-
-    pub const WRONG_KIND: u8 = 17;
 }
 
 // The rule of a function that is a lambda or a constant, by its tag; 0 where there is none.

@@ -12,11 +12,11 @@ use Rattle.image_layout.specs.Slice.{names, offset-at, length-at}
 use Rattle.image_layout.specs.Readable.{HasHead}
 use Rattle.image_layout.specs.Theory.Reading.{has-head}
 use Rattle.step_rules.specs.declared.Move.{Move}
-use Rattle.step_rules.specs.Moves.{between, argument-bytes, copied-bytes, name-bytes, redexes, redex-after, expression-after, news, names-after}
+use Rattle.step_rules.specs.Moves.{bytes-between, argument-bytes, copied-bytes, name-bytes, redexes, redex-after, expression-after, news, names-after}
 use Rattle.step_reduct.specs.CanWrite.{CanWrite}
 
-pub length-between : (s : List ℕ) (a b : ℕ) → a ≤ b → b ≤ length s → length (between s a b) ≡ b - a
-unfolding between
+pub length-between : (s : List ℕ) (a b : ℕ) → a ≤ b → b ≤ length s → length (bytes-between s a b) ≡ b - a
+unfolding bytes-between
 length-between s a b h k = simp (length-take, length-drop) (omega arith)
 
 module _ {s : List ℕ} {move : Move} (w : CanWrite s move) where
@@ -31,7 +31,7 @@ module _ {s : List ℕ} {move : Move} (w : CanWrite s move) where
   copied-length = length-between s (move .from) (move .to) (w .movable .copied) (w .movable .copied-inside)
 
   -- the part of the application before the name that rule 3 follows
-  pub function-length : length (between s (move .at) (move .argument - 2)) ≡ move .argument - 2 - move .at
+  pub function-length : length (bytes-between s (move .at) (move .argument - 2)) ≡ move .argument - 2 - move .at
   function-length = length-between s (move .at) (move .argument - 2) (omega (arith, w .movable .second))
       (omega (arith, w .movable .third, w .movable .ends, w .movable .inside))
 
@@ -40,7 +40,7 @@ module _ {s : List ℕ} {move : Move} (w : CanWrite s move) where
   unfolding redex-after redexes
   redex-1 e = rw e refl
 
-  pub redex-3 : move .rule ≡ 3 → redex-after s move ≡ between s (move .at) (move .argument - 2) ++ copied-bytes s move ++ argument-bytes s move
+  pub redex-3 : move .rule ≡ 3 → redex-after s move ≡ bytes-between s (move .at) (move .argument - 2) ++ copied-bytes s move ++ argument-bytes s move
   unfolding redex-after redexes
   redex-3 e = rw e refl
 

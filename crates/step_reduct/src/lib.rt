@@ -1,20 +1,20 @@
 // Document 01, "A step": the expression of the thread that goes, after a step by a rule. What stands in place of the application is written by rule; the rest
 // of the expression is copied.
+use buffer::put_byte;
+use buffer::put_part;
 use image_layout::length_at;
 use image_layout::names_of;
 use image_layout::offset_at;
+use numbers::Image;
 use step_rules::Move;
+use term::Node;
 use term_scan::Extent;
 use term_scan::scan_small;
 use term_subst::count_uses;
 use term_subst::put_substituted;
-use term::Node;
-use buffer::put_byte;
-use buffer::put_part;
 ghost use mathlib.Core.Path.{_≡_};
 ghost use Prim.Native.Nat.{_+_, _<_, _≤_};
 ghost use lib.ListN.{length};
-ghost use Rattle.calculus.specs.Bytes.{two-byte-values};
 ghost use Rattle.calculus.specs.Limits.{byte-values};
 ghost use Rattle.buffer.specs.Written.{Wrote};
 ghost use Rattle.step_rules.specs.Moves.{argument-bytes, copied-bytes, name-bytes, redex-after, expression-after};
@@ -110,7 +110,7 @@ fn substituted_size(image: &[u8], step: Move) -> usize
     ensures { λ r. ⌜ (r ≡ length (redex-after (now (image .entry)) step)) × (r < 4294967296) ⌝ }
 {
     let body = step.at + 3;
-    let Extent::Ends(end, _) = scan_small(image, body, Extent::MAX_NODES) else {
+    let Extent::Ends(end, _) = scan_small(image, body, Image::MAX_NODES) else {
         return 0;
     };
     let places = count_uses(image, body);

@@ -1,5 +1,5 @@
 // Document 01, refusal 15: whether the outcome of a rule is within the limits of an image. It is decided by counting, before a byte is written.
-use image_layout::Image;
+use numbers::Image;
 use step_rules::Move;
 use term_scan::Extent;
 ghost use mathlib.Core.Path.{_≡_};

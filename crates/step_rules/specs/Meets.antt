@@ -42,7 +42,7 @@ pub record Deciding (s : List ℕ) (x : ℕ) (m : Meeting) : Type 0 where
   pub found : place-of (offset-at s x) (place (term-at s (offset-at s x))) ≡ Meet m
 
 -- in thread x of the image s the values f and v meet, in the context F, at the meeting m
-pub record Meets (s : List ℕ) (x : ℕ) (m : Meeting) (F : Context) {f : Exp} (w : Value f) (v : Exp) : Type 0 where
+pub record MeetsAt (s : List ℕ) (x : ℕ) (m : Meeting) (F : Context) {f : Exp} (w : Value f) (v : Exp) : Type 0 where
   pub in-bytes : Bytes s
   pub stands : image-stands s ≡ true
   pub thread : at (config-of s) x ≡ some (thread-of (plug F (app f v)))

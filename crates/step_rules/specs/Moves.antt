@@ -9,14 +9,14 @@ use Rattle.calculus.specs.Image.{nodes}
 use Rattle.calculus.specs.Names.{uses}
 use Rattle.calculus.specs.Reduction.{substitute}
 use Rattle.term.specs.Expressions.{bytes, term-at}
-use Rattle.image_layout.specs.Kinds.{thread-kind, cell-kind, open-handle-kind, used-handle-kind, future-kind}
+use Rattle.calculus.specs.Kinds.{thread-kind, cell-kind, open-handle-kind, used-handle-kind, future-kind}
 use Rattle.image_layout.specs.Encoded.{Encoded, image-bytes}
 use Rattle.image_layout.specs.Slice.{names, offset-at, length-at, encoded-at}
 use Rattle.step_rules.specs.declared.Move.{Move}
 
 -- the bytes of a slice from a to b
-unfoldable pub between : List ℕ → ℕ → ℕ → List ℕ
-between s a b = take (b - a) (drop a s)
+unfoldable pub bytes-between : List ℕ → ℕ → ℕ → List ℕ
+bytes-between s a b = take (b - a) (drop a s)
 
 -- components in bytes
 abbrev pub thread-holding : List ℕ → Encoded
@@ -25,8 +25,8 @@ thread-holding e = record { kind = thread-kind; companion = 0; expression = e }
 abbrev pub cell-holding : List ℕ → Encoded
 cell-holding v = record { kind = cell-kind; companion = 0; expression = v }
 
-abbrev pub handle-of : ℕ → Encoded
-handle-of future = record { kind = open-handle-kind; companion = future; expression = [] }
+abbrev pub handle-open : ℕ → Encoded
+handle-open future = record { kind = open-handle-kind; companion = future; expression = [] }
 
 abbrev pub handle-used : Encoded
 handle-used = record { kind = used-handle-kind; companion = 0; expression = [] }
@@ -36,11 +36,11 @@ future-awaited = record { kind = future-kind; companion = 0; expression = [] }
 
 -- the value that the function is applied to
 abbrev pub argument-bytes : List ℕ → Move → List ℕ
-argument-bytes s move = between s (move .argument) (move .end)
+argument-bytes s move = bytes-between s (move .argument) (move .end)
 
 -- the value that is copied
 abbrev pub copied-bytes : List ℕ → Move → List ℕ
-copied-bytes s move = between s (move .from) (move .to)
+copied-bytes s move = bytes-between s (move .from) (move .to)
 
 abbrev pub name-bytes : ℕ → List ℕ
 name-bytes k = 9 ∷ k ∷ []
@@ -51,7 +51,7 @@ redexes s move =
     []
     ∷ bytes (substitute 0 (term-at s (move .argument)) (term-at s (move .at + 3)))
     ∷ name-bytes (names s)
-    ∷ (between s (move .at) (move .argument - 2) ++ copied-bytes s move ++ argument-bytes s move)
+    ∷ (bytes-between s (move .at) (move .argument - 2) ++ copied-bytes s move ++ argument-bytes s move)
     ∷ (2 ∷ 2 ∷ (argument-bytes s move ++ name-bytes (names s) ++ name-bytes (names s + 1)))
     ∷ (3 ∷ [])
     ∷ name-bytes (names s)
@@ -64,9 +64,9 @@ redex-after s move = getD (redexes s move) (move .rule) []
 -- the thread's expression, the rest of it as it was
 unfoldable pub expression-after : List ℕ → Move → List ℕ
 expression-after s move =
-    between s (offset-at s (move .thread)) (move .at)
+    bytes-between s (offset-at s (move .thread)) (move .at)
     ++ redex-after s move
-    ++ between s (move .end) (offset-at s (move .thread) + length-at s (move .thread))
+    ++ bytes-between s (move .end) (offset-at s (move .thread) + length-at s (move .thread))
 
 -- the other components, by rule: THREAD.NEW and CELL.NEW bring name m, HANDLE.NEW m and m + 1; HANDLE.BIND and CELL.EXCH change what is there
 unfoldable pub others : List ℕ → Move → ℕ → List Encoded
@@ -75,7 +75,7 @@ others s move k =
     ∷ encoded-at s k
     ∷ cond (eqb k (names s)) (thread-holding (2 ∷ (argument-bytes s move ++ name-bytes (names s)))) (encoded-at s k)
     ∷ encoded-at s k
-    ∷ cond (eqb k (names s)) future-awaited (cond (eqb k (names s + 1)) (handle-of (names s)) (encoded-at s k))
+    ∷ cond (eqb k (names s)) future-awaited (cond (eqb k (names s + 1)) (handle-open (names s)) (encoded-at s k))
     ∷ cond (eqb k (move .name)) handle-used (cond (eqb k (move .future)) (thread-holding (argument-bytes s move)) (encoded-at s k))
     ∷ cond (eqb k (names s)) (cell-holding (argument-bytes s move)) (encoded-at s k)
     ∷ cond (eqb k (move .name)) (cell-holding (argument-bytes s move)) (encoded-at s k)
@@ -85,8 +85,8 @@ unfoldable pub other-after : List ℕ → Move → ℕ → Encoded
 other-after s move k = getD (others s move k) (move .rule) (encoded-at s k)
 
 -- the component of name k after the step
-unfoldable pub after : List ℕ → Move → ℕ → Encoded
-after s move k = cond (eqb k (move .thread)) (thread-holding (expression-after s move)) (other-after s move k)
+unfoldable pub component-after : List ℕ → Move → ℕ → Encoded
+component-after s move k = cond (eqb k (move .thread)) (thread-holding (expression-after s move)) (other-after s move k)
 
 -- how many names come, by rule
 unfoldable pub news : ℕ → ℕ
@@ -97,7 +97,7 @@ names-after s move = names s + news (move .rule)
 
 -- the image after the step
 unfoldable pub components-after : List ℕ → Move → List Encoded
-components-after s move = tabulate (names-after s move) (after s move)
+components-after s move = tabulate (names-after s move) (component-after s move)
 
 unfoldable pub image-after : List ℕ → Move → List ℕ
 image-after s move = image-bytes (components-after s move)

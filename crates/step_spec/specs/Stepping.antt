@@ -18,22 +18,22 @@ unfoldable pub step-reply : List ℕ → ℕ → ℕ → Reply
 step-reply s x room = cond (ltb room max-image-length) (refuses 12) (cond (image-stands s) (reply-of (step-of (config-of s) x)) (refuses 13))
 
 -- what is answered: "A step answers with its rule and the new image's length"
-unfoldable pub answered : Reply → Outcome
-answered (moved rule C′) = Rule rule (length (image-of C′))
-answered (waits y) = Waiting y
-answered finished = Done
-answered (refuses number) = Refused number
+unfoldable pub outcome-of-reply : Reply → Outcome
+outcome-of-reply (moved rule C′) = Rule rule (length (image-of C′))
+outcome-of-reply (waits y) = Waiting y
+outcome-of-reply finished = Done
+outcome-of-reply (refuses number) = Refused number
 
 -- what the out buffer holds then: "the image in its first bytes and is unchanged beyond"; "Nothing is written on done or waiting", nor on a refusal
-unfoldable pub written : Reply → List ℕ → List ℕ
-written (moved rule C′) out = image-of C′ ++ drop (length (image-of C′)) out
-written (waits y) out = out
-written finished out = out
-written (refuses number) out = out
+unfoldable pub out-after-reply : Reply → List ℕ → List ℕ
+out-after-reply (moved rule C′) out = image-of C′ ++ drop (length (image-of C′)) out
+out-after-reply (waits y) out = out
+out-after-reply finished out = out
+out-after-reply (refuses number) out = out
 
 -- a step of thread x of the image s with the out buffer `out`
 unfoldable pub outcome-of : List ℕ → ℕ → List ℕ → Outcome
-outcome-of s x out = answered (step-reply s x (length out))
+outcome-of s x out = outcome-of-reply (step-reply s x (length out))
 
-unfoldable pub out-after : List ℕ → ℕ → List ℕ → List ℕ
-out-after s x out = written (step-reply s x (length out)) out
+unfoldable pub out-after-step : List ℕ → ℕ → List ℕ → List ℕ
+out-after-step s x out = out-after-reply (step-reply s x (length out)) out

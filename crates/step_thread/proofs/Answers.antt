@@ -22,7 +22,7 @@ use Rattle.calculus.specs.Theory.Tests.{and-parts, and-true, eqb-complete, eqb-
 use Rattle.calculus.specs.Theory.Step.{no-thread-iff}
 use Rattle.term.specs.Expressions.{term-at}
 use Rattle.buffer.specs.Written.{Wrote, beyond}
-use Rattle.image_layout.specs.Kinds.{thread-kind}
+use Rattle.calculus.specs.Kinds.{thread-kind}
 use Rattle.image_layout.specs.Slice.{kind-at, names, offset-at}
 use Rattle.image.specs.Configuration.{config-of, image-of}
 use Rattle.image.specs.Stands.{image-stands}
@@ -41,24 +41,24 @@ use Rattle.image_check.specs.Theory.Names.{config-parts}
 use Rattle.image_check.specs.Theory.Whole.{whole-sound}
 use Rattle.step_spec.specs.declared.Outcome.{Outcome}
 use Rattle.step_spec.specs.declared.Outcome.the-variants.{Done, Refused, Rule as RuleMoves}
-use Rattle.step_spec.specs.Stepping.{answered, out-after, outcome-of, step-reply, written}
+use Rattle.step_spec.specs.Stepping.{outcome-of-reply, out-after-step, outcome-of, step-reply, out-after-reply}
 use Rattle.step_thread.specs.Stages.{is-thread, stays}
 
 -- the answer to a step of thread x, and what is left in the out buffer
 abbrev pub Answers : List ℕ → ℕ → List ℕ → Outcome → List ℕ → Type 0
-Answers s x out r out′ = (r ≡ answered (reply-of (step-of (config-of s) x))) × (out′ ≡ written (reply-of (step-of (config-of s) x)) out)
+Answers s x out r out′ = (r ≡ outcome-of-reply (reply-of (step-of (config-of s) x))) × (out′ ≡ out-after-reply (reply-of (step-of (config-of s) x)) out)
 
 module _ (s : List ℕ) (x : ℕ) (out : List ℕ) where
   pub by-no-thread : step-of (config-of s) x ≡ no-thread → Answers s x out (Refused 14) out
-  unfolding answered reply-of written
+  unfolding outcome-of-reply reply-of out-after-reply
   by-no-thread e = (rw e refl, rw e refl)
 
   pub by-done : step-of (config-of s) x ≡ done → Answers s x out Done out
-  unfolding answered reply-of written
+  unfolding outcome-of-reply reply-of out-after-reply
   by-done e = (rw e refl, rw e refl)
 
   pub by-decision : {d : Decision} → Decided s x d → ((step : Move) → ¬ (d ≡ Goes step)) → Answers s x out (stays d) out
-  unfolding answered reply-of written stays
+  unfolding outcome-of-reply reply-of out-after-reply stays
   by-decision (goes {move = m} S) n = absurd (n m refl)
   by-decision (waits e) n = (rw e refl, rw e refl)
   by-decision (refuses-used e) n = (rw e refl, rw e refl)
@@ -66,12 +66,12 @@ module _ (s : List ℕ) (x : ℕ) (out : List ℕ) where
 
   module _ {step : Move} (S : Stepped s x step) where
     pub by-no-room : has-room s (nodes-all (config-of s)) step ≡ false → Answers s x out (Refused 15) out
-    unfolding answered reply-of written
+    unfolding outcome-of-reply reply-of out-after-reply
     by-no-room h = let e = S .steps in let l = sym (room-is S) ∙ h in (rw (e, l) refl, rw (e, l) refl)
 
     pub by-rule : has-room s (nodes-all (config-of s)) step ≡ true → max-image-length ≤ length out →
         (out′ : List ℕ) (n : ℕ) → Wrote out 0 (image-after s step) out′ n → Answers s x out (RuleMoves (step .rule) n) out′
-    unfolding answered reply-of written
+    unfolding outcome-of-reply reply-of out-after-reply
     by-rule h long out′ n w =
         let e = S .steps in
         let l = sym (room-is S) ∙ h in
@@ -124,17 +124,17 @@ after-fits S h = rw (S .written) (within-length (S .outcome) (room-within S h))
 
 -- the whole step
 module _ (s : List ℕ) (x : ℕ) (out : List ℕ) where
-  pub too-short : length out < max-image-length → (Refused 12 ≡ outcome-of s x out) × (out ≡ out-after s x out)
-  unfolding outcome-of out-after step-reply answered written
+  pub too-short : length out < max-image-length → (Refused 12 ≡ outcome-of s x out) × (out ≡ out-after-step s x out)
+  unfolding outcome-of out-after-step step-reply outcome-of-reply out-after-reply
   too-short l = (rw (ltb-complete (length out) max-image-length l) refl, rw (ltb-complete (length out) max-image-length l) refl)
 
   module _ (long : max-image-length ≤ length out) where
-    pub broken : image-stands s ≡ false → (Refused 13 ≡ outcome-of s x out) × (out ≡ out-after s x out)
-    unfolding outcome-of out-after step-reply answered written
+    pub broken : image-stands s ≡ false → (Refused 13 ≡ outcome-of s x out) × (out ≡ out-after-step s x out)
+    unfolding outcome-of out-after-step step-reply outcome-of-reply out-after-reply
     broken f = (rw (ltb-not (length out) max-image-length long, f) refl, rw (ltb-not (length out) max-image-length long, f) refl)
 
-    pub checked : image-stands s ≡ true → {r : Outcome} {out′ : List ℕ} → Answers s x out r out′ → (r ≡ outcome-of s x out) × (out′ ≡ out-after s x out)
-    unfolding outcome-of out-after step-reply
+    pub checked : image-stands s ≡ true → {r : Outcome} {out′ : List ℕ} → Answers s x out r out′ → (r ≡ outcome-of s x out) × (out′ ≡ out-after-step s x out)
+    unfolding outcome-of out-after-step step-reply
     checked t (p, q) = (rw (ltb-not (length out) max-image-length long, t) p, rw (ltb-not (length out) max-image-length long, t) q)
 
 -- whether a number is a thread, as it is found out

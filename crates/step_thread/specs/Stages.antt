@@ -7,7 +7,7 @@ use lib.Dec.{eqb, ltb}
 use lib.ListN.{length}
 use Rattle.calculus.specs.Limits.{max-image-length}
 use Rattle.calculus.specs.Image.{nodes-all}
-use Rattle.image_layout.specs.Kinds.{thread-kind}
+use Rattle.calculus.specs.Kinds.{thread-kind}
 use Rattle.image_layout.specs.Slice.{kind-at, names}
 use Rattle.image.specs.Configuration.{config-of}
 use Rattle.image.specs.Stands.{image-stands}

@@ -1,9 +1,9 @@
 // A step of one thread: 12, 13 and 14 first; then the place where two values meet, what comes of it, room, and only then the new image is written.
-use step_decide::Decision;
-use image_layout::Image;
-use term_redex::Place;
 use image_check::Checked;
+use numbers::Image;
+use step_decide::Decision;
 use step_spec::Outcome;
+use term_redex::Place;
 ghost use mathlib.Core.Path.{_≡_};
 ghost use mathlib.Core.Bool.{true};
 ghost use lib.ListN.{length};
@@ -11,8 +11,7 @@ ghost use Rattle.calculus.specs.Step.{step-of};
 ghost use Rattle.calculus.specs.Run.{reply-of};
 ghost use Rattle.image.specs.Configuration.{config-of};
 ghost use Rattle.image.specs.Stands.{image-stands};
-ghost use Rattle.step_spec.specs.Stepping.{answered, outcome-of, out-after, written};
-ghost use Rattle.step_decide.specs.Decided.{Decided};
+ghost use Rattle.step_spec.specs.Stepping.{outcome-of-reply, outcome-of, out-after-step, out-after-reply};
 ghost use Rattle.step_thread.specs.Stages.{Checks, is-thread, stays};
 
 // Document 01, refusal 14: "number is no thread".
@@ -40,13 +39,14 @@ fn answer_of(decision: Decision) -> Outcome
 // A step on an image that keeps every rule and limit and has so many nodes, into a buffer that is long enough.
 fn step_checked(image: &[u8], nodes: usize, thread: usize, out: &mut [u8]) -> Outcome
     requires { ⌜ Checks (now image) nodes (now out) ⌝ }
-    ensures { λ r. ⌜ r ≡ answered (reply-of (step-of (config-of (now (image .entry))) thread)) ⌝ }
-    ensures { λ r. ⌜ now (out .exit) ≡ written (reply-of (step-of (config-of (now (image .entry))) thread)) (now (out .entry)) ⌝ }
+    ensures { λ r. ⌜ r ≡ outcome-of-reply (reply-of (step-of (config-of (now (image .entry))) thread)) ⌝ }
+    ensures { λ r. ⌜ now (out .exit) ≡ out-after-reply (reply-of (step-of (config-of (now (image .entry))) thread)) (now (out .entry)) ⌝ }
 {
     if !is_thread(image, thread) {
         return Outcome::Refused(14);
     }
-    let Place::Meet(meeting) = term_redex::find_place(image, image_layout::offset_at(image, thread)) else {
+    let Place::Meet(meeting) = term_redex::find_place(image, image_layout::offset_at(image, thread))
+    else {
         return Outcome::Done;
     };
     let decision = step_decide::decide(image, thread, meeting);
@@ -64,7 +64,7 @@ fn step_checked(image: &[u8], nodes: usize, thread: usize, out: &mut [u8]) -> Ou
 // Document 01, "A step", for every slice, thread number and out buffer.
 pub fn step(image: &[u8], thread: usize, out: &mut [u8]) -> Outcome
     ensures { λ r. ⌜ r ≡ outcome-of (now (image .entry)) thread (now (out .entry)) ⌝ }
-    ensures { λ r. ⌜ now (out .exit) ≡ out-after (now (image .entry)) thread (now (out .entry)) ⌝ }
+    ensures { λ r. ⌜ now (out .exit) ≡ out-after-step (now (image .entry)) thread (now (out .entry)) ⌝ }
 {
     if out.len() < Image::MAX_LENGTH {
         return Outcome::Refused(12);

@@ -14,7 +14,7 @@ use Rattle.image_layout.specs.Encoded.{Encoded, image-bytes}
 use Rattle.image_layout.specs.Slice.{names, encoded-at}
 use Rattle.image_layout.specs.Theory.Turns.{Room}
 use Rattle.step_rules.specs.declared.Move.{Move}
-use Rattle.step_rules.specs.Moves.{argument-bytes, name-bytes, others, other-after, after, news, names-after, components-after, image-after}
+use Rattle.step_rules.specs.Moves.{argument-bytes, name-bytes, others, other-after, component-after, news, names-after, components-after, image-after}
 use Rattle.step_reduct.specs.CanWrite.{CanWrite}
 use Rattle.step_reduct.proofs.Redexes.{argument-length}
 use Rattle.step_write.specs.declared.Change.{Change}
@@ -36,8 +36,8 @@ module _ (s : List ℕ) (move : Move) (k : ℕ) where
   other-is = ap (λ (l : List Encoded). getD l (move .rule) (encoded-at s k)) (sym others-are) ∙ List·getD-map (changed s move k) (changes move (names s) k) (move .rule) Kept
 
   -- the component after the step is that of the change
-  pub after-is : (x : Change) → x ≡ change-of move (names s) k → after s move k ≡ changed s move k x
-  unfolding after change-of changed
+  pub after-is : (x : Change) → x ≡ change-of move (names s) k → component-after s move k ≡ changed s move k x
+  unfolding component-after change-of changed
   after-is x e = rw (e, chosen (eqb k (move .thread)) Goes (getD (changes move (names s) k) (move .rule) Kept), other-is) refl
 
   -- what is known of a name by its change: one that stays was there before, and a new name has a byte
@@ -108,10 +108,10 @@ pub started-length : {s : List ℕ} {move : Move} → CanWrite s move → (m : �
 started-length w m = simp (length-append, argument-length w) (omega arith)
 
 -- room for the image, and its three writes
-pub image-room : (s : List ℕ) (move : Move) {out : List ℕ} → length (image-after s move) ≤ length out → length (image-after s move) < two-byte-values → Room (names-after s move) (after s move) out
+pub image-room : (s : List ℕ) (move : Move) {out : List ℕ} → length (image-after s move) ≤ length out → length (image-after s move) < two-byte-values → Room (names-after s move) (component-after s move) out
 unfolding image-after components-after
 image-room s move fits small = record { fits-in = fits; small = small }
 
-pub image-is : (s : List ℕ) (move : Move) → image-bytes (tabulate (names-after s move) (after s move)) ≡ image-after s move
+pub image-is : (s : List ℕ) (move : Move) → image-bytes (tabulate (names-after s move) (component-after s move)) ≡ image-after s move
 unfolding image-after components-after
 image-is s move = refl

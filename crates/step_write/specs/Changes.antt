@@ -7,7 +7,7 @@ use lib.ListN.{getD}
 use Rattle.image_layout.specs.Encoded.{Encoded}
 use Rattle.image_layout.specs.Slice.{names, encoded-at}
 use Rattle.step_rules.specs.declared.Move.{Move}
-use Rattle.step_rules.specs.Moves.{thread-holding, cell-holding, handle-of, handle-used, future-awaited, argument-bytes, name-bytes, expression-after}
+use Rattle.step_rules.specs.Moves.{thread-holding, cell-holding, handle-open, handle-used, future-awaited, argument-bytes, name-bytes, expression-after}
 use Rattle.step_write.specs.declared.Change.{Change}
 use Rattle.step_write.specs.declared.Change.the-variants.{Kept, Goes, Starts, Awaited, Opens, Used, Bound, Holds}
 
@@ -33,7 +33,7 @@ changed s move k Kept = encoded-at s k
 changed s move k Goes = thread-holding (expression-after s move)
 changed s move k Starts = thread-holding (2 ∷ (argument-bytes s move ++ name-bytes (names s)))
 changed s move k Awaited = future-awaited
-changed s move k Opens = handle-of (names s)
+changed s move k Opens = handle-open (names s)
 changed s move k Used = handle-used
 changed s move k Bound = thread-holding (argument-bytes s move)
 changed s move k Holds = cell-holding (argument-bytes s move)

@@ -1,20 +1,20 @@
 // Document 01, "A step": writes the image after a step by a rule. Each name has its head and its expression by what the step makes of it.
-use image_layout::Image;
+use buffer::put_byte;
+use buffer::put_bytes;
+use buffer::put_u16;
 use image_layout::companion_at;
 use image_layout::expression_at;
 use image_layout::kind_at;
 use image_layout::length_at;
 use image_layout::names_of;
 use image_layout::put_head;
-use step_rules::Move;
+use numbers::Image;
 use step_reduct::put_argument;
 use step_reduct::put_name;
 use step_reduct::put_thread_after;
 use step_reduct::thread_size;
+use step_rules::Move;
 use term::Node;
-use buffer::put_byte;
-use buffer::put_bytes;
-use buffer::put_u16;
 ghost use mathlib.Core.Path.{_≡_};
 ghost use mathlib.Core.Bool.{cond};
 ghost use mathlib.Core.List.{_∷_, _++_};
@@ -24,10 +24,10 @@ ghost use Rattle.calculus.specs.Bytes.{two-byte-values};
 ghost use Rattle.calculus.specs.Limits.{byte-values};
 ghost use Rattle.calculus.specs.Lists.{tabulate};
 ghost use Rattle.buffer.specs.Written.{Wrote};
-ghost use Rattle.image_layout.specs.Encoded.{heads, head-at, expressions};
+ghost use Rattle.image_layout.specs.Encoded.{heads, head-offset, expressions};
 ghost use Rattle.image_layout.specs.Slice.{names};
 ghost use Rattle.image_layout.specs.Theory.Turns.{Room};
-ghost use Rattle.step_rules.specs.Moves.{argument-bytes, name-bytes, after, news, names-after, image-after};
+ghost use Rattle.step_rules.specs.Moves.{argument-bytes, name-bytes, component-after, news, names-after, image-after};
 ghost use Rattle.step_reduct.specs.CanWrite.{CanWrite};
 ghost use Rattle.step_write.specs.declared.Change.the-variants.{Kept};
 ghost use Rattle.step_write.specs.Changes.{change-of};
@@ -125,8 +125,8 @@ fn put_started(out: &mut [u8], at: usize, image: &[u8], step: Move) -> usize
 // Writes the expression of name k; futures and handles have none.
 fn put_expression_after(out: &mut [u8], at: usize, image: &[u8], step: Move, k: usize) -> usize
     requires { ⌜ CanWrite (now image) step × (k < names-after (now image) step) ⌝ }
-    requires { ⌜ at + length (after (now image) step k .expression) ≤ length (now out) ⌝ }
-    ensures { λ r. ⌜ Wrote (now (out .entry)) at (after (now (image .entry)) step k .expression) (now (out .exit)) r ⌝ }
+    requires { ⌜ at + length (component-after (now image) step k .expression) ≤ length (now out) ⌝ }
+    ensures { λ r. ⌜ Wrote (now (out .entry)) at (component-after (now (image .entry)) step k .expression) (now (out .exit)) r ⌝ }
 {
     let change = change_of(step, names_of(image), k);
     match change {
@@ -166,7 +166,7 @@ fn holding(kind: u8, size: usize) -> Head
 // The head of name k.
 fn head_after(image: &[u8], step: Move, k: usize) -> Head
     requires { ⌜ CanWrite (now image) step × (k < names-after (now image) step) ⌝ }
-    ensures { λ r. ⌜ (r .kind ≡ after (now (image .entry)) step k .kind) × ((r .companion ≡ after (now (image .entry)) step k .companion) × (r .size ≡ length (after (now (image .entry)) step k .expression))) ⌝ }
+    ensures { λ r. ⌜ (r .kind ≡ component-after (now (image .entry)) step k .kind) × ((r .companion ≡ component-after (now (image .entry)) step k .companion) × (r .size ≡ length (component-after (now (image .entry)) step k .expression))) ⌝ }
 {
     let names = names_of(image);
     let change = change_of(step, names, k);
@@ -189,8 +189,8 @@ fn head_after(image: &[u8], step: Move, k: usize) -> Head
 // Writes the heads of so many names.
 fn put_heads(out: &mut [u8], at: usize, image: &[u8], step: Move, names: usize) -> usize
     requires { ⌜ CanWrite (now image) step × ((names ≡ names-after (now image) step) × (at ≡ 2)) ⌝ }
-    requires { ⌜ Room (names-after (now image) step) (after (now image) step) (now out) ⌝ }
-    ensures { λ r. ⌜ Wrote (now (out .entry)) at (heads (head-at (names-after (now (image .entry)) step)) (tabulate (names-after (now (image .entry)) step) (after (now (image .entry)) step))) (now (out .exit)) r ⌝ }
+    requires { ⌜ Room (names-after (now image) step) (component-after (now image) step) (now out) ⌝ }
+    ensures { λ r. ⌜ Wrote (now (out .entry)) at (heads (head-offset (names-after (now (image .entry)) step)) (tabulate (names-after (now (image .entry)) step) (component-after (now (image .entry)) step))) (now (out .exit)) r ⌝ }
 {
     let mut next = at;
     let mut offset = 2 + 6 * names;
@@ -206,9 +206,9 @@ fn put_heads(out: &mut [u8], at: usize, image: &[u8], step: Move, names: usize) 
 
 // Writes their expressions.
 fn put_expressions(out: &mut [u8], at: usize, image: &[u8], step: Move, names: usize) -> usize
-    requires { ⌜ CanWrite (now image) step × ((names ≡ names-after (now image) step) × (at ≡ head-at (names-after (now image) step))) ⌝ }
-    requires { ⌜ Room (names-after (now image) step) (after (now image) step) (now out) ⌝ }
-    ensures { λ r. ⌜ Wrote (now (out .entry)) at (expressions (tabulate (names-after (now (image .entry)) step) (after (now (image .entry)) step))) (now (out .exit)) r ⌝ }
+    requires { ⌜ CanWrite (now image) step × ((names ≡ names-after (now image) step) × (at ≡ head-offset (names-after (now image) step))) ⌝ }
+    requires { ⌜ Room (names-after (now image) step) (component-after (now image) step) (now out) ⌝ }
+    ensures { λ r. ⌜ Wrote (now (out .entry)) at (expressions (tabulate (names-after (now (image .entry)) step) (component-after (now (image .entry)) step))) (now (out .exit)) r ⌝ }
 {
     let mut next = at;
     let mut k = 0;

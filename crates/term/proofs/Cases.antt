@@ -7,8 +7,8 @@ use lib.Dec.{T}
 use Rattle.calculus.specs.Syntax.{unit, num, op, exch, handle, app, const, Exp, lam, name, var}
 use Rattle.term.specs.Numbers.{little-endian, value-of}
 use Rattle.term.specs.Forms.{form-of, forms}
-use Rattle.term.specs.Reader.{first-tree, head-of, one-term, read, read-term, tree-at}
-use Rattle.term.specs.Expressions.{bytes, const-bytes, exp-of, leaf-exp, leaves, op-tag, term-at}
+use Rattle.term.specs.Reader.{first-tree, node-of, one-term, read, read-term, tree-at}
+use Rattle.term.specs.Expressions.{bytes, const-bytes, exp-of, leaf-exp, leaf-forms, op-tag, term-at}
 
 -- case B: exch applied to the setting and to 250
 abbrev term-B : Exp
@@ -22,7 +22,7 @@ unfolding bytes const-bytes op-tag little-endian
 case-B = refl
 
 case-B-back : term-at bytes-B 0 ≡ term-B
-unfolding term-at tree-at first-tree read-term read head-of form-of forms value-of exp-of leaf-exp leaves
+unfolding term-at tree-at first-tree read-term read node-of form-of forms value-of exp-of leaf-exp leaf-forms
 case-B-back = refl
 
 -- case C: handle applied to a function that binds its future to itself
@@ -37,7 +37,7 @@ unfolding bytes const-bytes op-tag little-endian
 case-C = refl
 
 case-C-back : term-at bytes-C 0 ≡ term-C
-unfolding term-at tree-at first-tree read-term read head-of form-of forms value-of exp-of leaf-exp leaves
+unfolding term-at tree-at first-tree read-term read node-of form-of forms value-of exp-of leaf-exp leaf-forms
 case-C-back = refl
 
 -- cause 5: exactly one term, or not
@@ -66,9 +66,9 @@ damaged =
     ∷ []
 
 are-terms : T (every-is true terms)
-unfolding one-term read-term read head-of form-of forms value-of
+unfolding one-term read-term read node-of form-of forms value-of
 are-terms = tt
 
 are-damaged : T (every-is false damaged)
-unfolding one-term read-term read head-of form-of forms value-of
+unfolding one-term read-term read node-of form-of forms value-of
 are-damaged = tt

@@ -11,26 +11,26 @@ use Rattle.calculus.specs.Syntax.{Exp}
 use Rattle.calculus.specs.Image.{size}
 use Rattle.term.specs.Tree.{Tree, tree-size}
 use Rattle.term.specs.Reader.{end-at, first-rest, first-tree, Got, none, got, GoodAt, one-term, read-term, tree-at}
-use Rattle.term.specs.Expressions.{bytes, exp-of, Fits, term-at, TermAt, tree-of}
+use Rattle.term.specs.Expressions.{bytes, exp-of, FitsBytes, term-at, TermAt, tree-of}
 use Rattle.term.proofs.Trees.{bytes-tree, exp-bytes, exp-fits, exp-size, exp-tree, tree-well-formed}
 use Rattle.term.proofs.Reading.{past-term}
 use Rattle.term.proofs.Fronts.{is-good, is-tree}
 use Rattle.term.proofs.Terms.{bytes-drop, exactly, read-bytes, read-stands, unique}
 
-pub read-written : (e : Exp) (r : List ℕ) → Fits e → read-term (bytes e ++ r) ≡ got (tree-of e) r
+pub read-written : (e : Exp) (r : List ℕ) → FitsBytes e → read-term (bytes e ++ r) ≡ got (tree-of e) r
 read-written e r f = ap (λ l. read-term (l ++ r)) (bytes-tree e f) ∙ read-bytes (tree-of e) r (tree-well-formed e f)
 
-pub bytes-unique : (e e′ : Exp) → Fits e → Fits e′ → bytes e ≡ bytes e′ → e ≡ e′
+pub bytes-unique : (e e′ : Exp) → FitsBytes e → FitsBytes e′ → bytes e ≡ bytes e′ → e ≡ e′
 bytes-unique e e′ f f′ p =
     let t = unique (tree-of e) (tree-of e′) (tree-well-formed e f) (tree-well-formed e′ f′) (sym (bytes-tree e f) ∙ p ∙ bytes-tree e′ f′) in
     sym (exp-tree e) ∙ ap exp-of t ∙ exp-tree e′
 
 -- what is read is an expression's bytes
-pub one-term-is : (l : List ℕ) (t : Tree) → Bytes l → read-term l ≡ got t [] → (l ≡ bytes (exp-of t)) × Fits (exp-of t)
+pub one-term-is : (l : List ℕ) (t : Tree) → Bytes l → read-term l ≡ got t [] → (l ≡ bytes (exp-of t)) × FitsBytes (exp-of t)
 one-term-is l t b e = let (p, w) = exactly l t b .0 e in (p ∙ sym (exp-bytes t w), exp-fits t w)
 
 -- document 01, cause 5: "a part is not exactly one term"
-pub one-term-iff : (l : List ℕ) → Bytes l → ((t : Tree) × (read-term l ≡ got t [])) ↔ ((e : Exp) × (l ≡ bytes e) × Fits e)
+pub one-term-iff : (l : List ℕ) → Bytes l → ((t : Tree) × (read-term l ≡ got t [])) ↔ ((e : Exp) × (l ≡ bytes e) × FitsBytes e)
 one-term-iff l b = (
   λ (t, e). let (p, f) = one-term-is l t b e in (exp-of t, p, f),
   λ (e, p, f). (tree-of e, ap read-term (p ∙ sym (append-nil (bytes e))) ∙ read-written e [] f),
@@ -43,19 +43,19 @@ one-term-parts none e = absurd (false≢true e)
 one-term-parts (got t []) e = (t, refl)
 one-term-parts (got t (x ∷ rest)) e = absurd (false≢true e)
 
-pub one-term-sound : (l : List ℕ) → Bytes l → one-term (read-term l) ≡ true → (l ≡ bytes (term-at l 0)) × Fits (term-at l 0)
+pub one-term-sound : (l : List ℕ) → Bytes l → one-term (read-term l) ≡ true → (l ≡ bytes (term-at l 0)) × FitsBytes (term-at l 0)
 unfolding term-at tree-at first-tree
 one-term-sound l b e = let (t, g) = one-term-parts (read-term l) e in rw g (one-term-is l t b g)
 
 -- the bytes of an expression are one term, that expression
-read-alone : (e : Exp) → Fits e → read-term (bytes e) ≡ got (tree-of e) []
+read-alone : (e : Exp) → FitsBytes e → read-term (bytes e) ≡ got (tree-of e) []
 read-alone e f = ap read-term (sym (append-nil (bytes e))) ∙ read-written e [] f
 
-pub one-term-complete : (e : Exp) → Fits e → one-term (read-term (bytes e)) ≡ true
+pub one-term-complete : (e : Exp) → FitsBytes e → one-term (read-term (bytes e)) ≡ true
 unfolding one-term
 one-term-complete e f = rw (read-alone e f) refl
 
-pub term-of-bytes : (e : Exp) → Fits e → term-at (bytes e) 0 ≡ e
+pub term-of-bytes : (e : Exp) → FitsBytes e → term-at (bytes e) 0 ≡ e
 unfolding term-at tree-at first-tree
 term-of-bytes e f = rw (read-alone e f) (exp-tree e)
 

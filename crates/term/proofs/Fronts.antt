@@ -6,11 +6,11 @@ use Prim.Native.Nat.{ℕ, zero, suc, _+_, _-_, _≤_}
 use native.Mathlib.Omega.{arith}
 use lib.ListN.{length, drop}
 use lib.Seq.{drop-drop}
-use Rattle.term.specs.declared.Head.the-variants.{Is, Bad}
+use Rattle.term.specs.declared.Front.the-variants.{Is, Bad}
 use Rattle.term.specs.declared.Node.{Node}
 use Rattle.term.specs.Tree.{Tree, leaf, one, tree-size, two}
-use Rattle.term.specs.Reader.{head-of, Got, none, got, then-second, read-term, tree-in, first-tree, first-rest, Good}
-use Rattle.term.proofs.Heads.{head-is, subterms-at-most}
+use Rattle.term.specs.Reader.{node-of, Got, none, got, then-second, read-term, tree-in, first-tree, first-rest, Good}
+use Rattle.term.proofs.Nodes.{head-is, subterms-at-most}
 use Rattle.term.proofs.Reading.{past-term, step, step-node, none-got, closed-one, closed-two}
 
 -- what is read there is the tree
@@ -39,10 +39,10 @@ pub record TwoFront (l : List ℕ) (h : Node) : Type 0 where
 pub good-fits : (l : List ℕ) → Good l → tree-size (first-tree l) ≤ length l
 good-fits l g = past-term l (first-tree l) (first-rest l) g .fits
 
-pub front-not-bad : (l : List ℕ) → Good l → head-of l ≡ Bad → ⊥
+pub front-not-bad : (l : List ℕ) → Good l → node-of l ≡ Bad → ⊥
 front-not-bad l g is = none-got (first-tree l) (first-rest l) (sym (rw is at (step l)) ∙ g)
 
-module _ (l : List ℕ) (h : Node) (is : head-of l ≡ Is h) where
+module _ (l : List ℕ) (h : Node) (is : node-of l ≡ Is h) where
   -- neither none nor one
   pub is-two : (h .subterms ≡ 0 → ⊥) → (h .subterms ≡ 1 → ⊥) → h .subterms ≡ 2
   is-two no-0 no-1 = omega (arith, subterms-at-most (h .tag), head-is l h is .at-subterms)

@@ -15,20 +15,20 @@ use Rattle.calculus.specs.Theory.Tests.{clash}
 use Rattle.calculus.specs.Theory.Expressions.{count-other}
 use Rattle.term.specs.Forms.{form-of, forms, in-range, num-tag, subterms-of, tags}
 use Rattle.term.specs.Tree.{InTable, leaf}
-use Rattle.term.specs.Expressions.{const-tree, Fits, leaf-exp, leaves, nesting, op-tag, tree-of}
+use Rattle.term.specs.Expressions.{const-tree, FitsBytes, leaf-exp, leaf-forms, nesting, op-tag, tree-of}
 use Rattle.term.proofs.Table.{below, end-of-row, every, every-at, Row, _∣_}
 
 -- a rule of leaves, by one test
-leaf-rule : (test : Exp → Bool) (tag arg : ℕ) → T (every test (leaves arg)) → T (test (const unit)) → T (test (leaf-exp tag arg))
+leaf-rule : (test : Exp → Bool) (tag arg : ℕ) → T (every test (leaf-forms arg)) → T (test (const unit)) → T (test (leaf-exp tag arg))
 unfolding leaf-exp
-leaf-rule test tag arg all other = every-at test (leaves arg) (const unit) all other tag
+leaf-rule test tag arg all other = every-at test (leaf-forms arg) (const unit) all other tag
 
 pub leaf-nodes : (tag arg : ℕ) → nodes (leaf-exp tag arg) ≡ 1
-unfolding nodes leaves
+unfolding nodes leaf-forms
 leaf-nodes tag arg = eqb→eq (nodes (leaf-exp tag arg)) 1 (leaf-rule (λ e. eqb (nodes e) 1) tag arg tt tt)
 
 pub leaf-nesting : (tag arg : ℕ) → nesting (leaf-exp tag arg) ≡ 1
-unfolding nesting leaves
+unfolding nesting leaf-forms
 leaf-nesting tag arg = eqb→eq (nesting (leaf-exp tag arg)) 1 (leaf-rule (λ e. eqb (nesting e) 1) tag arg tt tt)
 
 -- what is no tag
@@ -38,12 +38,12 @@ past-end (x ∷ xs) d zero h = absurd (omega arith)
 past-end (x ∷ xs) d (suc k) h = past-end xs d k (omega arith)
 
 pub leaf-unknown : (tag arg : ℕ) → tags ≤ tag → leaf-exp tag arg ≡ const unit
-unfolding leaf-exp leaves
-leaf-unknown tag arg h = past-end (leaves arg) (const unit) tag h
+unfolding leaf-exp leaf-forms
+leaf-unknown tag arg h = past-end (leaf-forms arg) (const unit) tag h
 
 -- a node with no subterm is the leaf that is written so
 pub leaf-tree : (tag arg : ℕ) → InTable tag arg 0 → tree-of (leaf-exp tag arg) ≡ leaf tag arg
-unfolding leaf-exp leaves tree-of const-tree op-tag form-of forms
+unfolding leaf-exp leaf-forms tree-of const-tree op-tag form-of forms
 leaf-tree tag arg w = below row tag (w .known) w
   where
     not-one : InTable 1 arg 0 → ⊥
@@ -69,21 +69,21 @@ leaf-tree tag arg w = below row tag (w .known) w
         (λ w. refl) ∣
         end-of-row
 
-pub const-fits : {c : Const} → WritableConst c → Fits (const c)
+pub const-fits : {c : Const} → WritableConst c → FitsBytes (const c)
 unfolding count
 const-fits w = record { writable = each-const w; names = λ k le. refl }
 
-name-fits : (k : ℕ) → k < byte-values → Fits (name k)
+name-fits : (k : ℕ) → k < byte-values → FitsBytes (name k)
 name-fits k h = record { writable = each-name; names = λ j le. count-other j k (omega arith) }
 
 small-num : (n : ℕ) → in-range num-tag n ≡ true → n ≤ max-num
 small-num n e = leb-true n max-num (sym (or-false (leb n max-num)) ∙ e)
 
-pub leaf-fits : (tag arg : ℕ) → InTable tag arg 0 → Fits (leaf-exp tag arg)
-unfolding leaf-exp leaves form-of forms count
+pub leaf-fits : (tag arg : ℕ) → InTable tag arg 0 → FitsBytes (leaf-exp tag arg)
+unfolding leaf-exp leaf-forms form-of forms count
 leaf-fits tag arg w = below row tag (w .known) w
   where
-    row : Row (λ tag. InTable tag arg 0 → Fits (leaf-exp tag arg)) 0 tags
+    row : Row (λ tag. InTable tag arg 0 → FitsBytes (leaf-exp tag arg)) 0 tags
     row =
         (λ w. record { writable = each-var (w .fits); names = λ k le. refl }) ∣
         (λ w. const-fits {c = unit} tt) ∣

@@ -5,7 +5,7 @@ pub mod Table
 -- numbers of several bytes
 pub mod Numbers
 -- the node at the front
-pub mod Heads
+pub mod Nodes
 -- the reader as a relation; its equation
 pub mod Reading
 -- bytes are one term exactly where they are the bytes of a well-formed tree

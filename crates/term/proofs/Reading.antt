@@ -8,17 +8,17 @@ use native.Mathlib.Nat.{not-suc-le-zero, le-refl}
 use native.Mathlib.Omega.{arith}
 use lib.ListN.{length, drop, length-drop}
 use lib.Seq.{drop-drop}
-use Rattle.term.specs.declared.Head.{Head}
-use Rattle.term.specs.declared.Head.the-variants.{Is, Bad}
+use Rattle.term.specs.declared.Front.{Front}
+use Rattle.term.specs.declared.Front.the-variants.{Is, Bad}
 use Rattle.term.specs.declared.Node.{Node}
 use Rattle.term.specs.Tree.{Tree, leaf, one, tree-depth, tree-nodes, tree-size, two}
-use Rattle.term.specs.Reader.{head-of, Got, none, got, close-one, close-two, then-second, read-subterms, read-node, read-with, read, read-term}
-use Rattle.term.proofs.Heads.{head-is, subterms-at-most}
+use Rattle.term.specs.Reader.{node-of, Got, none, got, close-one, close-two, then-second, read-subterms, read-node, read-with, read, read-term}
+use Rattle.term.proofs.Nodes.{head-is, subterms-at-most}
 
 pub data Reads : List ℕ → Tree → List ℕ → Type 0 where
-  leaf-reads : {l : List ℕ} {h : Node} → head-of l ≡ Is h → h .subterms ≡ 0 → Reads l (leaf (h .tag) (h .arg)) (drop (h .size) l)
-  one-reads : {l r : List ℕ} {h : Node} {t : Tree} → head-of l ≡ Is h → h .subterms ≡ 1 → Reads (drop (h .size) l) t r → Reads l (one (h .tag) (h .arg) t) r
-  two-reads : {l r q : List ℕ} {h : Node} {t u : Tree} → head-of l ≡ Is h → h .subterms ≡ 2 → Reads (drop (h .size) l) t r → Reads r u q → Reads l (two (h .tag) (h .arg) t u) q
+  leaf-reads : {l : List ℕ} {h : Node} → node-of l ≡ Is h → h .subterms ≡ 0 → Reads l (leaf (h .tag) (h .arg)) (drop (h .size) l)
+  one-reads : {l r : List ℕ} {h : Node} {t : Tree} → node-of l ≡ Is h → h .subterms ≡ 1 → Reads (drop (h .size) l) t r → Reads l (one (h .tag) (h .arg) t) r
+  two-reads : {l r q : List ℕ} {h : Node} {t u : Tree} → node-of l ≡ Is h → h .subterms ≡ 2 → Reads (drop (h .size) l) t r → Reads r u q → Reads l (two (h .tag) (h .arg) t u) q
 
 -- What the reader finds, the relation has
 
@@ -33,7 +33,7 @@ pub closed-two : (h : Node) (a : Tree) (g : Got) (t : Tree) (r : List ℕ) → c
 closed-two h a none t r e = absurd (none-got t r e)
 closed-two h a (got u q) t r e = (u, cc, cc)
 
-module _ (rd : List ℕ → Got) (reads-rd : (l : List ℕ) (t : Tree) (r : List ℕ) → rd l ≡ got t r → Reads l t r) (l : List ℕ) (h : Node) (is : head-of l ≡ Is h) where
+module _ (rd : List ℕ → Got) (reads-rd : (l : List ℕ) (t : Tree) (r : List ℕ) → rd l ≡ got t r → Reads l t r) (l : List ℕ) (h : Node) (is : node-of l ≡ Is h) where
   then-reads : h .subterms ≡ 2 → (g : Got) → rd (drop (h .size) l) ≡ g → (t : Tree) (r : List ℕ) → then-second rd h g ≡ got t r → Reads l t r
   then-reads k none eg t r e = absurd (none-got t r e)
   then-reads k (got a q) eg t r e =
@@ -49,14 +49,14 @@ module _ (rd : List ℕ → Got) (reads-rd : (l : List ℕ) (t : Tree) (r : List
       then-reads (omega (arith, subterms-at-most (h .tag), head-is l h is .at-subterms)) (rd (drop (h .size) l)) refl t r e
 
 node-reads : (rd : List ℕ → Got) → ((l : List ℕ) (t : Tree) (r : List ℕ) → rd l ≡ got t r → Reads l t r)
-    → (l : List ℕ) (h : Head) → head-of l ≡ h → (t : Tree) (r : List ℕ) → read-node rd h l ≡ got t r → Reads l t r
+    → (l : List ℕ) (h : Front) → node-of l ≡ h → (t : Tree) (r : List ℕ) → read-node rd h l ≡ got t r → Reads l t r
 node-reads rd reads-rd l Bad is t r e = absurd (none-got t r e)
 node-reads rd reads-rd l (Is h) is t r e = subterms-reads rd reads-rd l h is (h .subterms) refl t r e
 
 pub reads : (n : ℕ) (l : List ℕ) (t : Tree) (r : List ℕ) → read n l ≡ got t r → Reads l t r
 unfolding read
 reads zero l t r e = absurd (none-got t r e)
-reads (suc n) l t r e = node-reads (read n) (reads n) l (head-of l) refl t r e
+reads (suc n) l t r e = node-reads (read n) (reads n) l (node-of l) refl t r e
 
 -- What the relation has, the reader finds
 
@@ -142,19 +142,19 @@ subterms-full n h zero l le = refl
 subterms-full n h (suc zero) l le = ap (close-one h) (full n l le)
 subterms-full n h (suc (suc j)) l le = ap (then-second (read n) h) (full n l le) ∙ then-full n h l le (read-term l) refl
 
-node-full : (n : ℕ) (l : List ℕ) → length l ≤ n → (h : Head) → read-node (read n) h l ≡ read-node read-term h l
+node-full : (n : ℕ) (l : List ℕ) → length l ≤ n → (h : Front) → read-node (read n) h l ≡ read-node read-term h l
 node-full n l le Bad = refl
 node-full n l le (Is h) = subterms-full n h (h .subterms) (drop (h .size) l) (omega (arith, length-drop (h .size) l))
 
 -- the reader's equation
 pub step : (l : List ℕ) → read-term l ≡ read-with read-term l
 unfolding read
-step l = sym (full (suc (length l)) l (omega arith)) ∙ node-full (length l) l (le-refl (length l)) (head-of l)
+step l = sym (full (suc (length l)) l (omega arith)) ∙ node-full (length l) l (le-refl (length l)) (node-of l)
 
 -- and at a node with k subterms
-pub step-node : (l : List ℕ) (h : Node) → head-of l ≡ Is h → (k : ℕ) → h .subterms ≡ k → read-term l ≡ read-subterms read-term h k (drop (h .size) l)
+pub step-node : (l : List ℕ) (h : Node) → node-of l ≡ Is h → (k : ℕ) → h .subterms ≡ k → read-term l ≡ read-subterms read-term h k (drop (h .size) l)
 step-node l h is k e =
-    step l ∙ ap (λ (x : Head). read-node read-term x l) is ∙ ap (λ (x : ℕ). read-subterms read-term h x (drop (h .size) l)) e
+    step l ∙ ap (λ (x : Front). read-node read-term x l) is ∙ ap (λ (x : ℕ). read-subterms read-term h x (drop (h .size) l)) e
 
 pub past-term : (l : List ℕ) (t : Tree) (r : List ℕ) → read-term l ≡ got t r → Past l t r
 unfolding read-term

@@ -8,10 +8,10 @@ use native.Mathlib.Omega.{arith}
 use lib.ListN.{length, drop, take, length-append}
 use lib.Seq.{getD-drop}
 use Rattle.calculus.specs.Bytes.{Bytes}
-use Rattle.term.specs.Tree.{Tree, head-bytes, leaf, one, tree-bytes, tree-size, two, WellFormed}
+use Rattle.term.specs.Tree.{Tree, node-bytes, leaf, one, tree-bytes, tree-size, two, WellFormed}
 use Rattle.term.specs.Reader.{got, read-term}
 use Rattle.term.proofs.Numbers.{length-little-endian}
-use Rattle.term.proofs.Heads.{head-is, table-node, head-reads, head-past, head-written, head-allowed}
+use Rattle.term.proofs.Nodes.{head-is, table-node, head-reads, head-past, head-written, head-allowed}
 use Rattle.term.proofs.Reading.{Reads, leaf-reads, one-reads, two-reads, reads, found, past, depth-size}
 
 pub bytes-drop : (n : ℕ) (l : List ℕ) → Bytes l → Bytes (drop n l)
@@ -48,7 +48,7 @@ allowed (two-reads {l} {r} {q} {h} {t} {u} e k a o) b =
 written : (t : Tree) (r : List ℕ) → WellFormed t → Reads (tree-bytes t ++ r) t r
 unfolding tree-bytes
 written (leaf tag arg) r w =
-    subst (λ (x : List ℕ). Reads (head-bytes tag arg ++ r) (leaf tag arg) x) (head-past tag arg r) (leaf-reads {h = table-node tag arg 0} (head-reads tag arg 0 r w) refl)
+    subst (λ (x : List ℕ). Reads (node-bytes tag arg ++ r) (leaf tag arg) x) (head-past tag arg r) (leaf-reads {h = table-node tag arg 0} (head-reads tag arg 0 r w) refl)
 written (one tag arg t) r w =
     let e = head-past tag arg (tree-bytes t ++ r) in
     rw append-assoc

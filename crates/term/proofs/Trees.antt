@@ -16,26 +16,26 @@ use Rattle.calculus.specs.Theory.Expressions.{count-same}
 use Rattle.term.specs.Numbers.{little-endian}
 use Rattle.term.specs.Forms.{form-of, forms}
 use Rattle.term.specs.Tree.{InTable, Tree, leaf, one, tree-bytes, tree-size, two, WellFormed}
-use Rattle.term.specs.Expressions.{bytes, const-bytes, const-tree, exp-of, Fits, leaf-exp, leaves, op-tag, tree-of}
+use Rattle.term.specs.Expressions.{bytes, const-bytes, const-tree, exp-of, FitsBytes, leaf-exp, leaf-forms, op-tag, tree-of}
 use Rattle.term.proofs.Leaves.{is-application, is-lambda, leaf-fits, leaf-tree}
 use Rattle.term.proofs.Sizes.{length-bytes}
 use Rattle.term.proofs.Terms.{size-bytes}
 
 op-exp : (o : Op) (t : ℕ) → leaf-exp (op-tag o) t ≡ const (op o t)
-unfolding leaf-exp leaves op-tag
+unfolding leaf-exp leaf-forms op-tag
 op-exp cell t = refl
 op-exp exch t = refl
 op-exp thread t = refl
 op-exp handle t = refl
 
 const-exp : (c : Const) → exp-of (const-tree c) ≡ const c
-unfolding exp-of leaf-exp leaves const-tree
+unfolding exp-of leaf-exp leaf-forms const-tree
 const-exp unit = refl
 const-exp (num n) = refl
 const-exp (op o t) = op-exp o t
 
 pub exp-tree : (e : Exp) → exp-of (tree-of e) ≡ e
-unfolding exp-of leaf-exp leaves tree-of
+unfolding exp-of leaf-exp leaf-forms tree-of
 exp-tree (var i) = refl
 exp-tree (name k) = refl
 exp-tree (const c) = const-exp c
@@ -50,24 +50,24 @@ tree-exp (two tag arg t u) (w, v, v′) = let (e, z) = is-application tag arg w 
 
 -- What fits, by its parts
 
-fits-var : {i : ℕ} → Fits (var i) → i < byte-values
+fits-var : {i : ℕ} → FitsBytes (var i) → i < byte-values
 fits-var f = elim (f .writable) [ each-var h ↦ h ]
 
-fits-name : {k : ℕ} → Fits (name k) → k < byte-values
+fits-name : {k : ℕ} → FitsBytes (name k) → k < byte-values
 fits-name {k} f = go (ltb k byte-values) refl
   where
     go : (b : Bool) → ltb k byte-values ≡ b → k < byte-values
     go true e = ltb-true k byte-values e
     go false e = absurd (clash (sym (f .names k (omega (arith, ltb-false k byte-values e))) ∙ count-same k))
 
-fits-const : {c : Const} → Fits (const c) → WritableConst c
+fits-const : {c : Const} → FitsBytes (const c) → WritableConst c
 fits-const f = elim (f .writable) [ each-const h ↦ h ]
 
-pub fits-lam : {t : ℕ} {e : Exp} → Fits (lam t e) → (t < byte-values) × Fits e
+pub fits-lam : {t : ℕ} {e : Exp} → FitsBytes (lam t e) → (t < byte-values) × FitsBytes e
 unfolding count
 fits-lam f = elim (f .writable) [ each-lam h w ↦ (h, record { writable = w; names = f .names }) ]
 
-pub fits-app : {f a : Exp} → Fits (app f a) → Fits f × Fits a
+pub fits-app : {f a : Exp} → FitsBytes (app f a) → FitsBytes f × FitsBytes a
 unfolding count
 fits-app {f} {a} h = elim (h .writable) [
   | each-app w v ↦ (
@@ -78,7 +78,7 @@ fits-app {f} {a} h = elim (h .writable) [
 
 -- What fits is well-formed
 
-pub exp-fits : (t : Tree) → WellFormed t → Fits (exp-of t)
+pub exp-fits : (t : Tree) → WellFormed t → FitsBytes (exp-of t)
 unfolding exp-of count
 exp-fits (leaf tag arg) w = leaf-fits tag arg w
 exp-fits (one tag arg t) (w, v) =
@@ -103,7 +103,7 @@ const-well-formed unit w = record { known = omega arith; shape = refl; fits = om
 const-well-formed (num n) w = record { known = omega arith; shape = refl; fits = omega arith; low = or-false (leb n max-num) ∙ le-leb n max-num w }
 const-well-formed (op o t) w = op-in-table o t w
 
-pub tree-well-formed : (e : Exp) → Fits e → WellFormed (tree-of e)
+pub tree-well-formed : (e : Exp) → FitsBytes e → WellFormed (tree-of e)
 unfolding tree-of form-of forms
 tree-well-formed (var i) f = record { known = omega arith; shape = refl; fits = fits-var f; low = or-true (leb i max-num) }
 tree-well-formed (name k) f = record { known = omega arith; shape = refl; fits = fits-name f; low = or-true (leb k max-num) }
@@ -135,7 +135,7 @@ const-tree-bytes unit w = refl
 const-tree-bytes (num n) w = refl
 const-tree-bytes (op o t) w = op-bytes o t w
 
-pub bytes-tree : (e : Exp) → Fits e → bytes e ≡ tree-bytes (tree-of e)
+pub bytes-tree : (e : Exp) → FitsBytes e → bytes e ≡ tree-bytes (tree-of e)
 unfolding bytes tree-bytes tree-of form-of forms little-endian
 bytes-tree (var i) f = ap (λ l. 0 ∷ l) (byte i (fits-var f))
 bytes-tree (name k) f = ap (λ l. 9 ∷ l) (byte k (fits-name f))

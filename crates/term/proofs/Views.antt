@@ -7,12 +7,12 @@ use native.Mathlib.Omega.{arith}
 use lib.ListN.{drop, length, length-drop}
 use lib.Seq.{drop-drop}
 use Rattle.calculus.specs.Syntax.{lam, app}
-use Rattle.term.specs.declared.Head.the-variants.{Bad, Is}
+use Rattle.term.specs.declared.Front.the-variants.{Bad, Is}
 use Rattle.term.specs.declared.Node.{Node}
 use Rattle.term.specs.Tree.{leaf, one, tree-nodes, tree-size, two}
-use Rattle.term.specs.Reader.{end-at, first-tree, Good, GoodAt, head-at, tree-at}
+use Rattle.term.specs.Reader.{end-at, first-tree, Good, GoodAt, node-at, tree-at}
 use Rattle.term.specs.Expressions.{exp-of, leaf-exp, term-at}
-use Rattle.term.proofs.Heads.{head-is, subterms-at-most}
+use Rattle.term.proofs.Nodes.{head-is, subterms-at-most}
 use Rattle.term.proofs.Reading.{nodes-size, size-some}
 use Rattle.term.proofs.Fronts.{after, front-not-bad, good-fits, leaf-front, one-front, two-front}
 
@@ -61,13 +61,13 @@ pub nodes-inside : (l : List ℕ) (at : ℕ) → at + tree-nodes (tree-at l at) 
 unfolding end-at
 nodes-inside l at = omega (arith, nodes-size (tree-at l at))
 
-pub not-bad : {l : List ℕ} {at : ℕ} → GoodAt l at → head-at l at ≡ Bad → ⊥
-unfolding head-at
+pub not-bad : {l : List ℕ} {at : ℕ} → GoodAt l at → node-at l at ≡ Bad → ⊥
+unfolding node-at
 not-bad {l} {at} g is = front-not-bad (drop at l) (g .good) is
 
-pub node-at : {l : List ℕ} {at : ℕ} {h : Node} → at ≤ length l → head-at l at ≡ Is h → NodeAt l at h
-unfolding head-at
-node-at {l} {at} {h} inside is =
+pub node-there : {l : List ℕ} {at : ℕ} {h : Node} → at ≤ length l → node-at l at ≡ Is h → NodeAt l at h
+unfolding node-at
+node-there {l} {at} {h} inside is =
     let n = head-is (drop at l) h is in
     record {
       onward = omega (arith, n .at-size);
@@ -79,8 +79,8 @@ node-at {l} {at} {h} inside is =
 pub is-two : {l : List ℕ} {at : ℕ} {h : Node} → NodeAt l at h → (h .subterms ≡ 0 → ⊥) → (h .subterms ≡ 1 → ⊥) → h .subterms ≡ 2
 is-two n not-0 not-1 = omega (arith, n .few)
 
-pub leaf-from : {l : List ℕ} {at : ℕ} {h : Node} → head-at l at ≡ Is h → GoodAt l at → h .subterms ≡ 0 → LeafAt l at h
-unfolding head-at tree-at term-at end-at exp-of tree-size
+pub leaf-from : {l : List ℕ} {at : ℕ} {h : Node} → node-at l at ≡ Is h → GoodAt l at → h .subterms ≡ 0 → LeafAt l at h
+unfolding node-at tree-at term-at end-at exp-of tree-size
 leaf-from {l} {at} {h} is g k =
     let t = leaf-front (drop at l) h is (g .good) k in
     record {
@@ -89,26 +89,26 @@ leaf-from {l} {at} {h} is g k =
       ends = omega (arith, ap tree-size t, head-is (drop at l) h is .at-size);
     }
 
-pub one-from : {l : List ℕ} {at : ℕ} {h : Node} → head-at l at ≡ Is h → GoodAt l at → h .subterms ≡ 1 → OneAt l at h
-unfolding head-at tree-at term-at end-at exp-of tree-size
+pub one-from : {l : List ℕ} {at : ℕ} {h : Node} → node-at l at ≡ Is h → GoodAt l at → h .subterms ≡ 1 → OneAt l at h
+unfolding node-at tree-at term-at end-at exp-of tree-size
 one-from {l} {at} {h} is g k =
     let o = one-front (drop at l) h is (g .good) k in
     let d = drop-drop (h .size) at l in
     let t : tree-at l at ≡ one (h .tag) (h .arg) (tree-at l (at + h .size)) =
     o .tree ∙ ap (λ (x : List ℕ). one (h .tag) (h .arg) (first-tree x)) d in
     record {
-      good = record { inside = node-at (g .inside) is .inside; good = subst Good d (o .good) };
+      good = record { inside = node-there (g .inside) is .inside; good = subst Good d (o .good) };
       tree = t;
       term = ap exp-of t;
       ends = omega (arith, ap tree-size t, head-is (drop at l) h is .at-size);
     }
 
-pub two-from : {l : List ℕ} {at : ℕ} {h : Node} → head-at l at ≡ Is h → GoodAt l at → h .subterms ≡ 2 → TwoAt l at h
-unfolding head-at tree-at term-at end-at exp-of tree-size
+pub two-from : {l : List ℕ} {at : ℕ} {h : Node} → node-at l at ≡ Is h → GoodAt l at → h .subterms ≡ 2 → TwoAt l at h
+unfolding node-at tree-at term-at end-at exp-of tree-size
 two-from {l} {at} {h} is g k =
     let o = two-front (drop at l) h is (g .good) k in
     let d = drop-drop (h .size) at l in
-    let first : GoodAt l (at + h .size) = record { inside = node-at (g .inside) is .inside; good = subst Good d (o .good) } in
+    let first : GoodAt l (at + h .size) = record { inside = node-there (g .inside) is .inside; good = subst Good d (o .good) } in
     let s : at + (h .size + tree-size (first-tree (drop (at + h .size) l))) ≡ past-first l at h = omega arith in
     let e : after (drop at l) (h .size) ≡ drop (past-first l at h) l =
     drop-drop (h .size + tree-size (first-tree (drop (h .size) (drop at l)))) at l
@@ -126,10 +126,10 @@ two-from {l} {at} {h} is g k =
     }
 
 -- the first subterm, whether or not there is a second
-pub first-good : {l : List ℕ} {at : ℕ} {h : Node} → head-at l at ≡ Is h → GoodAt l at → (h .subterms ≡ 0 → ⊥) → GoodAt l (at + h .size)
+pub first-good : {l : List ℕ} {at : ℕ} {h : Node} → node-at l at ≡ Is h → GoodAt l at → (h .subterms ≡ 0 → ⊥) → GoodAt l (at + h .size)
 first-good {l} {at} {h} is g not-0 = by (h .subterms) refl
   where
     by : (k : ℕ) → h .subterms ≡ k → GoodAt l (at + h .size)
     by zero e = absurd (not-0 e)
     by (suc zero) e = one-from is g e .good
-    by (suc (suc k)) e = two-from is g (omega (arith, node-at (g .inside) is .few)) .good
+    by (suc (suc k)) e = two-from is g (omega (arith, node-there (g .inside) is .few)) .good

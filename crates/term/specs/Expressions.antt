@@ -32,7 +32,7 @@ bytes (const c) = const-bytes c
 bytes (name k) = 9 ∷ k ∷ []
 
 -- what can be written so: indices, type numbers and names in one byte, nums at most 1000
-pub record Fits (e : Exp) : Type 0 where
+pub record FitsBytes (e : Exp) : Type 0 where
   pub writable : Each Writable e
   pub names : (k : ℕ) → byte-values ≤ k → count k e ≡ 0
 
@@ -45,8 +45,8 @@ nesting (lam t e) = suc (nesting e)
 nesting (app f a) = suc (max (nesting f) (nesting a))
 
 -- the leaf that each tag says, where arg is after the tag; 1 and 2 have no leaf
-unfoldable pub leaves : ℕ → List Exp
-leaves arg =
+unfoldable pub leaf-forms : ℕ → List Exp
+leaf-forms arg =
     var arg
     ∷ const unit
     ∷ const unit
@@ -61,7 +61,7 @@ leaves arg =
 
 -- the expression that a tree says
 unfoldable pub leaf-exp : ℕ → ℕ → Exp
-leaf-exp tag arg = getD (leaves arg) tag (const unit)
+leaf-exp tag arg = getD (leaf-forms arg) tag (const unit)
 
 unfoldable pub exp-of : Tree → Exp
 exp-of (leaf tag arg) = leaf-exp tag arg
@@ -89,4 +89,4 @@ term-at l at = exp-of (tree-at l at)
 pub record TermAt (l : List ℕ) (at : ℕ) (e : Exp) : Type 0 where
   pub inside : at ≤ length l
   pub stands : drop at l ≡ bytes e ++ drop (at + size e) l
-  pub fits : Fits e
+  pub fits : FitsBytes e

@@ -5,24 +5,24 @@ use mathlib.Core.List.{List, [], _∷_}
 use Prim.Native.Nat.{_+_, _≤_, suc, zero, ℕ}
 use lib.Dec.{leb, ltb}
 use lib.ListN.{drop, getD, length}
-use Rattle.term.specs.declared.Head.{Head}
-use Rattle.term.specs.declared.Head.the-variants.{Bad, Is}
+use Rattle.term.specs.declared.Front.{Front}
+use Rattle.term.specs.declared.Front.the-variants.{Bad, Is}
 use Rattle.term.specs.declared.Node.{Node}
 use Rattle.term.specs.Numbers.{value-of}
 use Rattle.term.specs.Forms.{in-range, operand-of, subterms-of, tags}
 use Rattle.term.specs.Tree.{Tree, leaf, one, tree-size, two}
 
-abbrev pub pick-head : Bool → Head → Head
-pick-head true h = h
-pick-head false h = Bad
+abbrev pub pick-node : Bool → Front → Front
+pick-node true h = h
+pick-node false h = Bad
 
 -- the operand of the node at the front
 abbrev pub front-operand : List ℕ → ℕ
 front-operand l = value-of (operand-of (getD l 0 0)) (drop 1 l)
 
 -- document 01, cause 5: "unknown tag, cut, .. num above 1000". There is a tag, it is known, what is after it is whole, and a num is in range.
-abbrev pub head-stands : List ℕ → Bool
-head-stands l =
+abbrev pub node-stands : List ℕ → Bool
+node-stands l =
     ltb 0 (length l)
     && (ltb (getD l 0 0) tags
     && (leb (1 + operand-of (getD l 0 0)) (length l) && in-range (getD l 0 0) (front-operand l)))
@@ -37,12 +37,12 @@ front-node l =
       subterms = subterms-of (getD l 0 0);
     }
 
-unfoldable pub head-of : List ℕ → Head
-head-of l = pick-head (head-stands l) (Is (front-node l))
+unfoldable pub node-of : List ℕ → Front
+node-of l = pick-node (node-stands l) (Is (front-node l))
 
 -- the node at a position of a list
-unfoldable pub head-at : List ℕ → ℕ → Head
-head-at l at = head-of (drop at l)
+unfoldable pub node-at : List ℕ → ℕ → Front
+node-at l at = node-of (drop at l)
 
 -- nothing that is a term, or a term and what stands after it
 pub data Got : Type 0 where
@@ -67,13 +67,13 @@ read-subterms rd h zero l = got (leaf (h .tag) (h .arg)) l
 read-subterms rd h (suc zero) l = close-one h (rd l)
 read-subterms rd h (suc (suc k)) l = then-second rd h (rd l)
 
-abbrev pub read-node : (List ℕ → Got) → Head → List ℕ → Got
+abbrev pub read-node : (List ℕ → Got) → Front → List ℕ → Got
 read-node rd Bad l = none
 read-node rd (Is h) l = read-subterms rd h (h .subterms) (drop (h .size) l)
 
 -- a term's root, and its subterms read by rd
 abbrev pub read-with : (List ℕ → Got) → List ℕ → Got
-read-with rd l = read-node rd (head-of l) l
+read-with rd l = read-node rd (node-of l) l
 
 -- a term that is at most n deep
 unfoldable pub read : ℕ → List ℕ → Got

@@ -13,14 +13,14 @@ pub data Tree : Type 0 where
   two : ℕ → ℕ → Tree → Tree → Tree
 
 -- the bytes of a node without its subterms: the tag, and what is after it
-abbrev pub head-bytes : ℕ → ℕ → List ℕ
-head-bytes tag arg = tag ∷ little-endian (operand-of tag) arg
+abbrev pub node-bytes : ℕ → ℕ → List ℕ
+node-bytes tag arg = tag ∷ little-endian (operand-of tag) arg
 
 -- document 01, "A term is written root first"
 unfoldable pub tree-bytes : Tree → List ℕ
-tree-bytes (leaf tag arg) = head-bytes tag arg
-tree-bytes (one tag arg t) = head-bytes tag arg ++ tree-bytes t
-tree-bytes (two tag arg t u) = head-bytes tag arg ++ (tree-bytes t ++ tree-bytes u)
+tree-bytes (leaf tag arg) = node-bytes tag arg
+tree-bytes (one tag arg t) = node-bytes tag arg ++ tree-bytes t
+tree-bytes (two tag arg t u) = node-bytes tag arg ++ (tree-bytes t ++ tree-bytes u)
 
 -- how many bytes that is
 unfoldable pub tree-size : Tree → ℕ

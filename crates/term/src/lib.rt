@@ -6,7 +6,7 @@ ghost use lib.ListN.{length, drop};
 ghost use Rattle.calculus.specs.Limits.{max-num};
 ghost use Rattle.term.specs.Numbers.{value-of};
 ghost use Rattle.term.specs.Forms.{form-of, tags};
-ghost use Rattle.term.specs.Reader.{head-at, head-of};
+ghost use Rattle.term.specs.Reader.{node-at, node-of};
 
 // What the table of node forms says of a tag: the number of bytes after the tag, and the number of subterms.
 pub struct Form {
@@ -50,7 +50,7 @@ impl Node {
 }
 
 // The node at the front of some bytes, or that there is none.
-pub enum Head {
+pub enum Front {
     Is(Node),
     Bad,
 }
@@ -127,28 +127,28 @@ fn operand_of(s: &[u8], n: u8) -> usize
     (s[1] as usize) + 256 * (s[2] as usize)
 }
 
-pub fn head_of(s: &[u8]) -> Head
-    ensures { λ r. ⌜ r ≡ head-of (now (s .entry)) ⌝ }
+pub fn node_of(s: &[u8]) -> Front
+    ensures { λ r. ⌜ r ≡ node-of (now (s .entry)) ⌝ }
 {
     if s.len() == 0 {
-        return Head::Bad;
+        return Front::Bad;
     }
     let tag = s[0];
     if Node::TAGS <= tag {
-        return Head::Bad;
+        return Front::Bad;
     }
     let form = form_of(tag);
     let size = 1 + (form.operand as usize);
     if s.len() < size {
-        return Head::Bad;
+        return Front::Bad;
     }
     let arg = operand_of(s, form.operand);
     if Node::MAX_NUM < arg {
         if tag == Node::NUM {
-            return Head::Bad;
+            return Front::Bad;
         }
     }
-    Head::Is(Node {
+    Front::Is(Node {
         tag,
         arg,
         size,
@@ -157,9 +157,9 @@ pub fn head_of(s: &[u8]) -> Head
 }
 
 // The same at a position.
-pub fn head_at(s: &[u8], at: usize) -> Head
+pub fn node_at(s: &[u8], at: usize) -> Front
     requires { ⌜ at ≤ length (now s) ⌝ }
-    ensures { λ r. ⌜ r ≡ head-at (now (s .entry)) at ⌝ }
+    ensures { λ r. ⌜ r ≡ node-at (now (s .entry)) at ⌝ }
 {
-    head_of(&s[at..])
+    node_of(&s[at..])
 }

@@ -9,7 +9,7 @@ use Rattle.calculus.specs.Syntax.{Exp, app, each-app}
 use Rattle.calculus.specs.Reduction.{Context, hole, in-function, in-argument, plug}
 use Rattle.calculus.specs.Names.{count}
 use Rattle.calculus.specs.Image.{Closed, closed-app, nodes, size}
-use Rattle.term.specs.Expressions.{bytes, Fits, TermAt}
+use Rattle.term.specs.Expressions.{bytes, FitsBytes, TermAt}
 use Rattle.term.proofs.Sizes.{length-bytes}
 use Rattle.term.proofs.Trees.{fits-app}
 use Rattle.term_redex.specs.Contexts.{back, context-nodes, front, hole-at}
@@ -41,17 +41,17 @@ plug-size-other F e r = omega (arith, plug-size F e, plug-size F r)
 
 -- What fits in bytes
 
-pub fits-in-app : {f a : Exp} → Fits f → Fits a → Fits (app f a)
+pub fits-in-app : {f a : Exp} → FitsBytes f → FitsBytes a → FitsBytes (app f a)
 unfolding count
 fits-in-app p q = record { writable = each-app (p .writable) (q .writable); names = λ k le. omega (arith, p .names k le, q .names k le) }
 
-pub plug-fits : (F : Context) (e : Exp) → Fits (plug F e) → Fits e
+pub plug-fits : (F : Context) (e : Exp) → FitsBytes (plug F e) → FitsBytes e
 unfolding plug
 plug-fits hole e p = p
 plug-fits (in-function F a) e p = plug-fits F e (fits-app p .0)
 plug-fits (in-argument v w F) e p = plug-fits F e (fits-app p .1)
 
-pub plug-fits-other : (F : Context) (e r : Exp) → Fits (plug F e) → Fits r → Fits (plug F r)
+pub plug-fits-other : (F : Context) (e r : Exp) → FitsBytes (plug F e) → FitsBytes r → FitsBytes (plug F r)
 unfolding plug
 plug-fits-other hole e r p q = q
 plug-fits-other (in-function F a) e r p q = fits-in-app (plug-fits-other F e r (fits-app p .0) q) (fits-app p .1)

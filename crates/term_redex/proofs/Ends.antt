@@ -4,10 +4,10 @@ use mathlib.Core.List.{List}
 use Prim.Native.Nat.{_+_, _-_, _<_, _≤_, suc, zero, ℕ}
 use native.Mathlib.Omega.{arith}
 use lib.ListN.{length}
-use Rattle.term.specs.declared.Head.the-variants.{Is}
+use Rattle.term.specs.declared.Front.the-variants.{Is}
 use Rattle.term.specs.declared.Node.{Node}
-use Rattle.term.specs.Reader.{end-at, GoodAt, head-at}
-use Rattle.term.proofs.Views.{leaf-from, node-at, one-from, two-from}
+use Rattle.term.specs.Reader.{end-at, GoodAt, node-at}
+use Rattle.term.proofs.Views.{leaf-from, node-there, one-from, two-from}
 use Rattle.term_redex.proofs.Nodes.{by-subterms}
 
 -- k terms, one after the other from a position on, and where the last of them ends
@@ -44,10 +44,10 @@ pending-good {k = suc k} p h = p .good .0
 abbrev Turn : List ℕ → ℕ → Node → ℕ → ℕ → Type 0
 Turn l here h k m = AllGood l m (here + h .size) × (past l (suc k) here ≡ past l m (here + h .size))
 
-turn : (l : List ℕ) (here : ℕ) {h : Node} (k : ℕ) → head-at l here ≡ Is h → AllGood l (suc k) here → Turn l here h k (h .subterms + k)
+turn : (l : List ℕ) (here : ℕ) {h : Node} (k : ℕ) → node-at l here ≡ Is h → AllGood l (suc k) here → Turn l here h k (h .subterms + k)
 unfolding past AllGood
 turn l here {h} k is (g, r) =
-    by-subterms (h .subterms) (node-at (g .inside) is .few)
+    by-subterms (h .subterms) (node-there (g .inside) is .few)
     (λ z. let e = leaf-from is g z .ends in
     let m : k ≡ h .subterms + k = omega arith in
     subst (Turn l here h k) m (subst (AllGood l k) e r, ap (past l k) e))
@@ -58,12 +58,12 @@ turn l here {h} k is (g, r) =
     let m : suc (suc k) ≡ h .subterms + k = omega arith in
     subst (Turn l here h k) m ((o .good, (o .second, subst (AllGood l k) (o .ends) r)), ap (past l k) (o .ends)))
 
-pub pending-node : {l : List ℕ} {at here k : ℕ} {h : Node} → head-at l here ≡ Is h → Pending l at here k → 0 < k
+pub pending-node : {l : List ℕ} {at here k : ℕ} {h : Node} → node-at l here ≡ Is h → Pending l at here k → 0 < k
     → Pending l at (here + h .size) (k - 1 + h .subterms)
 pending-node {k = zero} is p positive = absurd (omega arith)
 pending-node {l} {at} {here} {k = suc k} {h} is p positive =
     let (good, same) = turn l here k is (p .good) in
-    let n = node-at (p .inside) is in
+    let n = node-there (p .inside) is in
     let m : h .subterms + k ≡ suc k - 1 + h .subterms = omega arith in
     subst (Pending l at (here + h .size)) m
     (record { inside = n .inside; few = omega (arith, p .few, n .onward, n .few); good = good; same = p .same ∙ same })

@@ -10,9 +10,9 @@ use Rattle.calculus.specs.Bytes.{Bytes}
 use Rattle.calculus.specs.Syntax.{Exp}
 use Rattle.calculus.specs.Step.{place}
 use Rattle.calculus.specs.Image.{Closed, is-settled}
-use Rattle.term.specs.declared.Head.the-variants.{Is}
+use Rattle.term.specs.declared.Front.the-variants.{Is}
 use Rattle.term.specs.declared.Node.{Node}
-use Rattle.term.specs.Reader.{end-at, GoodAt, head-at}
+use Rattle.term.specs.Reader.{end-at, GoodAt, node-at}
 use Rattle.term.specs.Expressions.{term-at}
 use Rattle.term_redex.specs.Shapes.{exch-tag, is-application, is-exchange, variable-tag}
 use Rattle.term_redex.specs.Exchanges.{Inner}
@@ -29,7 +29,7 @@ no-exchange e is = go (is-exchange e) refl
     go false h = h
 
 -- the function's node says whether an application is exch applied
-pub exchange-node : {l : List ℕ} {at : ℕ} {h : Node} → Bytes l → GoodAt l at → is-application (term-at l at) ≡ true → head-at l (at + 1) ≡ Is h
+pub exchange-node : {l : List ℕ} {at : ℕ} {h : Node} → Bytes l → GoodAt l at → is-application (term-at l at) ≡ true → node-at l (at + 1) ≡ Is h
     → is-exchange (term-at l at) ≡ eqb (h .tag) exch-tag
 unfolding is-exchange
 exchange-node b g is e = let p = application-at b g is in ap is-exchange (p .term) ∙ exch-node e (p .function)
@@ -61,7 +61,7 @@ module _ {l : List ℕ} {at inner : ℕ} (i : Inner l at inner) where
   pub value-not : is-application (term-at l inner) ≡ true → is-exchange (term-at l inner) ≡ false → false ≡ is-settled (place (term-at l at))
   value-not is other = sym (i .settles ∙ open-application (term-at l inner) is other)
 
-  pub value-node : {h : Node} → is-application (term-at l inner) ≡ false → head-at l inner ≡ Is h
+  pub value-node : {h : Node} → is-application (term-at l inner) ≡ false → node-at l inner ≡ Is h
       → not (eqb (h .tag) variable-tag) ≡ is-settled (place (term-at l at))
   value-node {h} is e =
       sym (i .settles ∙ settled-node e (i .good) (λ two. false≢true (sym is ∙ application-node e (i .good) ∙ eq-eqb (h .subterms) 2 two)))

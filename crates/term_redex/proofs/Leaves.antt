@@ -12,7 +12,7 @@ use Rattle.calculus.specs.Step.{place}
 use Rattle.calculus.specs.Image.{is-settled}
 use Rattle.calculus.specs.Theory.Tests.{and-parts, of-true, true-of}
 use Rattle.term.specs.Forms.{tags}
-use Rattle.term.specs.Expressions.{leaf-exp, leaves}
+use Rattle.term.specs.Expressions.{leaf-exp, leaf-forms}
 use Rattle.term_redex.specs.Shapes.{exch-tag, is-application, exp-is-exch, const-is-exch, op-is-exch, variable-tag}
 
 -- two tests say the same
@@ -42,20 +42,20 @@ module _ (test : Exp → Bool) (tag-test : ℕ → Bool) where
       subst (λ (n : ℕ). test (getD es i (const unit)) ≡ tag-test n) z
       (agree-at es (suc k) i (of-true (and-parts (same (test e) (tag-test k)) (agree (suc k) es) (true-of _ t) .1)) (le-of-suc-le-suc h))
 
-  leaf-test : (tag arg : ℕ) → tag < tags → T (agree 0 (leaves arg)) → test (leaf-exp tag arg) ≡ tag-test tag
-  unfolding leaf-exp leaves
+  leaf-test : (tag arg : ℕ) → tag < tags → T (agree 0 (leaf-forms arg)) → test (leaf-exp tag arg) ≡ tag-test tag
+  unfolding leaf-exp leaf-forms
   leaf-test tag arg known t =
       let z : 0 + tag ≡ tag = omega arith in
-      subst (λ (n : ℕ). test (getD (leaves arg) tag (const unit)) ≡ tag-test n) z (agree-at (leaves arg) 0 tag t known)
+      subst (λ (n : ℕ). test (getD (leaf-forms arg) tag (const unit)) ≡ tag-test n) z (agree-at (leaf-forms arg) 0 tag t known)
 
 pub leaf-exch : (tag arg : ℕ) → tag < tags → exp-is-exch (leaf-exp tag arg) ≡ eqb tag exch-tag
-unfolding leaves exp-is-exch const-is-exch op-is-exch
+unfolding leaf-forms exp-is-exch const-is-exch op-is-exch
 leaf-exch tag arg known = leaf-test exp-is-exch (λ k. eqb k exch-tag) tag arg known tt
 
 pub leaf-settled : (tag arg : ℕ) → tag < tags → is-settled (place (leaf-exp tag arg)) ≡ not (eqb tag variable-tag)
-unfolding leaves place is-settled
+unfolding leaf-forms place is-settled
 leaf-settled tag arg known = leaf-test (λ e. is-settled (place e)) (λ k. not (eqb k variable-tag)) tag arg known tt
 
 pub leaf-application : (tag arg : ℕ) → tag < tags → is-application (leaf-exp tag arg) ≡ false
-unfolding leaves is-application
+unfolding leaf-forms is-application
 leaf-application tag arg known = leaf-test is-application (λ k. false) tag arg known tt

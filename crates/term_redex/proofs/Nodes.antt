@@ -11,23 +11,23 @@ use Rattle.calculus.specs.Bytes.{Bytes}
 use Rattle.calculus.specs.Syntax.{Exp, app}
 use Rattle.calculus.specs.Step.{place}
 use Rattle.calculus.specs.Image.{is-settled, size}
-use Rattle.term.specs.declared.Head.{Head}
-use Rattle.term.specs.declared.Head.the-variants.{Bad, Is}
+use Rattle.term.specs.declared.Front.{Front}
+use Rattle.term.specs.declared.Front.the-variants.{Bad, Is}
 use Rattle.term.specs.declared.Node.{Node}
 use Rattle.term.specs.Forms.{form-of, forms, subterms-of, tags}
-use Rattle.term.specs.Reader.{end-at, GoodAt, head-at}
+use Rattle.term.specs.Reader.{end-at, GoodAt, node-at}
 use Rattle.term.specs.Expressions.{term-at}
-use Rattle.term.proofs.Heads.{head-is}
-use Rattle.term.proofs.Views.{leaf-from, node-at, not-bad, one-from, two-from}
+use Rattle.term.proofs.Nodes.{head-is}
+use Rattle.term.proofs.Views.{leaf-from, node-there, not-bad, one-from, two-from}
 use Rattle.term.proofs.Expressions.{term-stands}
 use Rattle.term_redex.specs.Shapes.{exch-tag, exp-is-exch, is-application, variable-tag}
 use Rattle.term_redex.proofs.Leaves.{leaf-application, leaf-exch, leaf-settled}
 
 -- a good term has a node at its front
-node-of : {l : List ℕ} {at : ℕ} → GoodAt l at → (h : Node) × (head-at l at ≡ Is h)
-node-of {l} {at} g = go (head-at l at) refl
+node-of : {l : List ℕ} {at : ℕ} → GoodAt l at → (h : Node) × (node-at l at ≡ Is h)
+node-of {l} {at} g = go (node-at l at) refl
   where
-    go : (k : Head) → head-at l at ≡ k → (h : Node) × (head-at l at ≡ Is h)
+    go : (k : Front) → node-at l at ≡ k → (h : Node) × (node-at l at ≡ Is h)
     go (Is h) e = (h, e)
     go Bad e = absurd (not-bad g e)
 
@@ -38,13 +38,13 @@ by-subterms (suc zero) few none one two = one refl
 by-subterms (suc (suc zero)) few none one two = two refl
 by-subterms (suc (suc (suc n))) few none one two = absurd (omega arith)
 
-module _ {l : List ℕ} {at : ℕ} {h : Node} (is : head-at l at ≡ Is h) (g : GoodAt l at) where
+module _ {l : List ℕ} {at : ℕ} {h : Node} (is : node-at l at ≡ Is h) (g : GoodAt l at) where
   known : h .tag < tags
-  unfolding head-at
+  unfolding node-at
   known = head-is (drop at l) h is .known
 
   shape : subterms-of (h .tag) ≡ h .subterms
-  unfolding head-at
+  unfolding node-at
   shape = head-is (drop at l) h is .at-subterms
 
   -- a tag of the table that has no subterm is not the tag of a node that has some
@@ -54,7 +54,7 @@ module _ {l : List ℕ} {at : ℕ} {h : Node} (is : head-at l at ≡ Is h) (g : 
   pub application-node : is-application (term-at l at) ≡ eqb (h .subterms) 2
   unfolding is-application
   application-node =
-      by-subterms (h .subterms) (node-at (g .inside) is .few)
+      by-subterms (h .subterms) (node-there (g .inside) is .few)
       (λ k. ap is-application (leaf-from is g k .term) ∙ leaf-application (h .tag) (h .arg) known ∙ sym (ne-eqb (h .subterms) 2 (omega arith)))
       (λ k. ap is-application (one-from is g k .term) ∙ sym (ne-eqb (h .subterms) 2 (omega arith)))
       (λ k. ap is-application (two-from is g k .term) ∙ sym (eq-eqb (h .subterms) 2 k))
@@ -62,7 +62,7 @@ module _ {l : List ℕ} {at : ℕ} {h : Node} (is : head-at l at ≡ Is h) (g : 
   pub exch-node : exp-is-exch (term-at l at) ≡ eqb (h .tag) exch-tag
   unfolding exp-is-exch form-of forms
   exch-node =
-      by-subterms (h .subterms) (node-at (g .inside) is .few)
+      by-subterms (h .subterms) (node-there (g .inside) is .few)
       (λ k. ap exp-is-exch (leaf-from is g k .term) ∙ leaf-exch (h .tag) (h .arg) known)
       (λ k. ap exp-is-exch (one-from is g k .term) ∙ sym (ne-eqb (h .tag) exch-tag (other-tag exch-tag refl (λ z. omega arith))))
       (λ k. ap exp-is-exch (two-from is g k .term) ∙ sym (ne-eqb (h .tag) exch-tag (other-tag exch-tag refl (λ z. omega arith))))
@@ -71,7 +71,7 @@ module _ {l : List ℕ} {at : ℕ} {h : Node} (is : head-at l at ≡ Is h) (g : 
   pub settled-node : (h .subterms ≡ 2 → ⊥) → is-settled (place (term-at l at)) ≡ not (eqb (h .tag) variable-tag)
   unfolding place is-settled form-of forms
   settled-node no-two =
-      by-subterms (h .subterms) (node-at (g .inside) is .few)
+      by-subterms (h .subterms) (node-there (g .inside) is .few)
       (λ k. ap (λ (e : Exp). is-settled (place e)) (leaf-from is g k .term) ∙ leaf-settled (h .tag) (h .arg) known)
       (λ k. ap (λ (e : Exp). is-settled (place e)) (one-from is g k .term)
       ∙ sym (ap not (ne-eqb (h .tag) variable-tag (other-tag variable-tag refl (λ z. omega arith)))))
@@ -88,7 +88,7 @@ pub record ApplicationAt (l : List ℕ) (at : ℕ) : Type 0 where
   pub stops : end-at l (end-at l (at + 1)) ≡ at + 1 + size (term-at l (at + 1)) + size (term-at l (end-at l (at + 1)))
   pub ends : end-at l at ≡ end-at l (end-at l (at + 1))
 
-application-two : {l : List ℕ} {at : ℕ} {h : Node} → Bytes l → head-at l at ≡ Is h → GoodAt l at → h .subterms ≡ 2 → ApplicationAt l at
+application-two : {l : List ℕ} {at : ℕ} {h : Node} → Bytes l → node-at l at ≡ Is h → GoodAt l at → h .subterms ≡ 2 → ApplicationAt l at
 unfolding size
 application-two {l} {at} {h} b is g k =
     let two = two-from is g k in
@@ -115,7 +115,7 @@ application-two {l} {at} {h} b is g k =
 pub application-at : {l : List ℕ} {at : ℕ} → Bytes l → GoodAt l at → is-application (term-at l at) ≡ true → ApplicationAt l at
 application-at {l} {at} b g is =
     let (h, e) = node-of g in
-    by-subterms (h .subterms) (node-at (g .inside) e .few)
+    by-subterms (h .subterms) (node-there (g .inside) e .few)
     (λ k. absurd (false≢true (sym (application-node e g ∙ ne-eqb (h .subterms) 2 (omega arith)) ∙ is)))
     (λ k. absurd (false≢true (sym (application-node e g ∙ ne-eqb (h .subterms) 2 (omega arith)) ∙ is)))
     (λ k. application-two b e g k)

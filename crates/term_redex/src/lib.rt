@@ -1,13 +1,13 @@
 // Document 01, "A step": "Otherwise Fig. 3 gives one place where two values meet". An application whose function is not the constant exch is
 // never a value, so the place is inside it or it is the place itself: the search goes down, and never comes back up.
-use term::Head;
+use term::Front;
 use term::Node;
 ghost use mathlib.Core.Path.{_≡_};
 ghost use mathlib.Core.Bool.{false};
 ghost use Rattle.calculus.specs.Step.{place};
 ghost use Rattle.calculus.specs.Image.{is-settled};
-ghost use Rattle.term.specs.declared.Head.the-variants.{Is};
-ghost use Rattle.term.specs.Reader.{end-at, GoodAt, head-at};
+ghost use Rattle.term.specs.declared.Front.the-variants.{Is};
+ghost use Rattle.term.specs.Reader.{end-at, GoodAt, node-at};
 ghost use Rattle.term.specs.Expressions.{term-at};
 ghost use Rattle.term_redex.specs.Shapes.{is-application, is-exchange};
 ghost use Rattle.term_redex.specs.Places.{place-of, Searchable};
@@ -27,11 +27,11 @@ pub enum Place {
 }
 
 // The node at the front of a term.
-fn node_at(s: &[u8], at: usize) -> Node
+fn known_node(s: &[u8], at: usize) -> Node
     requires { ⌜ GoodAt (now s) at ⌝ }
-    ensures { λ r. ⌜ head-at (now (s .entry)) at ≡ Is r ⌝ }
+    ensures { λ r. ⌜ node-at (now (s .entry)) at ≡ Is r ⌝ }
 {
-    let Head::Is(node) = term::head_at(s, at) else {
+    let Front::Is(node) = term::node_at(s, at) else {
         return Node {
             tag: Node::UNIT,
             arg: 0,
@@ -50,7 +50,7 @@ fn end_of(s: &[u8], at: usize) -> usize
     let mut here = at;
     let mut pending: usize = 1;
     while 0 < pending {
-        let node = node_at(s, here);
+        let node = known_node(s, here);
         let size = node.size;
         let subterms = node.subterms;
         here += size;
@@ -63,7 +63,7 @@ fn is_application(s: &[u8], at: usize) -> bool
     requires { ⌜ GoodAt (now s) at ⌝ }
     ensures { λ r. ⌜ r ≡ is-application (term-at (now (s .entry)) at) ⌝ }
 {
-    let node = node_at(s, at);
+    let node = known_node(s, at);
     node.subterms == 2
 }
 
@@ -75,7 +75,7 @@ fn is_exchange(s: &[u8], at: usize) -> bool
     if !is_application(s, at) {
         return false;
     }
-    let node = node_at(s, at + 1);
+    let node = known_node(s, at + 1);
     node.tag == Node::EXCH
 }
 
@@ -101,7 +101,7 @@ pub fn is_value(s: &[u8], at: usize) -> bool
     if is_application(s, inner) {
         return false;
     }
-    let node = node_at(s, inner);
+    let node = known_node(s, inner);
     node.tag != Node::VARIABLE
 }
 

@@ -14,7 +14,7 @@ use Rattle.calculus.specs.Image.{nodes}
 use Rattle.calculus.specs.Theory.Tests.{clash}
 use Rattle.term.specs.Tree.{Tree, tree-nodes, tree-size}
 use Rattle.term.specs.Reader.{end-at, first-rest, first-tree, Good, GoodAt, Got, got, none, read-term, tree-at}
-use Rattle.term.specs.Expressions.{bytes, exp-of, Fits, term-at, tree-of}
+use Rattle.term.specs.Expressions.{bytes, exp-of, FitsBytes, term-at, tree-of}
 use Rattle.term.proofs.Reading.{past-term}
 use Rattle.term.proofs.Views.{end-inside, nodes-inside}
 use Rattle.term.proofs.Fronts.{is-good, is-tree}
@@ -157,14 +157,14 @@ part-single l n q = is (read-term l) refl q
         }
 
 -- is an expression's bytes
-pub part-bytes : (l : List ℕ) (n : ℕ) → Bytes l → Nodes n ≡ part-of l → (l ≡ bytes (term-at l 0)) × Fits (term-at l 0) × (nodes (term-at l 0) ≡ n)
+pub part-bytes : (l : List ℕ) (n : ℕ) → Bytes l → Nodes n ≡ part-of l → (l ≡ bytes (term-at l 0)) × FitsBytes (term-at l 0) × (nodes (term-at l 0) ≡ n)
 unfolding term-at
 part-bytes l n b q =
     let s = part-single l n q in
     let (p, f) = one-term-is l (tree-at l 0) b (s .reads) in
     (p, f, s .count)
 
-pub part-written : (e : Exp) → Fits e → part-of (bytes e) ≡ Nodes (nodes e)
+pub part-written : (e : Exp) → FitsBytes e → part-of (bytes e) ≡ Nodes (nodes e)
 unfolding part-of
 part-written e f =
     ap (λ l. exactly (read-term l)) (sym (append-nil (bytes e)))
@@ -172,7 +172,7 @@ part-written e f =
     ∙ ap Nodes (nodes-exp (tree-of e) ∙ ap nodes (exp-tree e))
 
 -- document 01, cause 5
-pub part-iff : (l : List ℕ) → Bytes l → ((n : ℕ) × (part-of l ≡ Nodes n)) ↔ ((e : Exp) × (l ≡ bytes e) × Fits e)
+pub part-iff : (l : List ℕ) → Bytes l → ((n : ℕ) × (part-of l ≡ Nodes n)) ↔ ((e : Exp) × (l ≡ bytes e) × FitsBytes e)
 part-iff l b = (
   λ (n, q). let (p, f, m) = part-bytes l n b (sym q) in (term-at l 0, p, f),
   λ (e, p, f). (nodes e, ap part-of p ∙ part-written e f),

@@ -8,12 +8,12 @@ use borrow.Author.Tests.{le-leb, leb-false, leb-true, lt-leb}
 use lib.Dec.{leb}
 use Rattle.calculus.specs.Syntax.{app, const, Exp, lam, name, var}
 use Rattle.calculus.specs.Theory.Tests.{clash}
-use Rattle.term.specs.declared.Head.the-variants.{Is}
+use Rattle.term.specs.declared.Front.the-variants.{Is}
 use Rattle.term.specs.declared.Node.{Node}
-use Rattle.term.specs.Reader.{end-at, GoodAt, head-at}
+use Rattle.term.specs.Reader.{end-at, GoodAt, node-at}
 use Rattle.term.specs.Expressions.{leaf-exp, nesting, term-at}
 use Rattle.term.proofs.Leaves.{leaf-nesting}
-use Rattle.term.proofs.Views.{LeafAt, node-at, one-from, OneAt, past-first, two-from, TwoAt}
+use Rattle.term.proofs.Views.{LeafAt, node-there, one-from, OneAt, past-first, two-from, TwoAt}
 use Rattle.term_scan.specs.declared.Reach.{Reach}
 use Rattle.term_scan.specs.declared.Reach.the-variants.{End, TooDeep}
 use Rattle.term_scan.specs.Depths.{pick-end, reach}
@@ -99,10 +99,10 @@ module _ (l : List ℕ) (n at : ℕ) where
         sym (rw (← e) at (both-reach o))
 
     -- where the first subterm is too deep, so is the term
-    pub reach-cut : head-at l at ≡ Is h → GoodAt l at → (h .subterms ≡ 0 → ⊥) → TooDeep ≡ reach l (n - 1) (at + h .size) → TooDeep ≡ reach l n at
+    pub reach-cut : node-at l at ≡ Is h → GoodAt l at → (h .subterms ≡ 0 → ⊥) → TooDeep ≡ reach l (n - 1) (at + h .size) → TooDeep ≡ reach l n at
     reach-cut is g not-0 first = by (h .subterms) refl
       where
         by : (k : ℕ) → h .subterms ≡ k → TooDeep ≡ reach l n at
         by zero e = absurd (not-0 e)
         by (suc zero) e = first ∙ reach-one (one-from is g e)
-        by (suc (suc k)) e = cut-two (two-from is g (omega (arith, node-at (g .inside) is .few))) first
+        by (suc (suc k)) e = cut-two (two-from is g (omega (arith, node-there (g .inside) is .few))) first

@@ -7,10 +7,10 @@ use Prim.Native.Nat.{suc, zero, ℕ}
 use lib.Dec.{ltb}
 use lib.ListN.{drop, length}
 use Rattle.calculus.specs.Verdict.{scoped}
-use Rattle.term.specs.declared.Head.the-variants.{Is}
+use Rattle.term.specs.declared.Front.the-variants.{Is}
 use Rattle.term.specs.declared.Node.{Node}
 use Rattle.term.specs.Tree.{Tree}
-use Rattle.term.specs.Reader.{close-one, close-two, first-tree, Good, Got, got, head-of, none, read-term, then-second}
+use Rattle.term.specs.Reader.{close-one, close-two, first-tree, Good, Got, got, node-of, none, read-term, then-second}
 use Rattle.term.specs.Expressions.{exp-of, leaf-exp}
 use Rattle.term.proofs.Reading.{step-node}
 
@@ -46,7 +46,7 @@ module _ (types names : ℕ) where
   unfolding levels terms outside
   levels-pop m ms l = refl
 
-  module _ (ms : List ℕ) (k : ℕ) (l : List ℕ) (h : Node) (is : head-of l ≡ Is h) where
+  module _ (ms : List ℕ) (k : ℕ) (l : List ℕ) (h : Node) (is : node-of l ≡ Is h) where
     pub levels-leaf : h .subterms ≡ 0 → levels ms (suc k) l ≡ (scoped types names (length ms) (leaf-exp (h .tag) (h .arg)) && levels ms k (drop (h .size) l))
     unfolding levels terms exp-of
     levels-leaf e = rw (step-node l h is 0 e)

@@ -7,13 +7,13 @@ use borrow.Author.Tests.{le-leb, lt-leb}
 use lib.ListN.{drop, length}
 use lib.Seq.{drop-drop}
 use Rattle.calculus.specs.Theory.Tests.{clash}
-use Rattle.term.specs.declared.Head.the-variants.{Bad, Is}
+use Rattle.term.specs.declared.Front.the-variants.{Bad, Is}
 use Rattle.term.specs.declared.Node.{Node}
 use Rattle.term.specs.Tree.{leaf, one, Tree, tree-nodes, tree-size, two}
-use Rattle.term.specs.Reader.{close-one, close-two, Got, got, head-at, head-of, none, read-subterms, read-term, then-second}
-use Rattle.term.proofs.Heads.{head-is, subterms-at-most}
+use Rattle.term.specs.Reader.{close-one, close-two, Got, got, node-at, node-of, none, read-subterms, read-term, then-second}
+use Rattle.term.proofs.Nodes.{head-is, subterms-at-most}
 use Rattle.term.proofs.Reading.{step, step-node}
-use Rattle.term.proofs.Views.{node-at, NodeAt}
+use Rattle.term.proofs.Views.{node-there, NodeAt}
 use Rattle.term_scan.specs.declared.Extent.{Extent}
 use Rattle.term_scan.specs.declared.Extent.the-variants.{Ends, Refused}
 use Rattle.term_scan.specs.Extents.{extent-at, scanned, small}
@@ -35,11 +35,11 @@ many-one p l = is (read-term l) where
   is none = refl
   is (got t r) = ap (Ends (p + tree-size t)) (omega arith)
 
-pub many-bad : (k p n : ℕ) (l : List ℕ) → head-of l ≡ Bad → many (suc k) p n l ≡ Refused
+pub many-bad : (k p n : ℕ) (l : List ℕ) → node-of l ≡ Bad → many (suc k) p n l ≡ Refused
 unfolding many
 many-bad k p n l is = rw (step l, is)
 
-module _ (k p n : ℕ) (l : List ℕ) (h : Node) (is : head-of l ≡ Is h) where
+module _ (k p n : ℕ) (l : List ℕ) (h : Node) (is : node-of l ≡ Is h) where
   -- where the k terms begin that stand after the subterms
   far : (a b : ℕ) (x y : ℕ) (r : List ℕ) → a ≡ x → b ≡ y → many k a b r ≡ many k x y r
   far a b x y r e f = ap₂ (λ (u v : ℕ). many k u v r) e f
@@ -94,13 +94,13 @@ pub come-end : (l : List ℕ) (p n : ℕ) → to-come l 0 p n ≡ Ends p n
 unfolding to-come many
 come-end l p n = refl
 
-pub come-bad : (l : List ℕ) (k p n : ℕ) → 0 < k → head-at l p ≡ Bad → to-come l k p n ≡ Refused
-unfolding to-come head-at
+pub come-bad : (l : List ℕ) (k p n : ℕ) → 0 < k → node-at l p ≡ Bad → to-come l k p n ≡ Refused
+unfolding to-come node-at
 come-bad l zero p n some is = absurd (omega arith)
 come-bad l (suc k) p n some is = many-bad k p n (drop p l) is
 
-pub come-node : (l : List ℕ) (k p n : ℕ) (h : Node) → 0 < k → head-at l p ≡ Is h → to-come l k p n ≡ to-come l (k - 1 + h .subterms) (p + h .size) (n + 1)
-unfolding to-come head-at
+pub come-node : (l : List ℕ) (k p n : ℕ) (h : Node) → 0 < k → node-at l p ≡ Is h → to-come l k p n ≡ to-come l (k - 1 + h .subterms) (p + h .size) (n + 1)
+unfolding to-come node-at
 come-node l zero p n h some is = absurd (omega arith)
 come-node l (suc k) p n h some is =
     many-node k p n (drop p l) h is (suc k - 1 + h .subterms) (omega arith)
@@ -121,9 +121,9 @@ pub record More (l : List ℕ) (at here n k : ℕ) (h : Node) : Type 0 where
   pub node : NodeAt l here h
   pub seen : Seen l at (here + h .size) (n + 1) (k - 1 + h .subterms)
 
-pub seen-node : {l : List ℕ} {at here n k : ℕ} {h : Node} → Seen l at here n k → 0 < k → head-at l here ≡ Is h → More l at here n k h
+pub seen-node : {l : List ℕ} {at here n k : ℕ} {h : Node} → Seen l at here n k → 0 < k → node-at l here ≡ Is h → More l at here n k h
 seen-node {l} {at} {here} {n} {k} {h} s some is =
-    let f = node-at (s .inside) is in
+    let f = node-there (s .inside) is in
     record {
       node = f;
       seen =
@@ -135,7 +135,7 @@ seen-node {l} {at} {here} {n} {k} {h} s some is =
           };
     }
 
-pub seen-bad : {l : List ℕ} {at here n k : ℕ} → Seen l at here n k → 0 < k → head-at l here ≡ Bad → Refused ≡ extent-at l at
+pub seen-bad : {l : List ℕ} {at here n k : ℕ} → Seen l at here n k → 0 < k → node-at l here ≡ Bad → Refused ≡ extent-at l at
 seen-bad {l} {at} {here} {n} {k} s some is = sym (s .same ∙ come-bad l k here n some is)
 
 pub seen-end : {l : List ℕ} {at here n k : ℕ} → Seen l at here n k → k ≡ 0 → Ends here n ≡ extent-at l at

@@ -10,9 +10,9 @@ use lib.ListN.{drop, getD, length, length-set, set}
 use lib.Seq.{drop-drop}
 use Rattle.calculus.specs.Limits.{max-nodes}
 use Rattle.calculus.specs.Verdict.{scoped}
-use Rattle.term.specs.declared.Head.the-variants.{Bad, Is}
+use Rattle.term.specs.declared.Front.the-variants.{Bad, Is}
 use Rattle.term.specs.declared.Node.{Node}
-use Rattle.term.specs.Reader.{GoodAt, head-at, tree-at}
+use Rattle.term.specs.Reader.{GoodAt, node-at, tree-at}
 use Rattle.term.specs.Expressions.{leaf-exp, term-at}
 use Rattle.term.proofs.Views.{NodeAt}
 use Rattle.term_scan.specs.declared.Extent.{Extent}
@@ -117,14 +117,14 @@ module _ {types names budget : ℕ} {l : List ℕ} {at here r k n : ℕ} {a : Li
     pub scanning-over : budget ≤ r → Refused ≡ answer types names budget l at
     scanning-over h = no-term types names budget l at (small-over budget (w .seen) (omega arith) h)
 
-    pub scanning-bad : head-at l here ≡ Bad → Refused ≡ answer types names budget l at
+    pub scanning-bad : node-at l here ≡ Bad → Refused ≡ answer types names budget l at
     scanning-bad is = no-term types names budget l at (ap (small budget) (seen-bad (w .seen) (omega arith) is))
 
     -- one term is next
     next : levels types names [] 1 (drop at l) ≡ levels types names (stack-of n a) (suc (k - 1)) (drop here l)
     next = let e : k ≡ suc (k - 1) = omega arith in w .same ∙ ap (λ x. levels types names (stack-of n a) x (drop here l)) e
 
-    module _ {h : Node} (is : head-at l here ≡ Is h) where
+    module _ {h : Node} (is : node-at l here ≡ Is h) where
       more : More l at here r (k + sum (stack-of n a)) h
       more = seen-node (w .seen) (omega arith) is
 
@@ -140,7 +140,7 @@ module _ {types names budget : ℕ} {l : List ℕ} {at here r k n : ℕ} {a : Li
 
       after-leaf : h .subterms ≡ 0 →
           levels types names [] 1 (drop at l) ≡ (scoped types names n (leaf-exp (h .tag) (h .arg)) && levels types names (stack-of n a) (k - 1) (drop (here + h .size) l))
-      unfolding head-at
+      unfolding node-at
       after-leaf e =
           next
           ∙ levels-leaf types names (stack-of n a) (k - 1) (drop here l) h is e
@@ -151,7 +151,7 @@ module _ {types names budget : ℕ} {l : List ℕ} {at here r k n : ℕ} {a : Li
 
       after-lambda : h .subterms ≡ 1 →
           levels types names [] 1 (drop at l) ≡ (ltb (h .arg) types && levels types names ((k - 1) ∷ stack-of n a) 1 (drop (here + h .size) l))
-      unfolding head-at
+      unfolding node-at
       after-lambda e =
           next
           ∙ levels-lambda types names (stack-of n a) (k - 1) (drop here l) h is e
@@ -193,7 +193,7 @@ module _ {types names budget : ℕ} {l : List ℕ} {at here r k n : ℕ} {a : Li
             }
 
         pub scanning-two : h .subterms ≡ 2 → Scanning types names budget l at (here + h .size) (r + 1) (k + 1) n a
-        unfolding head-at
+        unfolding node-at
         scanning-two e =
             let s : suc (suc (k - 1)) ≡ k + 1 = omega arith in
             record {

@@ -10,22 +10,22 @@ use Rattle.calculus.specs.Limits.{byte-values, max-num}
 use Rattle.calculus.specs.Image.{constant-test, expression-test, Writable, WritableConst}
 use Rattle.calculus.specs.Verdict.{scoped, scoped-const}
 use Rattle.term.specs.Forms.{tags}
-use Rattle.term.specs.Expressions.{leaf-exp, leaves}
+use Rattle.term.specs.Expressions.{leaf-exp, leaf-forms}
 use Rattle.term.proofs.Table.{below, end-of-row, Row, _∣_}
 use Rattle.term.proofs.Leaves.{leaf-unknown}
 
 module _ (types names lambdas arg : ℕ) where
   pub scoped-variable : (tag : ℕ) → tag ≡ 0 → ltb arg lambdas ≡ scoped types names lambdas (leaf-exp tag arg)
-  unfolding scoped leaf-exp leaves
+  unfolding scoped leaf-exp leaf-forms
   scoped-variable tag e = rw e
 
   pub scoped-name : (tag : ℕ) → tag ≡ 9 → ltb arg names ≡ scoped types names lambdas (leaf-exp tag arg)
-  unfolding scoped leaf-exp leaves
+  unfolding scoped leaf-exp leaf-forms
   scoped-name tag e = rw e
 
   -- cell, exch, thread, handle
   pub scoped-op : (tag : ℕ) → 5 ≤ tag → tag ≤ 8 → ltb arg types ≡ scoped types names lambdas (leaf-exp tag arg)
-  unfolding scoped scoped-const leaf-exp leaves
+  unfolding scoped scoped-const leaf-exp leaf-forms
   scoped-op tag low high = below row tag (omega arith) low
     where
       lower : (tag : ℕ) → tag < 5 → 5 ≤ tag → ltb arg types ≡ scoped types names lambdas (leaf-exp tag arg)
@@ -46,7 +46,7 @@ module _ (types names lambdas arg : ℕ) where
 
   -- lambda, application, unit, num
   pub scoped-plain : (tag : ℕ) → (tag ≡ 0 → ⊥) → tag < 5 → true ≡ scoped types names lambdas (leaf-exp tag arg)
-  unfolding scoped scoped-const leaf-exp leaves
+  unfolding scoped scoped-const leaf-exp leaf-forms
   scoped-plain tag not-0 high = below row tag high not-0
     where
       row : Row (λ tag. (tag ≡ 0 → ⊥) → true ≡ scoped types names lambdas (leaf-exp tag arg)) 0 5

@@ -1,6 +1,7 @@
 // Terms in bytes that nobody has checked: where a term ends, how many nodes it has, how deep it nests, and whether what it names is there. The loops
 // read one node after the other and count the subterms still to come, so that no input is too deep for them.
-use term::Head;
+use numbers::Image;
+use term::Front;
 use term::Node;
 ghost use mathlib.Core.Path.{_≡_};
 ghost use Prim.Native.Nat.{_≤_};
@@ -20,11 +21,6 @@ pub enum Extent {
     Refused,
 }
 
-impl Extent {
-    // Document 01: "4,096 nodes in all".
-    pub const MAX_NODES: usize = 4096;
-}
-
 // The number of nodes of bytes that are exactly one term.
 pub enum Part {
     Nodes(usize),
@@ -35,12 +31,6 @@ pub enum Part {
 pub enum Reach {
     End(usize),
     TooDeep,
-}
-
-pub fn max_nodes() -> usize
-    ensures { λ r. ⌜ r ≡ max-nodes ⌝ }
-{
-    Extent::MAX_NODES
 }
 
 // One answer for what is no term and for what has too many nodes, so that the scan stops at the budget.
@@ -55,7 +45,7 @@ pub fn scan_small(s: &[u8], at: usize, budget: usize) -> Extent
         if budget <= nodes {
             return Extent::Refused;
         }
-        let Head::Is(node) = term::head_at(s, here) else {
+        let Front::Is(node) = term::node_at(s, here) else {
             return Extent::Refused;
         };
         let size = node.size;
@@ -96,7 +86,7 @@ fn end_within(s: &[u8], at: usize, left: usize) -> Reach
     if left == 0 {
         return Reach::TooDeep;
     }
-    let Head::Is(node) = term::head_at(s, at) else {
+    let Front::Is(node) = term::node_at(s, at) else {
         return Reach::TooDeep;
     };
     let subterms = node.subterms;
@@ -166,7 +156,7 @@ pub fn scan_scoped(
         if limit <= nodes {
             return Extent::Refused;
         }
-        let Head::Is(node) = term::head_at(s, here) else {
+        let Front::Is(node) = term::node_at(s, here) else {
             return Extent::Refused;
         };
         let tag = node.tag;
@@ -200,8 +190,8 @@ pub fn scoped_within(s: &[u8], at: usize, types: usize, names: usize) -> bool
     requires { ⌜ GoodAt (now s) at × (nodes (term-at (now s) at) ≤ max-nodes) ⌝ }
     ensures { λ r. ⌜ r ≡ scoped types names 0 (term-at (now (s .entry)) at) ⌝ }
 {
-    let mut outer = [0u16; Extent::MAX_NODES];
-    let Extent::Ends(_, _) = scan_scoped(s, at, Extent::MAX_NODES, types, names, &mut outer) else {
+    let mut outer = [0u16; Image::MAX_NODES];
+    let Extent::Ends(_, _) = scan_scoped(s, at, Image::MAX_NODES, types, names, &mut outer) else {
         return false;
     };
     true

@@ -6,9 +6,9 @@ use native.Mathlib.Omega.{arith}
 use lib.ListN.{length}
 use Rattle.calculus.specs.Syntax.{Exp, var, name, const, lam, app}
 use Rattle.calculus.specs.Image.{nodes}
-use Rattle.term.specs.declared.Head.the-variants.{Is}
+use Rattle.term.specs.declared.Front.the-variants.{Is}
 use Rattle.term.specs.declared.Node.{Node}
-use Rattle.term.specs.Reader.{end-at, GoodAt, head-at}
+use Rattle.term.specs.Reader.{end-at, GoodAt, node-at}
 use Rattle.term.specs.Expressions.{leaf-exp, term-at}
 use Rattle.term.proofs.Views.{leaf-from, one-from, two-from}
 
@@ -61,7 +61,7 @@ module _ {s : List ℕ} {here k : ℕ} {ms : List ℕ} where
   pub good-ahead : {es : List Due} → Ahead s here (suc k) ms es → GoodAt s here
   good-ahead (onward g a) = g
 
-  module _ {h : Node} (is : head-at s here ≡ Is h) where
+  module _ {h : Node} (is : node-at s here ≡ Is h) where
     pub leaf-ahead : {es : List Due} → Ahead s here (suc k) ms es → h .subterms ≡ 0 →
         (rest : List Due) × (es ≡ due (length ms) (leaf-exp (h .tag) (h .arg)) ∷ rest) × Ahead s (here + h .size) k ms rest
     leaf-ahead (onward {es = rest} g a) n =

@@ -7,9 +7,9 @@ use lib.ListN.{drop, length, length-drop, take}
 use lib.Seq.{length-take-le, take-append-seam}
 use Rattle.calculus.specs.Bytes.{Bytes}
 use Rattle.calculus.specs.Image.{size}
-use Rattle.term.specs.declared.Head.the-variants.{Is}
+use Rattle.term.specs.declared.Front.the-variants.{Is}
 use Rattle.term.specs.declared.Node.{Node}
-use Rattle.term.specs.Reader.{end-at, GoodAt, head-at}
+use Rattle.term.specs.Reader.{end-at, GoodAt, node-at}
 use Rattle.term.specs.Expressions.{bytes, leaf-exp, term-at}
 use Rattle.term.proofs.Views.{leaf-from, one-from, two-from}
 use Rattle.term.proofs.Sizes.{length-bytes}
@@ -35,7 +35,7 @@ module _ {s : List ℕ} (b : Bytes s) where
       let (t, e) = term-stands b g in
       front s (bytes (term-at s from)) _ from to (t .stands) (omega (arith, ends, e, length-bytes (term-at s from)))
 
-  module _ {here : ℕ} {h : Node} (g : GoodAt s here) (is : head-at s here ≡ Is h) where
+  module _ {here : ℕ} {h : Node} (g : GoodAt s here) (is : node-at s here ≡ Is h) where
     pub copied-leaf : h .subterms ≡ 0 → part s here (here + h .size) ≡ bytes (leaf-exp (h .tag) (h .arg))
     copied-leaf m = let v = leaf-from is g m in copied-term g (sym (v .ends)) ∙ ap bytes (v .term)
 

@@ -7,13 +7,13 @@ use lib.ListN.{length, getD, set}
 use Rattle.calculus.specs.Limits.{max-nodes}
 use Rattle.calculus.specs.Names.{uses}
 use Rattle.calculus.specs.Image.{nodes}
-use Rattle.term.specs.declared.Head.the-variants.{Is}
+use Rattle.term.specs.declared.Front.the-variants.{Is}
 use Rattle.term.specs.declared.Node.{Node}
-use Rattle.term.specs.Reader.{GoodAt, head-at}
+use Rattle.term.specs.Reader.{GoodAt, node-at}
 use Rattle.term.specs.Expressions.{leaf-exp, term-at}
 use Rattle.term_subst.specs.Outcome.{uses-nodes}
 use Rattle.term_subst.proofs.Ahead.{Due, due}
-use Rattle.term_subst.proofs.Walked.{Walked, walked-done, walked-leaf, walked-one, walked-pop, walked-start, walked-two}
+use Rattle.term_subst.proofs.Walked.{SubstWalked, walked-done, walked-leaf, walked-one, walked-pop, walked-start, walked-two}
 
 -- the places of the variable in the terms still to be read
 unfoldable pub uses-in : List Due → ℕ
@@ -23,7 +23,7 @@ uses-in (x ∷ es) = uses (x .depth) (x .term) + uses-in es
 -- the places found, and those still to be found, are those of the term
 pub record Counting (s : List ℕ) (at here k n : ℕ) (a : List ℕ) (found : ℕ) : Type 0 where
   pub left : List Due
-  pub walked : Walked s here k n a left
+  pub walked : SubstWalked s here k n a left
   pub total : found + uses-in left ≡ uses 0 (term-at s at)
   pub small : nodes (term-at s at) ≤ max-nodes
 
@@ -40,7 +40,7 @@ module _ {s : List ℕ} {at here k n : ℕ} {a : List ℕ} {found : ℕ} (c : Co
   pub counting-pop : k ≡ 0 → (n ≡ 0 → ⊥) → Counting s at here (getD a (n - 1) 0) (n - 1) a found
   counting-pop none inner = record { left = c .left; walked = walked-pop (c .walked) none inner; total = c .total; small = c .small }
 
-  module _ (some : k ≡ 0 → ⊥) {h : Node} (is : head-at s here ≡ Is h) where
+  module _ (some : k ≡ 0 → ⊥) {h : Node} (is : node-at s here ≡ Is h) where
     module _ (m : h .subterms ≡ 0) where
       pub counting-few : found + uses n (leaf-exp (h .tag) (h .arg)) ≤ max-nodes
       unfolding uses-in

@@ -10,9 +10,9 @@ use Rattle.calculus.specs.Limits.{max-nodes}
 use Rattle.calculus.specs.Syntax.{Exp}
 use Rattle.calculus.specs.Reduction.{substitute}
 use Rattle.calculus.specs.Image.{nodes, size}
-use Rattle.term.specs.declared.Head.the-variants.{Is}
+use Rattle.term.specs.declared.Front.the-variants.{Is}
 use Rattle.term.specs.declared.Node.{Node}
-use Rattle.term.specs.Reader.{end-at, GoodAt, head-at}
+use Rattle.term.specs.Reader.{end-at, GoodAt, node-at}
 use Rattle.term.specs.Expressions.{bytes, leaf-exp, term-at}
 use Rattle.term.proofs.Views.{end-inside, end-onward}
 use Rattle.term.proofs.Sizes.{length-bytes}
@@ -21,7 +21,7 @@ use Rattle.term_subst.specs.Variable.{is-variable}
 use Rattle.term_subst.proofs.Ahead.{Due, due}
 use Rattle.term_subst.proofs.Leaves.{substitute-leaf, variable-leaf}
 use Rattle.term_subst.proofs.Copies.{copied-leaf, copied-one, copied-term, copied-two, length-part, part}
-use Rattle.term_subst.proofs.Walked.{Walked, walked-done, walked-good, walked-in, walked-leaf, walked-one, walked-pop, walked-start, walked-two, walked-two-subterms}
+use Rattle.term_subst.proofs.Walked.{SubstWalked, walked-done, walked-good, walked-in, walked-leaf, walked-one, walked-pop, walked-start, walked-two, walked-two-subterms}
 
 -- the bytes of the terms still to be read, with v for the variable
 unfoldable pub bytes-in : Exp → List Due → List ℕ
@@ -31,10 +31,10 @@ bytes-in v (x ∷ es) = bytes (substitute (x .depth) v (x .term)) ++ bytes-in v 
 -- a turn writes p and has `after` still to be read
 pub record Turn (v : Exp) (es : List Due) (p : List ℕ) (s : List ℕ) (here k n : ℕ) (a : List ℕ) : Type 0 where
   pub after : List Due
-  pub walked : Walked s here k n a after
+  pub walked : SubstWalked s here k n a after
   pub splits : p ++ bytes-in v after ≡ bytes-in v es
 
-module _ {s : List ℕ} {here k n : ℕ} {a : List ℕ} {es : List Due} (w : Walked s here k n a es) (some : k ≡ 0 → ⊥) {h : Node} (is : head-at s here ≡ Is h) (v : Exp) where
+module _ {s : List ℕ} {here k n : ℕ} {a : List ℕ} {es : List Due} (w : SubstWalked s here k n a es) (some : k ≡ 0 → ⊥) {h : Node} (is : node-at s here ≡ Is h) (v : Exp) where
   -- the variable: the value
   turn-variable : is-variable n (leaf-exp (h .tag) (h .arg)) ≡ true → Turn v es (bytes v) s (here + h .size) (k - 1) n a
   unfolding bytes-in
@@ -91,7 +91,7 @@ module _ {s : List ℕ} {here k n : ℕ} {a : List ℕ} {es : List Due} (w : Wal
 -- what is written, and what is still to be written, is the outcome
 pub record Putting (s : List ℕ) (at from : ℕ) (old : List ℕ) (pos here k n : ℕ) (a out : List ℕ) (next : ℕ) : Type 0 where
   pub left : List Due
-  pub walked : Walked s here k n a left
+  pub walked : SubstWalked s here k n a left
   pub done : List ℕ
   pub wrote : Wrote old pos done out next
   pub total : done ++ bytes-in (term-at s from) left ≡ bytes (substitute 0 (term-at s from) (term-at s at))
@@ -149,7 +149,7 @@ module _ {s : List ℕ} {at from : ℕ} {old : List ℕ} {pos here k n : ℕ} {a
     putting-asks : (x y : ℕ) → p ≡ part s x y → x ≤ y → y ≤ length s → (x ≤ y) × ((y ≤ length s) × (next + (y - x) ≤ length out))
     putting-asks x y e le inside = (le, (inside, omega (arith, putting-room, ap length e, length-part s x y inside)))
 
-  module _ (some : k ≡ 0 → ⊥) {h : Node} (is : head-at s here ≡ Is h) (b : Bytes s) where
+  module _ (some : k ≡ 0 → ⊥) {h : Node} (is : node-at s here ≡ Is h) (b : Bytes s) where
     -- the variable: the value is written
     module _ (v : is-variable n (leaf-exp (h .tag) (h .arg)) ≡ true) {to : ℕ} (g : GoodAt s from) (ends : to ≡ end-at s from) where
       value : Turn (term-at s from) (c .left) (part s from to) s (here + h .size) (k - 1) n a

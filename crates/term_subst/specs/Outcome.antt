@@ -12,7 +12,7 @@ use Rattle.calculus.specs.Names.{uses}
 use Rattle.calculus.specs.Image.{nodes, size}
 use Rattle.calculus.specs.Theory.Expressions.{count-substitute}
 use Rattle.calculus.specs.Theory.Each.{each-substitute}
-use Rattle.term.specs.Expressions.{bytes, Fits}
+use Rattle.term.specs.Expressions.{bytes, FitsBytes}
 
 -- a weight that adds up: w at a variable, l at a lambda, a at an application
 module _ (weight : Exp → ℕ) (w l a : ℕ)
@@ -77,7 +77,7 @@ uses-nodes d (lam t e) = omega (arith, uses-nodes (suc d) e)
 uses-nodes d (app f e) = omega (arith, uses-nodes d f, uses-nodes d e)
 
 -- what can be written goes into what can be written
-pub fits-substitute : (d : ℕ) {v e : Exp} → Fits v → Fits e → Fits (substitute d v e)
+pub fits-substitute : (d : ℕ) {v e : Exp} → FitsBytes v → FitsBytes e → FitsBytes (substitute d v e)
 fits-substitute d {v} {e} fv fe =
     record {
       writable = each-substitute d (fv .writable) (fe .writable);

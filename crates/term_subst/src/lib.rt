@@ -1,10 +1,10 @@
 // Rule BETA on bytes: how often the variable of a lambda stands in its body, and the body with a closed value in its place. Both are loops that read
 // one node after the other, so that no term is too deep for them. `pending` counts the terms still to come inside the innermost lambda, and `outer`
 // those inside each lambda around it, outermost first.
-use term_scan::Extent;
-use term::Head;
-use term::Node;
 use buffer::put_part;
+use numbers::Image;
+use term::Front;
+use term::Node;
 ghost use mathlib.Core.Path.{_≡_};
 ghost use Prim.Native.Nat.{_+_, _≤_};
 ghost use lib.ListN.{length};
@@ -42,7 +42,7 @@ pub fn count_uses(s: &[u8], at: usize) -> usize
     requires { ⌜ GoodAt (now s) at × (nodes (term-at (now s) at) ≤ max-nodes) ⌝ }
     ensures { λ r. ⌜ r ≡ uses 0 (term-at (now (s .entry)) at) ⌝ }
 {
-    let mut outer = [0u16; Extent::MAX_NODES];
+    let mut outer = [0u16; Image::MAX_NODES];
     let mut lambdas: usize = 0;
     let mut here = at;
     let mut pending: u16 = 1;
@@ -56,7 +56,7 @@ pub fn count_uses(s: &[u8], at: usize) -> usize
             pending = outer[lambdas];
             continue;
         }
-        let Head::Is(node) = term::head_at(s, here) else {
+        let Front::Is(node) = term::node_at(s, here) else {
             return found;
         };
         let subterms = node.subterms;
@@ -91,7 +91,7 @@ pub fn put_substituted(
     requires { ⌜ pos + size (substitute 0 (term-at (now s) from) (term-at (now s) at)) ≤ length (now out) ⌝ }
     ensures { λ r. ⌜ Wrote (now (out .entry)) pos (bytes (substitute 0 (term-at (now (s .entry)) from) (term-at (now (s .entry)) at))) (now (out .exit)) r ⌝ }
 {
-    let mut outer = [0u16; Extent::MAX_NODES];
+    let mut outer = [0u16; Image::MAX_NODES];
     let mut lambdas: usize = 0;
     let mut here = at;
     let mut pending: u16 = 1;
@@ -105,7 +105,7 @@ pub fn put_substituted(
             pending = outer[lambdas];
             continue;
         }
-        let Head::Is(node) = term::head_at(s, here) else {
+        let Front::Is(node) = term::node_at(s, here) else {
             return next;
         };
         let subterms = node.subterms;

@@ -4,12 +4,12 @@ use Prim.Native.Nat.{_+_, _-_}
 use native.Mathlib.Omega.{arith}
 use borrow.Author.Needs.{needs}
 use Rattle.recipe_file.proofs.Inside.{bays-between}
-use Rattle.check_bays.proofs.Counting.{Counted, counted-all, counted-next, counted-none, counted-not}
+use Rattle.check_bays.proofs.Counting.{NodesCounted, counted-all, counted-next, counted-none, counted-not}
 use Rattle.check_bays.proofs.count_nodes.Statement.{statement}
 use Rattle.check_bays.proofs.count_nodes.Tie as tie
 
 abbrev Inv-loop : tie.InvT-loop
-Inv-loop recipe bays total₀ bay₀ total bay = Counted recipe bay total
+Inv-loop recipe bays total₀ bay₀ total bay = NodesCounted recipe bay total
 
 abbrev μ-loop : tie.MeasureT-loop
 μ-loop recipe bays total₀ bay₀ total bay = bays - bay
@@ -45,7 +45,7 @@ AtNodes = tie.After-known-told Inv-loop μ-loop
 abbrev loop : AtNodes → tie.At-loop Inv-loop μ-loop
 loop c = c .before .before .before .before .before .before
 
-next : (c : AtNodes) → Counted (loop c .before .before .before .args .recipe .now) (loop c .loop .bay + 1) (loop c .loop .total + c .before .nodes .given .0 .0)
+next : (c : AtNodes) → NodesCounted (loop c .before .before .before .args .recipe .now) (loop c .loop .bay + 1) (loop c .loop .total + c .before .nodes .given .0 .0)
 next c =
     let l = loop c in
     counted-next (l .before .before .before .pre) (omega arith) (c .before .before .before .before .term-bytes .ensures) _ (l .loop .inv)

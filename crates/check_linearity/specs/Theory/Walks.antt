@@ -13,7 +13,7 @@ use Rattle.calculus.specs.Table.{Entry, Table, test-entry}
 use Rattle.calculus.specs.Verdict.{is-function-kind, on-function, linear}
 use Rattle.calculus.specs.Theory.Tests.{eqb-differ, ltb-sound, ltb-complete}
 use Rattle.check_linearity.specs.Spend.{Marks, new-mark, spend-variable, spend-next, leave, spend-lambda, spend, left-over, spends}
-use Rattle.check_linearity.specs.Levels.{marks-of, floor-under, answered, Walked}
+use Rattle.check_linearity.specs.Levels.{marks-of, floor-under, marks-left, LinearWalk}
 use Rattle.check_linearity.specs.Theory.Lambdas.{and-true-right, leave-some, spend-lambda-at}
 use Rattle.check_linearity.specs.Theory.Levels.{marks-at, marks-push, marks-pop, marks-set, reach-floor}
 use Rattle.check_linearity.specs.Theory.Linear.{spends-linear}
@@ -22,8 +22,8 @@ and-false : (b : Bool) → (b && false) ≡ false
 and-false true = refl
 and-false false = refl
 
-left-answered : (keeps : Bool) (M : Marks) → left-over (answered keeps M) ≡ keeps
-unfolding left-over answered
+left-answered : (keeps : Bool) (M : Marks) → left-over (marks-left keeps M) ≡ keeps
+unfolding left-over marks-left
 left-answered true M = refl
 left-answered false M = refl
 
@@ -34,34 +34,34 @@ no-function T reach M none body h = refl
 no-function T reach M (some x) body h = let k : is-function-kind (x .kind) ≡ false = sym (and-true-right (is-function-kind (x .kind))) ∙ h in rw k
 
 module _ {T : Table} {floor above : ℕ} {a : List ℕ} where
-  pub walked-name : (k : ℕ) → Walked T floor above a (name k) true a
-  unfolding spend answered
+  pub walked-name : (k : ℕ) → LinearWalk T floor above a (name k) true a
+  unfolding spend marks-left
   walked-name k = record { holds = refl }
 
-  pub walked-const : (c : Const) → Walked T floor above a (const c) true a
-  unfolding spend answered
+  pub walked-const : (c : Const) → LinearWalk T floor above a (const c) true a
+  unfolding spend marks-left
   walked-const c = record { holds = refl }
 
   -- a many-variable
-  pub walked-many : (i : ℕ) → i < above → getD a (above - 1 - i) 0 ≡ 0 → Walked T floor above a (var i) true a
-  unfolding spend spend-variable answered
+  pub walked-many : (i : ℕ) → i < above → getD a (above - 1 - i) 0 ≡ 0 → LinearWalk T floor above a (var i) true a
+  unfolding spend spend-variable marks-left
   walked-many i h m = record { holds = rw (marks-at above a i h, m) }
 
   -- a once-variable that is due and in reach
   pub walked-due : (i : ℕ) → i < above → above ≤ length a → getD a (above - 1 - i) 0 ≡ 1 → floor ≤ above - 1 - i →
-      Walked T floor above a (var i) true (set a (above - 1 - i) 2)
-  unfolding spend spend-variable answered
+      LinearWalk T floor above a (var i) true (set a (above - 1 - i) 2)
+  unfolding spend spend-variable marks-left
   walked-due i h l m r = record { holds = rw (marks-at above a i h, m, ltb-complete i (above - floor) (omega arith), marks-set above a i 2 h l) }
 
   -- a once-variable that is not due, or not in reach
   pub walked-spent : {a′ : List ℕ} (i : ℕ) → i < above → ¬ (getD a (above - 1 - i) 0 ≡ 0) → ¬ (getD a (above - 1 - i) 0 ≡ 1) →
-      Walked T floor above a (var i) false a′
-  unfolding spend spend-variable answered
+      LinearWalk T floor above a (var i) false a′
+  unfolding spend spend-variable marks-left
   walked-spent i h m d = record { holds = rw (marks-at above a i h, eqb-differ (getD a (above - 1 - i) 0) 0 m, eqb-differ (getD a (above - 1 - i) 0) 1 d) }
 
   pub walked-past-reach : {a′ : List ℕ} (i : ℕ) → i < above → ¬ (getD a (above - 1 - i) 0 ≡ 0) → above - 1 - i < floor →
-      Walked T floor above a (var i) false a′
-  unfolding spend spend-variable answered
+      LinearWalk T floor above a (var i) false a′
+  unfolding spend spend-variable marks-left
   walked-past-reach i h m r = record { holds = rw (marks-at above a i h, eqb-differ (getD a (above - 1 - i) 0) 0 m) (go (ltb i (above - floor)) refl) }
     where
       go : (b : Bool) → ltb i (above - floor) ≡ b → cond (eqb (getD a (above - 1 - i) 0) 1 && b) (some (set (marks-of above a) i 2)) none ≡ none
@@ -69,25 +69,25 @@ module _ {T : Table} {floor above : ℕ} {a : List ℕ} where
       go false q = rw (and-false (eqb (getD a (above - 1 - i) 0) 1))
 
   -- an application: its function fails, or its argument goes on with the array that the function leaves
-  pub walked-function : {a₁ a′ : List ℕ} {f : Exp} (g : Exp) → Walked T floor above a f false a₁ → Walked T floor above a (app f g) false a′
-  unfolding spend spend-next answered
+  pub walked-function : {a₁ a′ : List ℕ} {f : Exp} (g : Exp) → LinearWalk T floor above a f false a₁ → LinearWalk T floor above a (app f g) false a′
+  unfolding spend spend-next marks-left
   walked-function g w = record { holds = rw (w .holds) }
 
-  pub walked-application : {a₁ a₂ : List ℕ} {f g : Exp} {keeps : Bool} → Walked T floor above a f true a₁ → Walked T floor above a₁ g keeps a₂ →
-      Walked T floor above a (app f g) keeps a₂
-  unfolding spend spend-next answered
+  pub walked-application : {a₁ a₂ : List ℕ} {f g : Exp} {keeps : Bool} → LinearWalk T floor above a f true a₁ → LinearWalk T floor above a₁ g keeps a₂ →
+      LinearWalk T floor above a (app f g) keeps a₂
+  unfolding spend spend-next marks-left
   walked-application w v = record { holds = rw (w .holds) (v .holds) }
 
   -- a lambda whose type is no function
-  pub walked-no-function : {a′ : List ℕ} (t : ℕ) (e : Exp) → on-function T t (λ p q. true) ≡ false → Walked T floor above a (lam t e) false a′
-  unfolding spend answered on-function
+  pub walked-no-function : {a′ : List ℕ} (t : ℕ) (e : Exp) → on-function T t (λ p q. true) ≡ false → LinearWalk T floor above a (lam t e) false a′
+  unfolding spend marks-left on-function
   walked-no-function t e h = record { holds = no-function T (above - floor) (marks-of above a) (at T t) (λ reach M. spend T reach M e) h }
 
 -- a lambda of which the body was walked, with one more mark
 body-leaves : (T : Table) (floor above : ℕ) (a : List ℕ) (t : ℕ) (e : Exp) (x : Entry) (keeps : Bool) (a′ : List ℕ) →
     at T t ≡ some x → is-function-kind (x .kind) ≡ true → floor ≤ above → above < length a →
-    Walked T (floor-under (x .kind) floor above) (above + 1) (set a above (new-mark T (x .p))) e keeps a′ →
-    spend T (above - floor) (marks-of above a) (lam t e) ≡ leave (answered keeps (getD a′ above 0 ∷ marks-of above a′))
+    LinearWalk T (floor-under (x .kind) floor above) (above + 1) (set a above (new-mark T (x .p))) e keeps a′ →
+    spend T (above - floor) (marks-of above a) (lam t e) ≡ leave (marks-left keeps (getD a′ above 0 ∷ marks-of above a′))
 unfolding spend
 body-leaves T floor above a t e x keeps a′ g k l room w =
     let h = rw (add-one above, marks-push above a (new-mark T (x .p)) room, marks-pop above a′) at (w .holds) in
@@ -96,24 +96,24 @@ body-leaves T floor above a t e x keeps a′ g k l room w =
 module _ {T : Table} {floor above : ℕ} {a a₁ : List ℕ} {e : Exp} (t : ℕ) (x : Entry)
     (g : at T t ≡ some x) (k : is-function-kind (x .kind) ≡ true) (l : floor ≤ above) (room : above < length a) where
   -- its body fails
-  pub walked-body : {a′ : List ℕ} → Walked T (floor-under (x .kind) floor above) (above + 1) (set a above (new-mark T (x .p))) e false a₁ →
-      Walked T floor above a (lam t e) false a′
-  unfolding answered leave
+  pub walked-body : {a′ : List ℕ} → LinearWalk T (floor-under (x .kind) floor above) (above + 1) (set a above (new-mark T (x .p))) e false a₁ →
+      LinearWalk T floor above a (lam t e) false a′
+  unfolding marks-left leave
   walked-body w = record { holds = body-leaves T floor above a t e x false a₁ g k l room w }
 
   -- its variable is still due
-  pub walked-unused : {a′ : List ℕ} → Walked T (floor-under (x .kind) floor above) (above + 1) (set a above (new-mark T (x .p))) e true a₁ →
-      getD a₁ above 0 ≡ 1 → Walked T floor above a (lam t e) false a′
-  unfolding answered leave
+  pub walked-unused : {a′ : List ℕ} → LinearWalk T (floor-under (x .kind) floor above) (above + 1) (set a above (new-mark T (x .p))) e true a₁ →
+      getD a₁ above 0 ≡ 1 → LinearWalk T floor above a (lam t e) false a′
+  unfolding marks-left leave
   walked-unused w d = record { holds = body-leaves T floor above a t e x true a₁ g k l room w ∙ rw d }
 
   -- its variable is not due
-  pub walked-lambda : Walked T (floor-under (x .kind) floor above) (above + 1) (set a above (new-mark T (x .p))) e true a₁ →
-      ¬ (getD a₁ above 0 ≡ 1) → Walked T floor above a (lam t e) true a₁
-  unfolding answered leave
+  pub walked-lambda : LinearWalk T (floor-under (x .kind) floor above) (above + 1) (set a above (new-mark T (x .p))) e true a₁ →
+      ¬ (getD a₁ above 0 ≡ 1) → LinearWalk T floor above a (lam t e) true a₁
+  unfolding marks-left leave
   walked-lambda w n = record { holds = body-leaves T floor above a t e x true a₁ g k l room w ∙ leave-some (getD a₁ above 0) (marks-of above a₁) n }
 
 -- a whole term: the walk answers whether it keeps the rule of cause 10
-pub walked-whole : {T : Table} {a : List ℕ} {e : Exp} {keeps : Bool} {a′ : List ℕ} → Walked T 0 0 a e keeps a′ → keeps ≡ linear T e
+pub walked-whole : {T : Table} {a : List ℕ} {e : Exp} {keeps : Bool} {a′ : List ℕ} → LinearWalk T 0 0 a e keeps a′ → keeps ≡ linear T e
 unfolding marks-of spends
 walked-whole {T} {a} {e} {keeps} {a′} w = sym (left-answered keeps (marks-of 0 a′)) ∙ sym (ap left-over (w .holds)) ∙ spends-linear T e

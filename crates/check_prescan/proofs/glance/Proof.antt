@@ -6,10 +6,10 @@ use native.Mathlib.Omega.{arith}
 use borrow.Author.Needs.{needs}
 use borrow.Author.Tests.{not-false, not-true}
 use lib.ListN.{length}
-use Rattle.term.specs.declared.Head.the-variants.{Is}
+use Rattle.term.specs.declared.Front.the-variants.{Is}
 use Rattle.term.specs.declared.Node.{Node}
-use Rattle.term.specs.Reader.{head-at}
-use Rattle.term.proofs.Views.{is-two, node-at, NodeAt}
+use Rattle.term.specs.Reader.{node-at}
+use Rattle.term.proofs.Views.{is-two, node-there, NodeAt}
 use Rattle.recipe_table.specs.Entries.{table-of}
 use Rattle.recipe_table.proofs.Arrays.{length-table-of}
 use Rattle.check_prescan.proofs.Seen.{Seen, seen-bad, seen-deep, seen-lambda, seen-last, seen-leaf, seen-loose, seen-no-type, seen-start, seen-two}
@@ -39,11 +39,11 @@ all c = start c .args .s .now
 abbrev head : AtNode → Node
 head c = c .before .node .given .0 .0
 
-is-head : (c : AtNode) → head-at (all c) (loop c .loop .here) ≡ Is (head c)
-is-head c = sym (c .before .before .before .head-at .ensures) ∙ c .before .node .given .1
+is-head : (c : AtNode) → node-at (all c) (loop c .loop .here) ≡ Is (head c)
+is-head c = sym (c .before .before .before .node-at .ensures) ∙ c .before .node .given .1
 
 node : (c : AtNode) → NodeAt (all c) (loop c .loop .here) (head c)
-node c = node-at (loop c .loop .inv .inside) (is-head c)
+node c = node-there (loop c .loop .inv .inside) (is-head c)
 
 -- the number of entries
 types : (c : AtNode) → length (start c .args .table .now) / 3 ≡ length (table-of (start c .args .table .now))
@@ -52,8 +52,8 @@ types c = sym (length-table-of (start c .args .table .now))
 loop-holds : tie.Need-loop-holds Inv-loop μ-loop
 loop-holds c = seen-start _ _ _ _ _ refl refl
 
-head-at-requires : tie.Need-head-at-requires Inv-loop μ-loop
-head-at-requires c κs = c .loop .inv .inside
+node-at-requires : tie.Need-node-at-requires Inv-loop μ-loop
+node-at-requires c κs = c .loop .inv .inside
 
 enum-known-node : tie.Need-enum-known-node Inv-loop μ-loop
 enum-known-node c = search needs
@@ -62,7 +62,7 @@ enum-told : tie.Need-enum-told Inv-loop μ-loop
 enum-told c = search needs
 
 returns : tie.Need-returns Inv-loop μ-loop
-returns c = seen-bad (c .before .before .before .loop .inv) (sym (c .before .before .head-at .ensures) ∙ c .enum-told .given .1)
+returns c = seen-bad (c .before .before .before .loop .inv) (sym (c .before .before .node-at .ensures) ∙ c .enum-told .given .1)
 
 add-here : tie.Need-add-here Inv-loop μ-loop
 add-here c = omega (arith, node c .inside)
@@ -156,7 +156,7 @@ glance-spec =
     Inv-loop
     μ-loop
     loop-holds
-    head-at-requires
+    node-at-requires
     enum-known-node
     enum-told
     returns

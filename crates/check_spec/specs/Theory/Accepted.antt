@@ -25,15 +25,15 @@ use Rattle.calculus.specs.Theory.Tabulate.{length-tabulate, tabulate-at, tabula
 use Rattle.calculus.specs.Theory.TableTest.{table-test-iff}
 use Rattle.calculus.specs.Theory.Verdict.{accepted-iff, verdict-iff, verdict-derived-iff}
 use Rattle.term.specs.Reader.{one-term, read-term}
-use Rattle.term.specs.Expressions.{bytes, Fits, nesting}
+use Rattle.term.specs.Expressions.{bytes, FitsBytes, nesting}
 use Rattle.term.proofs.Expressions.{one-term-sound, one-term-complete, term-of-bytes}
 use Rattle.recipe_file.specs.File.{bays, first-term, table-bytes, term-bytes, cause-1, cause-2, cause-3}
-use Rattle.recipe_file.specs.Laid.{Laid}
+use Rattle.recipe_file.specs.FileRule.{FileRule}
 use Rattle.recipe_file.proofs.LaidOut.{or-parts, or-false, laid-iff}
 use Rattle.recipe_file.proofs.Inside.{length-table-bytes, bays-between}
 use Rattle.recipe_table.specs.Entries.{table-of, type-table, cause-4}
 use Rattle.check_spec.specs.Bays.{bay-term, bay-terms, cause-5, cause-6}
-use Rattle.check_spec.specs.Verdict.{refusal, number-in, bay-type, bay-types}
+use Rattle.check_spec.specs.Verdict.{refusal, number-in, bay-type-number, bay-type-numbers}
 use Rattle.check_spec.specs.Recipe.{entry-bytes, Recipe}
 use Rattle.check_spec.specs.Theory.Bays.{part-bytes, entry-bytes-of, table-of-entries}
 
@@ -72,7 +72,7 @@ no-cause-iff s = (
 
 -- from the tests to the recipe that the file says
 module _ (s : List ℕ) (b : Bytes s) (n : NoCause s) where
-  laid-out : Laid s
+  laid-out : FileRule s
   laid-out = laid-iff s .0 (n .not-1, n .not-2, n .not-3)
 
   table-stands : TableRule (type-table s)
@@ -85,7 +85,7 @@ module _ (s : List ℕ) (b : Bytes s) (n : NoCause s) where
       let (t, e, f) = laid-out .entries in
       sym (entry-bytes-of t (table-bytes s) (length-table-bytes laid-out ∙ e))
 
-  bay-is-term : (bay : ℕ) → bay < bays s → (term-bytes s bay ≡ bytes (bay-term s bay)) × Fits (bay-term s bay)
+  bay-is-term : (bay : ℕ) → bay < bays s → (term-bytes s bay ≡ bytes (bay-term s bay)) × FitsBytes (bay-term s bay)
   unfolding cause-5 bay-term term-bytes
   bay-is-term bay l = one-term-sound (term-bytes s bay) (part-bytes s (first-term + bay) b)
       (each-below-sound (bays s) (λ k. one-term (read-term (term-bytes s k))) (not-false _ (n .not-5)) bay l)
@@ -182,13 +182,13 @@ getD-at (m ∷ l) (suc k) h = getD-at l k h
 
 -- the type number answered for a bay is that of the one type that its term has
 pub type-answered : {s : List ℕ} {T : Table} {es : List Exp} → Recipe s T es → (bay : ℕ) (e : Exp) → at es bay ≡ some e →
-    (α : LinType) × (type-at T (getD (bay-types s) bay 0) ≡ some α) × Derivation (type-at T) (setting-types (length es)) [] e α × (multiplicity α ≡ many)
-unfolding bay-types bay-type number-in
+    (α : LinType) × (type-at T (getD (bay-type-numbers s) bay 0) ≡ some α) × Derivation (type-at T) (setting-types (length es)) [] e α × (multiplicity α ≡ many)
+unfolding bay-type-numbers bay-type-number number-in
 type-answered {s} {T} {es} r bay e h =
     let l : bay < bays s = omega (arith, at-bound es bay h, r .count) in
     let m : bay < max-bays = omega (arith, few-bays r) in
     let (n, a) = verdict-iff T es .0 (admitted r .accepted) bay e h in
     let (α, q, d, w, z) = accepted-iff (r .table-rule) (length es) e n .0 a in
-    let t : getD (tabulate max-bays (bay-type s)) bay 0 ≡ n =
-    getD-at (tabulate max-bays (bay-type s)) bay (tabulate-at max-bays (bay-type s) bay m) ∙ rw (ltb-complete bay (bays s) l, table-is r, bay-of r bay e h, a .no-cause-9) refl in
+    let t : getD (tabulate max-bays (bay-type-number s)) bay 0 ≡ n =
+    getD-at (tabulate max-bays (bay-type-number s)) bay (tabulate-at max-bays (bay-type-number s) bay m) ∙ rw (ltb-complete bay (bays s) l, table-is r, bay-of r bay e h, a .no-cause-9) refl in
     (α, rw t q, d, w)

@@ -7,16 +7,16 @@ use borrow.Author.Needs.{needs}
 use borrow.Fn.Kinds.{In}
 use borrow.Fn.PlainCycle.{Measures, is, falls, and}
 use lib.ListN.{length, length-set}
-use Rattle.term.specs.declared.Head.the-variants.{Is}
+use Rattle.term.specs.declared.Front.the-variants.{Is}
 use Rattle.term.specs.declared.Node.{Node}
-use Rattle.term.specs.Reader.{head-at}
-use Rattle.term.proofs.Views.{is-two, leaf-from, LeafAt, node-at, NodeAt, not-bad, one-from, OneAt, past-first, two-from, TwoAt}
-use Rattle.term.proofs.head_at.Reads as head-at-reads
+use Rattle.term.specs.Reader.{node-at}
+use Rattle.term.proofs.Views.{is-two, leaf-from, LeafAt, node-there, NodeAt, not-bad, one-from, OneAt, past-first, two-from, TwoAt}
+use Rattle.term.proofs.node_at.Reads as node-at-reads
 use Rattle.check_types.proofs.applied_type.Reads as applied-type-reads
 use Rattle.check_types.proofs.entry_at.Reads as entry-at-reads
 use Rattle.check_types.proofs.lambda_type.Reads as lambda-type-reads
 use Rattle.check_types.proofs.leaf_type.Reads as leaf-type-reads
-use Rattle.check_walk.specs.Walk.{Ready}
+use Rattle.check_walk.specs.Walk.{WalkReady}
 use Rattle.check_walk.proofs.Codes.{under-low}
 use Rattle.check_walk.proofs.Ways.{leaf-scope, leaf-scoped, level-below, ready-argument, ready-body, ready-function, type-below}
 use Rattle.check_walk.proofs.Together.{second-is, walked-application, walked-lambda, walked-leaf, walked-no-body, walked-no-first, walked-no-function, walked-no-second}
@@ -24,7 +24,7 @@ use Rattle.check_walk.proofs.both.Reads as both-reads
 use Rattle.check_walk.proofs.code_floor.Reads as code-floor-reads
 use Rattle.check_walk.proofs.code_mark.Reads as code-mark-reads
 use Rattle.check_walk.proofs.code_of.Reads as code-of-reads
-use Rattle.check_walk.proofs.leaves.Reads as leaves-reads
+use Rattle.check_walk.proofs.used_up.Reads as used-up-reads
 use Rattle.check_walk.proofs.spend_leaf.Reads as spend-leaf-reads
 use Rattle.check_walk.proofs.with_uses.Reads as with-uses-reads
 use Rattle.check_walk.proofs.walk_at.Reads as reads
@@ -45,8 +45,8 @@ below t = and 4 kinds.ps (falls 4 kinds.ps _<_ μ t) reads.Pre
 
 abbrev calls : ℕ → lts.Claims
 calls t = (
-  head-at-reads.Asked,
-  head-at-reads.Learnt,
+  node-at-reads.Asked,
+  node-at-reads.Learnt,
   leaf-type-reads.Asked,
   leaf-type-reads.Learnt,
   spend-leaf-reads.Asked,
@@ -63,8 +63,8 @@ calls t = (
   reads.Post,
   lambda-type-reads.Asked,
   lambda-type-reads.Learnt,
-  leaves-reads.Asked,
-  leaves-reads.Learnt,
+  used-up-reads.Asked,
+  used-up-reads.Learnt,
   with-uses-reads.Asked,
   with-uses-reads.Learnt,
   applied-type-reads.Asked,
@@ -96,17 +96,17 @@ module _ (t : ℕ) where
   abbrev marks : AtNode → List ℕ
   marks c = start c .args .marks .now
 
-  ready : (c : AtNode) → Ready (all c) (at c) (above c) (start c .args .floor) (env c) (marks c)
+  ready : (c : AtNode) → WalkReady (all c) (at c) (above c) (start c .args .floor) (env c) (marks c)
   ready c = start c .pre .1
 
   abbrev node : AtNode → Node
   node c = c .before .before .node .given .0 .0
 
-  is-node : (c : AtNode) → head-at (all c) (at c) ≡ Is (node c)
-  is-node c = sym (c .before .before .before .before .head-at .ensures) ∙ c .before .before .node .given .1
+  is-node : (c : AtNode) → node-at (all c) (at c) ≡ Is (node c)
+  is-node c = sym (c .before .before .before .before .node-at .ensures) ∙ c .before .before .node .given .1
 
   here : (c : AtNode) → NodeAt (all c) (at c) (node c)
-  here c = node-at (ready c .good .inside) (is-node c)
+  here c = node-there (ready c .good .inside) (is-node c)
 
   falls-at : (c : AtNode) → length (all c) - (at c + node c .size) < t
   falls-at c = omega (arith, start c .pre .0, here c .inside, here c .onward)
@@ -163,8 +163,8 @@ module _ (t : ℕ) where
   second-at : (c : AtFirst) → let n = apply (back c) in past-first (all n) (at n) (node n) ≡ second c
   second-at c = second-is _ _ _ _ _ _ _ _ (two (back c)) _ _ (c .before .before .before .walk-at2 .ensures) _ _ _ (c .before .function .given .1)
 
-  head-at-requires : lts.Need-head-at-requires (calls t) (given t) reads.Post
-  head-at-requires c κs = c .before .before .pre .1 .good .inside
+  node-at-requires : lts.Need-node-at-requires (calls t) (given t) reads.Post
+  node-at-requires c κs = c .before .before .pre .1 .good .inside
 
   enum-known-node : lts.Need-enum-known-node (calls t) (given t) reads.Post
   enum-known-node c = search needs
@@ -173,7 +173,7 @@ module _ (t : ℕ) where
   enum-told c = search needs
 
   returns : lts.Need-returns (calls t) (given t) reads.Post
-  returns c = absurd (not-bad (c .before .before .before .before .before .pre .1 .good) (sym (c .before .before .head-at .ensures) ∙ c .enum-told .given .1))
+  returns c = absurd (not-bad (c .before .before .before .before .before .pre .1 .good) (sym (c .before .before .node-at .ensures) ∙ c .enum-told .given .1))
 
   add-next : lts.Need-add-next (calls t) (given t) reads.Post
   add-next c = omega (arith, here c .inside)
@@ -235,11 +235,11 @@ module _ (t : ℕ) where
   lambda-type-requires : lts.Need-lambda-type-requires (calls t) (given t) reads.Post
   lambda-type-requires c κs = search needs
 
-  element-copy-out-leaves : lts.Need-element-copy-out-leaves (calls t) (given t) reads.Post
-  element-copy-out-leaves c = level (opened (c .before .before .before .before .before .before .before))
+  element-copy-out-used-up : lts.Need-element-copy-out-used-up (calls t) (given t) reads.Post
+  element-copy-out-used-up c = level (opened (c .before .before .before .before .before .before .before))
 
-  leaves-requires : lts.Need-leaves-requires (calls t) (given t) reads.Post
-  leaves-requires c κs = search needs
+  used-up-requires : lts.Need-used-up-requires (calls t) (given t) reads.Post
+  used-up-requires c κs = search needs
 
   with-uses-requires : lts.Need-with-uses-requires (calls t) (given t) reads.Post
   with-uses-requires c κs = search needs
@@ -250,7 +250,7 @@ module _ (t : ℕ) where
       let m = b .before .before .before .before .before .before in
       walked-lambda _ _ _ _ _ _ _ _ (one (opened m)) _ _ (m .before .before .before .before .entry-at .ensures) (m .before .before .before .code-of .ensures) _ _ _ _ (room m) (b .before .before .before .walk-at .ensures)
       _ _ _ (b .before .body .given .1) (m .before .before .if3 .left) (m .before .code-floor .ensures) (m .code-mark .ensures) (ready (lambda (opened m)) .low) (space m)
-      (c .before .before .before .lambda-type .ensures) (c .before .leaves .ensures) (c .with-uses .ensures)
+      (c .before .before .before .lambda-type .ensures) (c .before .used-up .ensures) (c .with-uses .ensures)
 
   walk-at-requires-2 : lts.Need-walk-at-requires-2 (calls t) (given t) reads.Post
   walk-at-requires-2 c κs = let e = c .before .before in let n = apply e in (falls-at n, ready-function (ready n) (two e))
@@ -310,7 +310,7 @@ module _ (t : ℕ) where
 pub +walk-at-spec : {M : Type 1} → statement M
 +walk-at-spec =
     close μ λ t. lts.spec (calls t) (given t) reads.Post
-    (head-at-requires t)
+    (node-at-requires t)
     (enum-known-node t)
     (enum-told t)
     (returns t)
@@ -332,8 +332,8 @@ pub +walk-at-spec : {M : Type 1} → statement M
     (returns-4 t)
     (cast-lambda-type t)
     (lambda-type-requires t)
-    (element-copy-out-leaves t)
-    (leaves-requires t)
+    (element-copy-out-used-up t)
+    (used-up-requires t)
     (with-uses-requires t)
     (returns-5 t)
     (walk-at-requires-2 t)

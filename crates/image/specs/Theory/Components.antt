@@ -8,17 +8,17 @@ use Rattle.calculus.specs.Syntax.{Component, thread-of, holds, open-for, used, 
 use Rattle.calculus.specs.Names.{count-in}
 use Rattle.calculus.specs.Limits.{byte-values}
 use Rattle.calculus.specs.Image.{Writable}
-use Rattle.term.specs.Expressions.{bytes, Fits, term-at}
+use Rattle.term.specs.Expressions.{bytes, FitsBytes, term-at}
 use Rattle.term.proofs.Expressions.{term-of-bytes}
-use Rattle.image_layout.specs.Kinds.{open-handle-kind}
+use Rattle.calculus.specs.Kinds.{open-handle-kind}
 use Rattle.image_layout.specs.Encoded.{Encoded}
 use Rattle.image_layout.specs.Layout.{HeadRule}
 use Rattle.image.specs.Configuration.{encode, components, decode}
 
 -- the node forms can write a component's expression
 abbrev pub FitsIn : Component → Type 0
-FitsIn (thread-of e) = Fits e
-FitsIn (holds e) = Fits e
+FitsIn (thread-of e) = FitsBytes e
+FitsIn (holds e) = FitsBytes e
 FitsIn (open-for y) = Unit {0}
 FitsIn used = Unit {0}
 FitsIn awaited = Unit {0}
@@ -47,7 +47,7 @@ encode-rule awaited = record { kinds = (omega arith, omega arith); companions = 
 
 -- an expression, where there is one, is exactly one term
 abbrev pub Said : Encoded → Type 0
-Said x = x .kind < open-handle-kind → (x .expression ≡ bytes (term-at (x .expression) 0)) × Fits (term-at (x .expression) 0)
+Said x = x .kind < open-handle-kind → (x .expression ≡ bytes (term-at (x .expression) 0)) × FitsBytes (term-at (x .expression) 0)
 
 no-length : (l : List ℕ) → length l ≡ 0 → l ≡ []
 no-length [] e = refl

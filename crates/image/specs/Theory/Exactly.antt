@@ -18,10 +18,10 @@ use Rattle.calculus.specs.Theory.Lists.{at-bound, at-below, same-at}
 use Rattle.calculus.specs.Theory.Tabulate.{each-below-sound, each-below-complete}
 use Rattle.calculus.specs.Theory.ImageTest.{image-test-iff}
 use Rattle.term.specs.Reader.{one-term, read-term}
-use Rattle.term.specs.Expressions.{bytes, Fits, term-at}
+use Rattle.term.specs.Expressions.{bytes, FitsBytes, term-at}
 use Rattle.term.proofs.Terms.{bytes-drop, bytes-take}
 use Rattle.term.proofs.Expressions.{one-term-sound, one-term-complete}
-use Rattle.image_layout.specs.Kinds.{open-handle-kind}
+use Rattle.calculus.specs.Kinds.{open-handle-kind}
 use Rattle.image_layout.specs.Encoded.{Encoded, image-bytes}
 use Rattle.image_layout.specs.Slice.{names, kind-at, offset-at, length-at, expression-at, encoded-at, encoded-all}
 use Rattle.calculus.specs.Theory.Tabulate.{tabulate-parts}

@@ -15,7 +15,7 @@ use Rattle.calculus.specs.Image.{each-test, handle-for, handles-for, nodes, nod
 use Rattle.calculus.specs.Theory.Lists.{at-past}
 use Rattle.calculus.specs.Theory.Tabulate.{length-tabulate, map-tabulate, tabulate-at, tabulate-parts}
 use Rattle.term.specs.Expressions.{term-at}
-use Rattle.image_layout.specs.Kinds.{thread-kind, cell-kind, open-handle-kind, used-handle-kind, future-kind}
+use Rattle.calculus.specs.Kinds.{thread-kind, cell-kind, open-handle-kind, used-handle-kind, future-kind}
 use Rattle.image_layout.specs.Slice.{names, kind-at, companion-at, expression-at, encoded-at, encoded-all}
 use Rattle.image.specs.Configuration.{components, config-of, decode}
 use Rattle.image_check.specs.Parts.{component-of, handles-below, nodes-of}

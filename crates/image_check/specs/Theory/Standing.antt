@@ -13,11 +13,11 @@ use Rattle.calculus.specs.Limits.{max-nodes}
 use Rattle.calculus.specs.Image.{Closed, ImageRule, nodes, size, sum-in}
 use Rattle.calculus.specs.Theory.ImageTest.{image-test-iff}
 use Rattle.term.specs.Reader.{end-at, GoodAt}
-use Rattle.term.specs.Expressions.{bytes, Fits, term-at, TermAt}
+use Rattle.term.specs.Expressions.{bytes, FitsBytes, term-at, TermAt}
 use Rattle.term.proofs.Sizes.{length-bytes}
 use Rattle.term.proofs.Expressions.{found-at}
 use Rattle.term_redex.specs.Places.{Searchable}
-use Rattle.image_layout.specs.Kinds.{thread-kind, cell-kind, open-handle-kind, used-handle-kind, future-kind}
+use Rattle.calculus.specs.Kinds.{thread-kind, cell-kind, open-handle-kind, used-handle-kind, future-kind}
 use Rattle.image_layout.specs.Encoded.{Encoded}
 use Rattle.image_layout.specs.Slice.{names, kind-at, companion-at, offset-at, length-at, expression-at, encoded-at, encoded-there}
 use Rattle.image_layout.specs.Readable.{HasExpression}
@@ -46,7 +46,7 @@ pub expressed-searchable : {s : List ℕ} {k : ℕ} {e : Exp} → Expressed s k 
 expressed-searchable x = record { good = x .good; closed = rw (x .term) (x .closed) }
 
 -- the part of a list that is the bytes of an expression
-part-term : (s : List ℕ) (from size-of : ℕ) (e : Exp) → from ≤ length s → take size-of (drop from s) ≡ bytes e → size e ≡ size-of → Fits e → TermAt s from e
+part-term : (s : List ℕ) (from size-of : ℕ) (e : Exp) → from ≤ length s → take size-of (drop from s) ≡ bytes e → size e ≡ size-of → FitsBytes e → TermAt s from e
 part-term s from size-of e inside p q f = record {
   inside = inside;
   stands =
@@ -90,7 +90,7 @@ module _ (s : List ℕ) (b : Bytes s) (stands : image-stands s ≡ true) where
         let n : sum-in nodes c ≡ nodes-of s k = ap (sum-in nodes) e in
         omega (arith, n, sum-below-next (nodes-of s) k, sum-below-most (nodes-of s) (names s) (k + 1) (omega arith), whole-sound s stands .few-nodes)
 
-    expressed : (e : Exp) → k < names s → expression-at s k ≡ bytes e → Fits e → Closed 0 e → nodes e ≤ max-nodes → Expressed s k e
+    expressed : (e : Exp) → k < names s → expression-at s k ≡ bytes e → FitsBytes e → Closed 0 e → nodes e ≤ max-nodes → Expressed s k e
     unfolding expression-at
     expressed e below p fits closed few =
         let heads = whole-sound s stands .heads in

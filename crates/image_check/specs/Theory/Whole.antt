@@ -17,7 +17,7 @@ use Rattle.image_layout.specs.Slice.{names}
 use Rattle.image_layout.specs.Layout.{heads-stand}
 use Rattle.image.specs.Configuration.{config-of}
 use Rattle.image.specs.Stands.{terms-stand, image-stands}
-use Rattle.image_check.specs.Parts.{component-of, expression-keeps, expression-stands, nodes-of, pair-at, pair-keeps, term-stands}
+use Rattle.image_check.specs.Parts.{component-of, expression-keeps, expression-stands, nodes-of, pair-stands, pair-keeps, term-stands}
 use Rattle.image_check.specs.Theory.Names.{config-length, config-nodes, config-tests}
 
 -- what is asked of a component is asked of its expression or of its pair
@@ -36,11 +36,11 @@ module _ (s : List ℕ) where
     pub few-names : names s ≤ max-names
     pub expressions : (k : ℕ) → k < names s → expression-stands s (names s) k ≡ true
     pub few-nodes : sum-below (names s) (nodes-of s) ≤ max-nodes
-    pub pairs : (k : ℕ) → k < names s → pair-at s k ≡ true
+    pub pairs : (k : ℕ) → k < names s → pair-stands s k ≡ true
 
   -- the test of the component of name k
-  named-keeps : (k : ℕ) → component-test (config-of s) k (component-of s k) ≡ (expression-keeps (names s) (component-of s k) && pair-at s k)
-  unfolding pair-at
+  named-keeps : (k : ℕ) → component-test (config-of s) k (component-of s k) ≡ (expression-keeps (names s) (component-of s k) && pair-stands s k)
+  unfolding pair-stands
   named-keeps k =
       component-keeps (config-of s) k (component-of s k)
       ∙ ap (λ (m : ℕ). expression-keeps m (component-of s k) && pair-keeps (config-of s) k (component-of s k)) (config-length s)
@@ -52,8 +52,8 @@ module _ (s : List ℕ) where
       let (terms, tests) = and-parts (terms-stand s) (image-test (config-of s)) rest in
       let (each, limits) = and-parts (each-test (component-test (config-of s)) 0 (config-of s)) (limits-test (config-of s)) tests in
       let within = limits-test-iff (config-of s) .0 limits in
-      let kept : (k : ℕ) → k < names s → (expression-keeps (names s) (component-of s k) ≡ true) × (pair-at s k ≡ true) =
-      λ k l. and-parts (expression-keeps (names s) (component-of s k)) (pair-at s k)
+      let kept : (k : ℕ) → k < names s → (expression-keeps (names s) (component-of s k) ≡ true) × (pair-stands s k ≡ true) =
+      λ k l. and-parts (expression-keeps (names s) (component-of s k)) (pair-stands s k)
       (sym (named-keeps k) ∙ each-below-sound (names s) (λ k. component-test (config-of s) k (component-of s k)) (sym (config-tests s (component-test (config-of s))) ∙ each) k l) in
       record {
         heads = heads;

@@ -4,7 +4,7 @@ use mathlib.Core.Bool.{Bool, true, false}
 use mathlib.Core.List.{List, [], _∷_}
 use Prim.Native.Nat.{ℕ}
 use Rattle.calculus.specs.Bytes.{two-bytes, word}
-use Rattle.image_layout.specs.Kinds.{thread-kind, cell-kind}
+use Rattle.calculus.specs.Kinds.{thread-kind, cell-kind}
 use Rattle.image_layout.specs.Encoded.{head, heads, expressions, image-bytes}
 use Rattle.image_layout.specs.Slice.{names, kind-at, companion-at, offset-at, length-at}
 use Rattle.image_layout.specs.Layout.{kind-test, companion-test, length-test, head-agrees, head-stands, stand-from, heads-stand}

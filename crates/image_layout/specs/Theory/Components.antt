@@ -8,7 +8,7 @@ use native.Mathlib.Numerals.{add-one}
 use native.Mathlib.Omega.{arith}
 use lib.ListN.{length, length-append}
 use Rattle.calculus.specs.Bytes.{two-bytes}
-use Rattle.image_layout.specs.Encoded.{Encoded, head, heads, head-at, expressions, image-bytes}
+use Rattle.image_layout.specs.Encoded.{Encoded, head, heads, head-offset, expressions, image-bytes}
 use Rattle.calculus.specs.Lists.{tabulate}
 use Rattle.calculus.specs.Theory.Tabulate.{length-tabulate}
 
@@ -27,7 +27,7 @@ unfolding heads head two-bytes
 length-heads offset [] = refl
 length-heads offset (e ∷ E) = omega (arith, length-heads (offset + length (e .expression)) E)
 
-pub length-image : (E : List Encoded) → length (image-bytes E) ≡ head-at (length E) + length (expressions E)
+pub length-image : (E : List Encoded) → length (image-bytes E) ≡ head-offset (length E) + length (expressions E)
 unfolding image-bytes two-bytes
 length-image E = simp (length-append, length-heads) (omega arith)
 
@@ -67,10 +67,10 @@ so-far-most f (suc m) i h =
     (eq-or-lt-of-le h)
 
 -- the length of the image of m names
-pub length-tabulated : (m : ℕ) (f : ℕ → Encoded) → length (image-bytes (tabulate m f)) ≡ head-at m + so-far f m
+pub length-tabulated : (m : ℕ) (f : ℕ → Encoded) → length (image-bytes (tabulate m f)) ≡ head-offset m + so-far f m
 length-tabulated m f = length-image (tabulate m f) ∙ rw length-tabulate
 
 -- its three writes: the number of names, the heads, the expressions
-pub image-tabulated : (m : ℕ) (f : ℕ → Encoded) → two-bytes m ++ heads (head-at m) (tabulate m f) ++ expressions (tabulate m f) ≡ image-bytes (tabulate m f)
+pub image-tabulated : (m : ℕ) (f : ℕ → Encoded) → two-bytes m ++ heads (head-offset m) (tabulate m f) ++ expressions (tabulate m f) ≡ image-bytes (tabulate m f)
 unfolding image-bytes
 image-tabulated m f = rw length-tabulate

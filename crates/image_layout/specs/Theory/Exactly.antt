@@ -13,18 +13,18 @@ use Rattle.calculus.specs.Bytes.{Bytes, two-bytes}
 use Rattle.buffer.specs.TwoBytes.{two-there, word-bytes}
 use Rattle.calculus.specs.Syntax.{at}
 use Rattle.calculus.specs.Theory.Lists.{at-below}
-use Rattle.image_layout.specs.Encoded.{Encoded, head, heads, head-at, expressions, image-bytes}
+use Rattle.image_layout.specs.Encoded.{Encoded, head, heads, head-offset, expressions, image-bytes}
 use Rattle.calculus.specs.Lists.{tabulate}
 use Rattle.calculus.specs.Theory.Tabulate.{tabulate-parts}
 use Rattle.image_layout.specs.Slice.{names, kind-at, companion-at, offset-at, length-at, expression-at, encoded-at, encoded-all, encoded-kind, encoded-companion}
-use Rattle.image_layout.specs.Layout.{end-below, Laid, heads-stand, HeadRule, EachHead}
+use Rattle.image_layout.specs.Layout.{end-below, LayoutRule, heads-stand, HeadRule, EachHead}
 use Rattle.image_layout.specs.Theory.Components.{heads-one, expressions-one, so-far, so-far-none, so-far-next, length-image, image-tabulated}
 use Rattle.image_layout.specs.Theory.Test.{end-first, end-next, laid-heads, heads-stand-iff}
 use Rattle.image_layout.specs.Theory.ReadBack.{names-read, component-read, size-read, place-read, read-back}
 
 -- where each expression is as long as its head says, the expressions of lower names end after their bytes
 module _ (s : List ℕ) (as-said : (k : ℕ) → k < names s → length (encoded-at s k .expression) ≡ length-at s k) where
-  pub end-below-is : (k : ℕ) → k ≤ names s → end-below s k ≡ head-at (names s) + so-far (encoded-at s) k
+  pub end-below-is : (k : ℕ) → k ≤ names s → end-below s k ≡ head-offset (names s) + so-far (encoded-at s) k
   unfolding end-below
   end-below-is zero h = omega (arith, so-far-none (encoded-at s))
   end-below-is (suc k) h = omega (arith, end-below-is k (omega arith), so-far-next (encoded-at s) k, as-said k (omega arith))
@@ -47,18 +47,18 @@ module _ (E : List Encoded) (each : EachHead E) where
   companion-is k e g = ap (λ (x : Encoded). x .companion) (component-read E k e g)
 
   -- the image of such components keeps the layout
-  pub image-laid : Laid (image-bytes E)
+  pub image-laid : LayoutRule (image-bytes E)
   unfolding encoded-all
   image-laid = record {
-    heads-inside = omega (arith, ap head-at (names-read E), length-image E);
+    heads-inside = omega (arith, ap head-offset (names-read E), length-image E);
     heads = λ k h. let (e, g) = found k h in rw (kind-is k e g, companion-is k e g, size-read E k e g) (each k e g);
     offsets = λ k h. let (e, g) = found k h in
         place-read E k e g
-        ∙ ap (λ (x : ℕ). head-at x + so-far (encoded-at (image-bytes E)) k) (sym (names-read E))
+        ∙ ap (λ (x : ℕ). head-offset x + so-far (encoded-at (image-bytes E)) k) (sym (names-read E))
         ∙ sym (end-below-is (image-bytes E) as-written k (omega arith));
     ends =
         end-below-is (image-bytes E) as-written (names (image-bytes E)) (omega arith)
-        ∙ ap₂ (λ (x : ℕ) (l : List Encoded). head-at x + length (expressions l)) (names-read E) (read-back E)
+        ∙ ap₂ (λ (x : ℕ) (l : List Encoded). head-offset x + length (expressions l)) (names-read E) (read-back E)
         ∙ sym (length-image E);
   }
 
@@ -71,7 +71,7 @@ module _ (E : List Encoded) (each : EachHead E) where
 part-add : (s : List ℕ) (n a b : ℕ) → take a (drop n s) ++ take b (drop (n + a) s) ≡ take (a + b) (drop n s)
 part-add s n a b = ap (λ (l : List ℕ). take a (drop n s) ++ take b l) (sym (drop-drop a n s)) ∙ sym (take-add a b (drop n s))
 
-module _ (s : List ℕ) (L : Laid s) where
+module _ (s : List ℕ) (L : LayoutRule s) where
   -- an expression is as long as its head says
   pub length-expression : (k : ℕ) → k < names s → length (encoded-at s k .expression) ≡ length-at s k
   unfolding encoded-at expression-at
@@ -88,42 +88,42 @@ module _ (s : List ℕ) (L : Laid s) where
 
   module _ (bytes : Bytes s) where
     -- the head of name k, byte for byte
-    head-bytes : (k : ℕ) → k < names s → head (kind-at s k) (companion-at s k) (offset-at s k) (length-at s k) ≡ take 6 (drop (head-at k) s)
+    head-bytes : (k : ℕ) → k < names s → head (kind-at s k) (companion-at s k) (offset-at s k) (length-at s k) ≡ take 6 (drop (head-offset k) s)
     unfolding head kind-at companion-at offset-at length-at
     head-bytes k h =
-        let room : head-at k + 6 ≤ length s = omega (arith, L .heads-inside) in
+        let room : head-offset k + 6 ≤ length s = omega (arith, L .heads-inside) in
         ap₂ (λ (a b : List ℕ). a ++ b)
-        (ap₂ (λ (a b : List ℕ). a ++ b) (sym (two-there s (head-at k) (omega arith))) (word-bytes s (head-at k + 2) bytes (omega arith)) ∙ part-add s (head-at k) 2 2)
-        (word-bytes s (head-at k + 4) bytes (omega arith))
-        ∙ part-add s (head-at k) 4 2
+        (ap₂ (λ (a b : List ℕ). a ++ b) (sym (two-there s (head-offset k) (omega arith))) (word-bytes s (head-offset k + 2) bytes (omega arith)) ∙ part-add s (head-offset k) 2 2)
+        (word-bytes s (head-offset k + 4) bytes (omega arith))
+        ∙ part-add s (head-offset k) 4 2
 
     -- the first k heads, byte for byte
     abbrev heads-of : ℕ → List ℕ
-    heads-of k = heads (head-at (names s)) (tabulate k (encoded-at s))
+    heads-of k = heads (head-offset (names s)) (tabulate k (encoded-at s))
 
     no-heads : two-bytes (names s) ++ heads-of 0 ≡ take 2 s
     unfolding names heads tabulate
     no-heads = append-nil (two-bytes (names s)) ∙ word-bytes s 0 bytes (omega (arith, L .heads-inside))
 
-    next-head : (k : ℕ) → k < names s → heads-of (suc k) ≡ heads-of k ++ take 6 (drop (head-at k) s)
+    next-head : (k : ℕ) → k < names s → heads-of (suc k) ≡ heads-of k ++ take 6 (drop (head-offset k) s)
     unfolding encoded-at
     next-head k h =
         ap heads-of (sym (add-one k))
-        ∙ heads-one (head-at (names s)) k (encoded-at s)
+        ∙ heads-one (head-offset (names s)) k (encoded-at s)
         ∙ ap (λ (l : List ℕ). heads-of k ++ l)
         (ap₂ (head (kind-at s k) (companion-at s k))
         (sym (end-below-is s length-expression k (omega arith)) ∙ sym (L .offsets k h))
         (length-expression k h)
         ∙ head-bytes k h)
 
-    heads-bytes : (k : ℕ) → k ≤ names s → two-bytes (names s) ++ heads-of k ≡ take (head-at k) s
+    heads-bytes : (k : ℕ) → k ≤ names s → two-bytes (names s) ++ heads-of k ≡ take (head-offset k) s
     heads-bytes zero h = no-heads
     heads-bytes (suc k) h =
-        let place : head-at k + 6 ≡ head-at (suc k) = omega arith in
+        let place : head-offset k + 6 ≡ head-offset (suc k) = omega arith in
         ap (λ (l : List ℕ). two-bytes (names s) ++ l) (next-head k (omega arith))
-        ∙ sym (append-assoc (two-bytes (names s)) (heads-of k) (take 6 (drop (head-at k) s)))
-        ∙ ap (λ (l : List ℕ). l ++ take 6 (drop (head-at k) s)) (heads-bytes k (omega arith))
-        ∙ sym (take-add (head-at k) 6 s)
+        ∙ sym (append-assoc (two-bytes (names s)) (heads-of k) (take 6 (drop (head-offset k) s)))
+        ∙ ap (λ (l : List ℕ). l ++ take 6 (drop (head-offset k) s)) (heads-bytes k (omega arith))
+        ∙ sym (take-add (head-offset k) 6 s)
         ∙ ap (λ (x : ℕ). take x s) place
 
     -- the first k expressions, byte for byte
@@ -141,11 +141,11 @@ module _ (s : List ℕ) (L : Laid s) where
         ∙ expressions-one k (encoded-at s)
         ∙ ap (λ (x : ℕ). expressions-of k ++ take (length-at s k) (drop x s)) (L .offsets k h)
 
-    expressions-bytes : (k : ℕ) → k ≤ names s → take (head-at (names s)) s ++ expressions-of k ≡ take (end-below s k) s
-    expressions-bytes zero h = ap (λ (l : List ℕ). take (head-at (names s)) s ++ l) no-expressions ∙ append-nil (take (head-at (names s)) s) ∙ ap (λ (x : ℕ). take x s) (sym (end-first s))
+    expressions-bytes : (k : ℕ) → k ≤ names s → take (head-offset (names s)) s ++ expressions-of k ≡ take (end-below s k) s
+    expressions-bytes zero h = ap (λ (l : List ℕ). take (head-offset (names s)) s ++ l) no-expressions ∙ append-nil (take (head-offset (names s)) s) ∙ ap (λ (x : ℕ). take x s) (sym (end-first s))
     expressions-bytes (suc k) h =
-        ap (λ (l : List ℕ). take (head-at (names s)) s ++ l) (next-expression k (omega arith))
-        ∙ sym (append-assoc (take (head-at (names s)) s) (expressions-of k) (take (length-at s k) (drop (end-below s k) s)))
+        ap (λ (l : List ℕ). take (head-offset (names s)) s ++ l) (next-expression k (omega arith))
+        ∙ sym (append-assoc (take (head-offset (names s)) s) (expressions-of k) (take (length-at s k) (drop (end-below s k) s)))
         ∙ ap (λ (l : List ℕ). l ++ take (length-at s k) (drop (end-below s k) s)) (expressions-bytes k (omega arith))
         ∙ sym (take-add (end-below s k) (length-at s k) s)
         ∙ ap (λ (x : ℕ). take x s) (end-next s k (end-below s k) refl)
@@ -167,7 +167,7 @@ pub exactly : (s : List ℕ) → Bytes s → (heads-stand s ≡ true) ↔ ((E : 
 exactly s bytes = (apart, together)
   where
     apart : heads-stand s ≡ true → (E : List Encoded) × EachHead E × (image-bytes E ≡ s)
-    apart h = let L : Laid s = heads-stand-iff s .0 h in (encoded-all s, each-read s L, stands s L bytes)
+    apart h = let L : LayoutRule s = heads-stand-iff s .0 h in (encoded-all s, each-read s L, stands s L bytes)
 
     together : (E : List Encoded) × EachHead E × (image-bytes E ≡ s) → heads-stand s ≡ true
     together w = ap heads-stand (sym (w .2)) ∙ image-stands (w .0) (w .1)

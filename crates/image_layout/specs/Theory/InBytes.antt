@@ -8,7 +8,7 @@ use lib.ListN.{length, length-append}
 use Rattle.calculus.specs.Bytes.{Bytes, two-byte-values, two-bytes}
 use Rattle.calculus.specs.Syntax.{at}
 use Rattle.calculus.specs.Limits.{byte-values}
-use Rattle.image_layout.specs.Encoded.{Encoded, head, heads, head-at, expressions, image-bytes}
+use Rattle.image_layout.specs.Encoded.{Encoded, head, heads, head-offset, expressions, image-bytes}
 use Rattle.image_layout.specs.Theory.Components.{length-image}
 
 -- a component by bytes
@@ -53,6 +53,6 @@ pub image-in-bytes : (E : List Encoded) → ((k : ℕ) (e : Encoded) → at E k 
 unfolding image-bytes
 image-in-bytes E h small =
     let n = length-image E in
-    bytes-append (two-bytes (length E) ++ heads (head-at (length E)) E) (expressions E)
-    (bytes-append (two-bytes (length E)) (heads (head-at (length E)) E) (bytes-of-two (length E) (omega (arith, n))) (bytes-heads (head-at (length E)) E h (omega (arith, n))))
+    bytes-append (two-bytes (length E) ++ heads (head-offset (length E)) E) (expressions E)
+    (bytes-append (two-bytes (length E)) (heads (head-offset (length E)) E) (bytes-of-two (length E) (omega (arith, n))) (bytes-heads (head-offset (length E)) E h (omega (arith, n))))
     (bytes-expressions E h)

@@ -12,23 +12,23 @@ use Rattle.buffer.specs.TwoBytes.{number-of-bytes}
 use Rattle.calculus.specs.Syntax.{at}
 use Rattle.calculus.specs.Theory.Tests.{clash}
 use Rattle.calculus.specs.Theory.Lists.{append-left}
-use Rattle.image_layout.specs.Encoded.{Encoded, head, heads, head-at, expressions, image-bytes}
+use Rattle.image_layout.specs.Encoded.{Encoded, head, heads, head-offset, expressions, image-bytes}
 use Rattle.calculus.specs.Lists.{tabulate}
 use Rattle.calculus.specs.Theory.Tabulate.{tabulate-is}
 use Rattle.image_layout.specs.Slice.{names, kind-at, companion-at, offset-at, length-at, expression-at, encoded-at, encoded-all}
 use Rattle.image_layout.specs.Theory.Components.{expressions-append, heads-append, length-heads, so-far}
 
 -- a head that stands at its place is read
-module _ (P R : List ℕ) (kind companion offset size k : ℕ) (place : length P ≡ head-at k) where
+module _ (P R : List ℕ) (kind companion offset size k : ℕ) (place : length P ≡ head-offset k) where
   abbrev with-head : List ℕ
   with-head = P ++ (head kind companion offset size ++ R)
 
-  byte-there : (n : ℕ) → getD with-head (head-at k + n) 0 ≡ getD (head kind companion offset size ++ R) n 0
+  byte-there : (n : ℕ) → getD with-head (head-offset k + n) 0 ≡ getD (head kind companion offset size ++ R) n 0
   byte-there n = ap (λ (x : ℕ). getD with-head (x + n) 0) (sym place) ∙ getD-append-add P (head kind companion offset size ++ R) n 0
 
   kind-there : kind-at with-head k ≡ kind
   unfolding kind-at head two-bytes
-  kind-there = ap (λ (x : ℕ). getD with-head x 0) (sym (add-zero (head-at k))) ∙ byte-there 0
+  kind-there = ap (λ (x : ℕ). getD with-head x 0) (sym (add-zero (head-offset k))) ∙ byte-there 0
 
   companion-there : companion-at with-head k ≡ companion
   unfolding companion-at head two-bytes
@@ -37,13 +37,13 @@ module _ (P R : List ℕ) (kind companion offset size k : ℕ) (place : length P
   offset-there : offset-at with-head k ≡ offset
   unfolding offset-at word head two-bytes
   offset-there =
-      ap₂ (λ (x y : ℕ). x + 256 * y) (byte-there 2) (ap (λ (x : ℕ). getD with-head x 0) (add-assoc (head-at k) 2 1) ∙ byte-there 3)
+      ap₂ (λ (x y : ℕ). x + 256 * y) (byte-there 2) (ap (λ (x : ℕ). getD with-head x 0) (add-assoc (head-offset k) 2 1) ∙ byte-there 3)
       ∙ number-of-bytes offset
 
   length-there : length-at with-head k ≡ size
   unfolding length-at word head two-bytes
   length-there =
-      ap₂ (λ (x y : ℕ). x + 256 * y) (byte-there 4) (ap (λ (x : ℕ). getD with-head x 0) (add-assoc (head-at k) 4 1) ∙ byte-there 5)
+      ap₂ (λ (x y : ℕ). x + 256 * y) (byte-there 4) (ap (λ (x : ℕ). getD with-head x 0) (add-assoc (head-offset k) 4 1) ∙ byte-there 5)
       ∙ number-of-bytes size
 
 -- the number of names
@@ -58,10 +58,10 @@ module _ (A : List Encoded) (e : Encoded) (B : List Encoded) where
 
   -- where the expression of e begins
   abbrev begins : ℕ
-  begins = head-at (length whole) + length (expressions A)
+  begins = head-offset (length whole) + length (expressions A)
 
   before-head : List ℕ
-  before-head = two-bytes (length whole) ++ heads (head-at (length whole)) A
+  before-head = two-bytes (length whole) ++ heads (head-offset (length whole)) A
 
   after-head : List ℕ
   after-head = heads (begins + length (e .expression)) B ++ expressions whole
@@ -70,12 +70,12 @@ module _ (A : List Encoded) (e : Encoded) (B : List Encoded) where
   unfolding image-bytes heads before-head after-head
   by-head = rw heads-append (simp append-assoc)
 
-  head-place : length before-head ≡ head-at (length A)
+  head-place : length before-head ≡ head-offset (length A)
   unfolding before-head two-bytes
-  head-place = omega (arith, length-heads (head-at (length whole)) A)
+  head-place = omega (arith, length-heads (head-offset (length whole)) A)
 
   before-expression : List ℕ
-  before-expression = two-bytes (length whole) ++ heads (head-at (length whole)) whole ++ expressions A
+  before-expression = two-bytes (length whole) ++ heads (head-offset (length whole)) whole ++ expressions A
 
   by-expression : image-bytes whole ≡ before-expression ++ (e .expression ++ expressions B)
   unfolding image-bytes expressions before-expression
@@ -84,7 +84,7 @@ module _ (A : List Encoded) (e : Encoded) (B : List Encoded) where
   expression-place : length before-expression ≡ begins
   unfolding before-expression two-bytes
   expression-place =
-      omega (arith, length-append (heads (head-at (length whole)) whole) (expressions A), length-heads (head-at (length whole)) whole)
+      omega (arith, length-append (heads (head-offset (length whole)) whole) (expressions A), length-heads (head-offset (length whole)) whole)
 
   -- each field of its head, and its expression
   kind-read : kind-at (image-bytes whole) (length A) ≡ e .kind
@@ -131,14 +131,14 @@ module _ (E : List Encoded) where
       ap₂ (λ (l : List Encoded) (x : ℕ). length-at (image-bytes l) x) p (sym n) ∙ length-read A e B
 
   -- and where its expression begins
-  pub place-read : (k : ℕ) (e : Encoded) → at E k ≡ some e → offset-at (image-bytes E) k ≡ head-at (length E) + so-far (encoded-at (image-bytes E)) k
+  pub place-read : (k : ℕ) (e : Encoded) → at E k ≡ some e → offset-at (image-bytes E) k ≡ head-offset (length E) + so-far (encoded-at (image-bytes E)) k
   place-read k e h =
       let (A, B, p, n) = split-place E k h in
       let front : tabulate (length A) (encoded-at (image-bytes E)) ≡ A =
       tabulate-is (length A) (encoded-at (image-bytes E)) A refl (λ j a g. component-read j a (ap (λ (l : List Encoded). at l j) p ∙ append-left A (e ∷ B) j g)) in
       ap₂ (λ (l : List Encoded) (x : ℕ). offset-at (image-bytes l) x) p (sym n)
       ∙ offset-read A e B
-      ∙ ap₂ (λ (x : ℕ) (l : List Encoded). head-at x + length (expressions l)) (ap length (sym p)) (sym front ∙ ap (λ (x : ℕ). tabulate x (encoded-at (image-bytes E))) n)
+      ∙ ap₂ (λ (x : ℕ) (l : List Encoded). head-offset x + length (expressions l)) (ap length (sym p)) (sym front ∙ ap (λ (x : ℕ). tabulate x (encoded-at (image-bytes E))) n)
 
   -- what was written is read back
   pub read-back : encoded-all (image-bytes E) ≡ E

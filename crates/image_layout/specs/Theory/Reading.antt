@@ -6,13 +6,13 @@ use Prim.Native.Nat.{ℕ, _≤_, _<_}
 use native.Mathlib.Omega.{arith}
 use lib.ListN.{length}
 use Rattle.image_layout.specs.Slice.{names, expression-at, length-at, encoded-at}
-use Rattle.image_layout.specs.Layout.{Laid, heads-stand}
+use Rattle.image_layout.specs.Layout.{LayoutRule, heads-stand}
 use Rattle.image_layout.specs.Readable.{HasHead, HasExpression}
 use Rattle.image_layout.specs.Theory.Test.{laid-heads, heads-stand-iff}
 use Rattle.image_layout.specs.Theory.Exactly.{length-expression}
 
 module _ (s : List ℕ) (stands : heads-stand s ≡ true) where
-  laid : Laid s
+  laid : LayoutRule s
   laid = heads-stand-iff s .0 stands
 
   -- m is there

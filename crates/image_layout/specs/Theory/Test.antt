@@ -11,10 +11,10 @@ use lib.Dec.{eqb, leb, ltb}
 use lib.ListN.{length}
 use borrow.Author.Tests.{ltb-false, leb-true, eqb-true, eqb-false, le-ltb, le-leb, eq-eqb, ne-eqb}
 use Rattle.calculus.specs.Theory.Tests.{and-true, and-parts}
-use Rattle.image_layout.specs.Kinds.{thread-kind, open-handle-kind, future-kind}
-use Rattle.image_layout.specs.Encoded.{head-at}
+use Rattle.calculus.specs.Kinds.{thread-kind, open-handle-kind, future-kind}
+use Rattle.image_layout.specs.Encoded.{head-offset}
 use Rattle.image_layout.specs.Slice.{names, kind-at, companion-at, offset-at, length-at}
-use Rattle.image_layout.specs.Layout.{end-below, HeadRule, Laid, kind-test, companion-test, length-test, head-agrees, head-stands, stand-from, heads-stand}
+use Rattle.image_layout.specs.Layout.{end-below, HeadRule, LayoutRule, kind-test, companion-test, length-test, head-agrees, head-stands, stand-from, heads-stand}
 
 -- `or`: the second where the first is not
 or-other : (a b : Bool) → (a || b) ≡ true → a ≡ false → b ≡ true
@@ -82,7 +82,7 @@ module _ (s : List ℕ) where
     pub ends : end-below s (k + left) ≡ length s
 
   -- the first end, and the next
-  pub end-first : end-below s 0 ≡ head-at (names s)
+  pub end-first : end-below s 0 ≡ head-offset (names s)
   unfolding end-below
   end-first = refl
 
@@ -141,7 +141,7 @@ module _ (s : List ℕ) where
           rw e (omega arith)
 
   -- the layout name by name
-  pub laid-heads : Laid s → (k : ℕ) → k < names s → HeadStands k (end-below s k)
+  pub laid-heads : LayoutRule s → (k : ℕ) → k < names s → HeadStands k (end-below s k)
   laid-heads L k h = record {
     agrees = L .heads k h;
     due = L .offsets k h;
@@ -149,28 +149,28 @@ module _ (s : List ℕ) where
   }
 
   -- the test decides the layout
-  pub heads-stand-iff : (heads-stand s ≡ true) ↔ Laid s
+  pub heads-stand-iff : (heads-stand s ≡ true) ↔ LayoutRule s
   unfolding heads-stand end-below
   heads-stand-iff = (sound, complete)
     where
-      sound : (heads-stand s ≡ true) → Laid s
+      sound : (heads-stand s ≡ true) → LayoutRule s
       sound h =
-          let (inside, rest) = and-parts (leb (head-at (names s)) (length s)) (stand-from s (names s) 0 (head-at (names s))) h in
-          laid inside (from-sound (names s) 0 (head-at (names s)) refl rest)
+          let (inside, rest) = and-parts (leb (head-offset (names s)) (length s)) (stand-from s (names s) 0 (head-offset (names s))) h in
+          laid inside (from-sound (names s) 0 (head-offset (names s)) refl rest)
         where
-          laid : leb (head-at (names s)) (length s) ≡ true → StandFrom (names s) 0 → Laid s
+          laid : leb (head-offset (names s)) (length s) ≡ true → StandFrom (names s) 0 → LayoutRule s
           laid inside r = record {
-            heads-inside = leb-true (head-at (names s)) (length s) inside;
+            heads-inside = leb-true (head-offset (names s)) (length s) inside;
             heads = λ k l. r .each k (omega arith) (omega arith) .agrees;
             offsets = λ k l. r .each k (omega arith) (omega arith) .due;
             ends = ap (end-below s) (sym (zero-add (names s))) ∙ r .ends;
           }
 
-      complete : Laid s → heads-stand s ≡ true
+      complete : LayoutRule s → heads-stand s ≡ true
       complete L =
           and-true
-          (le-leb (head-at (names s)) (length s) (L .heads-inside))
-          (from-complete (names s) 0 (head-at (names s)) refl record {
+          (le-leb (head-offset (names s)) (length s) (L .heads-inside))
+          (from-complete (names s) 0 (head-offset (names s)) refl record {
             each = λ j low high. laid-heads L j (omega arith);
             ends = ap (end-below s) (zero-add (names s)) ∙ L .ends;
           })

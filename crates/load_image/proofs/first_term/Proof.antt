@@ -10,30 +10,30 @@ use Rattle.load_image.proofs.first_term.Tie as tie
 bay-count-requires : tie.Need-bay-count-requires
 bay-count-requires c κs = search needs
 
-add-pair-at : tie.Need-add-pair-at
-add-pair-at c = omega (arith, c .bay-count .ensures, few-bays (c .before .before .pre))
+add-pair-offset : tie.Need-add-pair-offset
+add-pair-offset c = omega (arith, c .bay-count .ensures, few-bays (c .before .before .pre))
 
-pair-at-requires : tie.Need-pair-at-requires
-pair-at-requires c κs = omega (arith, c .bay-count .ensures, few-bays (c .before .before .pre))
+pair-offset-requires : tie.Need-pair-offset-requires
+pair-offset-requires c κs = omega (arith, c .bay-count .ensures, few-bays (c .before .before .pre))
 
 table-bytes-requires : tie.Need-table-bytes-requires
 table-bytes-requires c κs = search needs
 
 add-result : tie.Need-add-result
 add-result c =
-    omega (arith, c .before .pair-at .ensures, c .before .before .bay-count .ensures, few-bays (c .before .before .before .before .pre), ap length (c .table-bytes .ensures), first-begins (c .before .before .before .before .pre))
+    omega (arith, c .before .pair-offset .ensures, c .before .before .bay-count .ensures, few-bays (c .before .before .before .before .pre), ap length (c .table-bytes .ensures), first-begins (c .before .before .before .before .pre))
 
 returns : tie.Need-returns
 returns c =
-    omega (arith, c .before .pair-at .ensures, c .before .before .bay-count .ensures, ap length (c .table-bytes .ensures), first-begins (c .before .before .before .before .pre))
+    omega (arith, c .before .pair-offset .ensures, c .before .before .bay-count .ensures, ap length (c .table-bytes .ensures), first-begins (c .before .before .before .before .pre))
 
 pub first-term-spec : {M : Type 1} → statement M
 first-term-spec =
     tie.close
     (tie.spec
     bay-count-requires
-    add-pair-at
-    pair-at-requires
+    add-pair-offset
+    pair-offset-requires
     table-bytes-requires
     add-result
     returns)

@@ -10,8 +10,8 @@ use Rattle.calculus.specs.Bytes.{two-byte-values}
 use Rattle.calculus.specs.Lists.{tabulate}
 use Rattle.calculus.specs.Theory.Tabulate.{tabulate-all}
 use Rattle.buffer.specs.Written.{Wrote, still, same, known-as}
-use Rattle.image_layout.specs.Kinds.{thread-kind, cell-kind}
-use Rattle.image_layout.specs.Encoded.{heads, head-at}
+use Rattle.calculus.specs.Kinds.{thread-kind, cell-kind}
+use Rattle.image_layout.specs.Encoded.{heads, head-offset}
 use Rattle.image_layout.specs.Theory.Components.{so-far, so-far-none}
 use Rattle.image_layout.specs.Theory.Turns.{head-turn, offset-turn, small-head, room-head}
 use Rattle.load_image.specs.Starting.{starting-at, starting-names}
@@ -22,8 +22,8 @@ use Rattle.load_image.proofs.put_heads.Tie as tie
 abbrev Inv-loop : tie.InvT-loop
 Inv-loop out₀ at recipe bays names next₀ offset₀ k₀ out next offset k =
     (k ≤ names)
-    × ((offset ≡ head-at (starting-names recipe) + so-far (starting-at recipe) k)
-    × Wrote out₀ at (heads (head-at (starting-names recipe)) (tabulate k (starting-at recipe))) out next)
+    × ((offset ≡ head-offset (starting-names recipe) + so-far (starting-at recipe) k)
+    × Wrote out₀ at (heads (head-offset (starting-names recipe)) (tabulate k (starting-at recipe))) out next)
 
 abbrev μ-loop : tie.MeasureT-loop
 μ-loop out₀ at recipe bays names next₀ offset₀ k₀ out next offset k = names - k
@@ -58,7 +58,7 @@ below : (t : InLoop) → t .before .loop .k < starting-names (file t)
 below t = omega (arith, t .loop-test .taken, t .before .before .bay-count .ensures)
 
 small : (t : InLoop)
-    → (head-at (starting-names (file t)) + so-far (starting-at (file t)) (t .before .loop .k) < two-byte-values) × (length (starting-at (file t) (t .before .loop .k) .expression) < two-byte-values)
+    → (head-offset (starting-names (file t)) + so-far (starting-at (file t)) (t .before .loop .k) < two-byte-values) × (length (starting-at (file t) (t .before .loop .k) .expression) < two-byte-values)
 small t = small-head (starting-names (file t)) (starting-at (file t)) (t .before .before .before .before .before .pre .1 .0) (below t)
 
 size-of-requires : tie.Need-size-of-requires Inv-loop μ-loop

@@ -8,10 +8,10 @@ use lib.ListN.{length, take, drop}
 use Rattle.calculus.specs.Bytes.{Bytes, two-bytes}
 use Rattle.calculus.specs.Lists.{tabulate}
 use Rattle.recipe_file.specs.File.{bays, offset-of, first-term}
-use Rattle.recipe_file.specs.Laid.{Laid}
+use Rattle.recipe_file.specs.FileRule.{FileRule}
 use Rattle.buffer.specs.Written.{Wrote, same, known-as}
 use Rattle.buffer.specs.TwoBytes.{length-two-bytes}
-use Rattle.image_layout.specs.Encoded.{expressions, head-at}
+use Rattle.image_layout.specs.Encoded.{expressions, head-offset}
 use Rattle.image_layout.specs.Theory.Turns.{room-kept, heads-end}
 use Rattle.load_image.specs.Starting.{setting, starting-at, starting-names}
 use Rattle.load_image.specs.Theory.Parts.{terms-begin-inside}
@@ -27,10 +27,10 @@ file e = e .before .before .args .recipe .now
 are-bytes : (e : tie.After-slice-known) → Bytes (file e)
 are-bytes e i = e .before .shared-slice-known .given i .fits
 
-is-laid : (e : tie.After-slice-known) → Laid (file e)
+is-laid : (e : tie.After-slice-known) → FileRule (file e)
 is-laid e = laid (file e) (are-bytes e) (e .before .before .pre .0)
 
-fits-all : (e : tie.After-slice-known) → head-at (starting-names (file e)) + (3 * bays (file e) + (length (file e) - offset-of (file e) first-term)) ≤ 13826
+fits-all : (e : tie.After-slice-known) → head-offset (starting-names (file e)) + (3 * bays (file e) + (length (file e) - offset-of (file e) first-term)) ≤ 13826
 fits-all e = starting-length (file e) (are-bytes e) (e .before .before .pre .0)
 
 -- where each write ends

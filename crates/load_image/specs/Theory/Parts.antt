@@ -10,7 +10,7 @@ use Rattle.calculus.specs.Lists.{tabulate}
 use Rattle.calculus.specs.Theory.Tests.{ltb-complete, ltb-not}
 use Rattle.calculus.specs.Theory.Tabulate.{tabulate-same}
 use Rattle.recipe_file.specs.File.{first-term, bays, offset-of, length-of, part, term-bytes}
-use Rattle.recipe_file.specs.Laid.{Laid}
+use Rattle.recipe_file.specs.FileRule.{FileRule}
 use Rattle.recipe_file.proofs.Inside.{length-part, term-is-part}
 use Rattle.image_layout.specs.Encoded.{expressions}
 use Rattle.image_layout.specs.Theory.Components.{expressions-append, so-far, so-far-none, so-far-next}
@@ -34,7 +34,7 @@ starting-parts s =
       tabulate-same (bays s) (λ i. starting-at s (bays s + i)) (bay-thread s) (λ k l. let e : bays s + k - bays s ≡ k = omega arith in rw (ltb-not (bays s + k) (bays s) (omega arith), e) refl),
     ) refl
 
-module _ (s : List ℕ) (laid : Laid s) where
+module _ (s : List ℕ) (laid : FileRule s) where
   bay-length : (bay : ℕ) → bay < bays s → length (bay-thread s bay .expression) ≡ length-of s (first-term + bay)
   unfolding bay-thread term-bytes
   bay-length bay l = length-part (term-is-part (record { laid = laid; below = l }))

@@ -11,7 +11,7 @@ use Rattle.calculus.specs.Image.{ImageRule, Writable}
 use Rattle.calculus.specs.Recipe.{start}
 use Rattle.calculus.specs.Theory.Claim.{image-loaded}
 use Rattle.calculus.specs.Theory.Images.{image-fits}
-use Rattle.recipe_file.specs.Laid.{Laid}
+use Rattle.recipe_file.specs.FileRule.{FileRule}
 use Rattle.recipe_table.specs.Entries.{type-table}
 use Rattle.check_spec.specs.Bays.{bay-terms}
 use Rattle.check_spec.specs.Verdict.{refusal}
@@ -26,7 +26,7 @@ module _ (s : List ℕ) (b : Bytes s) (accepted : refusal s ≡ 0) where
   pub says : Recipe s (type-table s) (bay-terms s)
   says = let (T, es, r) = accepted-exactly s b .0 accepted in rw (table-is r, terms-are r) r
 
-  pub laid : Laid s
+  pub laid : FileRule s
   laid = says .laid
 
   -- document 01, "The image": what is loaded keeps every rule and limit

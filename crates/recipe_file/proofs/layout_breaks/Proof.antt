@@ -14,8 +14,8 @@ shared-slice-read-wide c = search needs
 wide-requires : tie.Need-wide-requires
 wide-requires c κs = search needs
 
-pair-at-requires : tie.Need-pair-at-requires
-pair-at-requires c κs = search needs
+pair-offset-requires : tie.Need-pair-offset-requires
+pair-offset-requires c κs = search needs
 
 returns : tie.Need-returns
 returns c = cut _ _ (c .before .before .wide .ensures .0) (omega arith)
@@ -44,7 +44,7 @@ layout-breaks-spec =
     (tie.spec
     shared-slice-read-wide
     wide-requires
-    pair-at-requires
+    pair-offset-requires
     returns
     pairs-stand-requires
     returns-2

@@ -1,13 +1,13 @@
 -- `recipe::pairs_stand` meets its contract. The loop's invariant: the pairs passed keep the layout, so that those still to come decide.
 use Prim.Native.Nat.{_-_}
 use borrow.Author.Needs.{needs}
-use Rattle.recipe_file.proofs.Walks.{Walked, walked-start, walked-elsewhere, walked-empty, walked-next, walked-end}
+use Rattle.recipe_file.proofs.Walks.{PairsWalked, walked-start, walked-elsewhere, walked-empty, walked-next, walked-end}
 use borrow.Author.Needs.{needs}
 use Rattle.recipe_file.proofs.pairs_stand.Statement.{statement}
 use Rattle.recipe_file.proofs.pairs_stand.Tie as tie
 
 abbrev Inv-loop : tie.InvT-loop
-Inv-loop recipe n cursor₀ cursor = Walked recipe n (cursor .pair) (cursor .at)
+Inv-loop recipe n cursor₀ cursor = PairsWalked recipe n (cursor .pair) (cursor .at)
 
 abbrev μ-loop : tie.MeasureT-loop
 μ-loop recipe n cursor₀ cursor = n - cursor .pair

@@ -27,7 +27,7 @@ use Rattle.load_spec.specs.Loading as load
 use Rattle.image.specs.Configuration.{image-of, config-of}
 use Rattle.image.specs.Theory.Exactly.{read-again}
 use Rattle.step_spec.specs.declared.Outcome.the-variants.{Refused}
-use Rattle.runs.specs.Run.{Call, Step, answer, left, types-left, Applies, Binds, IsThread, Goes, Typed, Demand, image-loaded, ThirdDemand}
+use Rattle.runs.specs.Run.{Call, Step, answer, left, types-left, Applies, Binds, IsThread, Goes, ValuesTypedIn, Demand, image-loaded, ThirdDemand}
 use Rattle.runs.specs.Theory.Steps.{call-of, answered-rule, answered-refused, answered-goes, answers, leaves-image, leaves-types}
 use Rattle.runs.specs.Theory.Simulates.{Kept, AllKept, kept-first, Simulates, same, simulates}
 
@@ -60,7 +60,7 @@ module _ {τ : TypeNumbers} where
   goes : {n : Step} {m : calculus.Step} → Simulates τ n m → calculus.Goes (calculus.replied m) → Goes (answer n)
   goes (same s c k l) g = rw (answers τ s (k .keeps) (k .writable) c) (answered-goes (reply (s .config) (call-of c)) g)
 
-  typed-left : {n : Step} {m : calculus.Step} → Simulates τ n m → ValuesTyped τ (after τ (m .before) (m .call)) → Typed τ (left n) (types-left τ n)
+  typed-left : {n : Step} {m : calculus.Step} → Simulates τ n m → ValuesTyped τ (after τ (m .before) (m .call)) → ValuesTypedIn τ (left n) (types-left τ n)
   typed-left (same s c k l) v =
       rw (leaves-image τ s (k .keeps) (k .writable) c, leaves-types τ s (k .keeps) (k .writable) c, reads l) v
 
@@ -108,7 +108,7 @@ module _ (file : List ℕ) (b : Bytes file) (accepted : refusal file ≡ 0) wher
 
   -- the load leaves the starting image in the first bytes, as many as it answers
   loaded-is : (out : List ℕ) → max-image-length ≤ length out → image-loaded file out ≡ starting-image file
-  unfolding load.loaded-of load.out-after load.load-refusal
+  unfolding load.loaded-of load.out-after-load load.load-refusal
   loaded-is out long = rw (ltb-not (length out) max-image-length long, accepted) (take-append-seam (starting-image file) (drop (length (starting-image file)) out))
 
 -- the verdict is 0 exactly where no cause fits

@@ -15,7 +15,7 @@ use Rattle.calculus.specs.Theory.ImageTest.{image-test-iff}
 use Rattle.image.specs.Configuration.{image-of, config-of}
 use Rattle.image.specs.Theory.Exactly.{read-again, image-written}
 use Rattle.step_spec.specs.declared.Outcome.the-variants.{Rule, Refused}
-use Rattle.step_spec.specs.Stepping.{step-reply, answered, written, outcome-of, out-after}
+use Rattle.step_spec.specs.Stepping.{step-reply, outcome-of-reply, out-after-reply, outcome-of, out-after-step}
 use Rattle.runs.specs.Run.{Call, Step, answer, image-left, left, types-by, types-left, Goes}
 
 -- the calculus's call: a buffer's length is all that counts
@@ -23,22 +23,22 @@ abbrev pub call-of : Call → calculus.Call
 call-of c = record { thread = c .thread; buffer = length (c .out) }
 
 -- what the answers say
-pub answered-rule : (q : Reply) {rule size : ℕ} → answered q ≡ Rule rule size → (C′ : Config) × (q ≡ moved rule C′)
-unfolding answered
+pub answered-rule : (q : Reply) {rule size : ℕ} → outcome-of-reply q ≡ Rule rule size → (C′ : Config) × (q ≡ moved rule C′)
+unfolding outcome-of-reply
 answered-rule (moved rule C′) e = (C′, cc)
 answered-rule (waits y) e = absurd (clash (cc))
 answered-rule finished e = absurd (clash (cc))
 answered-rule (refuses number) e = absurd (clash (cc))
 
-pub answered-refused : (q : Reply) (number : ℕ) → (answered q ≡ Refused number) ↔ (q ≡ refuses number)
-unfolding answered
+pub answered-refused : (q : Reply) (number : ℕ) → (outcome-of-reply q ≡ Refused number) ↔ (q ≡ refuses number)
+unfolding outcome-of-reply
 answered-refused (moved rule C′) number = (λ e. absurd (clash (cc)), λ e. absurd (clash (cc)))
 answered-refused (waits y) number = (λ e. absurd (clash (cc)), λ e. absurd (clash (cc)))
 answered-refused finished number = (λ e. absurd (clash (cc)), λ e. absurd (clash (cc)))
 answered-refused (refuses k) number = (λ e. cc, λ e. cc)
 
-pub answered-goes : (q : Reply) → calculus.Goes q → Goes (answered q)
-unfolding answered
+pub answered-goes : (q : Reply) → calculus.Goes q → Goes (outcome-of-reply q)
+unfolding outcome-of-reply
 answered-goes (moved rule C′) g = tt
 answered-goes (waits y) g = tt
 answered-goes finished g = tt
@@ -55,16 +55,16 @@ module _ (τ : TypeNumbers) (s : State) (keeps : ImageRule (s .config)) (writabl
   unfolding step-reply reply
   replies = rw (image-written (s .config) keeps writable, reads, image-test-iff (s .config) .1 keeps) refl
 
-  pub answers : answer handed ≡ answered (reply (s .config) (call-of c))
+  pub answers : answer handed ≡ outcome-of-reply (reply (s .config) (call-of c))
   unfolding outcome-of
-  answers = ap answered replies
+  answers = ap outcome-of-reply replies
 
   -- it leaves the image of what the calculus's step leaves
   pub leaves-image : left handed ≡ image-of (calculus.after τ s (call-of c) .config)
-  unfolding outcome-of out-after image-left answered written leaves
-  leaves-image = ap (λ (q : Reply). image-left (answered q) (written q (c .out)) (image-of (s .config))) replies ∙ go (reply (s .config) (call-of c))
+  unfolding outcome-of out-after-step image-left outcome-of-reply out-after-reply leaves
+  leaves-image = ap (λ (q : Reply). image-left (outcome-of-reply q) (out-after-reply q (c .out)) (image-of (s .config))) replies ∙ go (reply (s .config) (call-of c))
     where
-      go : (q : Reply) → image-left (answered q) (written q (c .out)) (image-of (s .config)) ≡ image-of (leaves τ s (c .thread) q .config)
+      go : (q : Reply) → image-left (outcome-of-reply q) (out-after-reply q (c .out)) (image-of (s .config)) ≡ image-of (leaves τ s (c .thread) q .config)
       go (moved rule C′) = take-append-seam (image-of C′) (drop (length (image-of C′)) (c .out))
       go (waits y) = refl
       go finished = refl
@@ -72,13 +72,13 @@ module _ (τ : TypeNumbers) (s : State) (keeps : ImageRule (s .config)) (writabl
 
   -- and its names have the types that the calculus gives them
   pub leaves-types : types-left τ handed ≡ calculus.after τ s (call-of c) .names
-  unfolding outcome-of types-by answered leaves
+  unfolding outcome-of types-by outcome-of-reply leaves
   leaves-types =
-      ap (λ (q : Reply). types-by (answered q) (new-types τ (config-of (image-of (s .config))) (c .thread)) (s .names)) replies
-      ∙ ap (λ (C : Config). types-by (answered (reply (s .config) (call-of c))) (new-types τ C (c .thread)) (s .names)) reads
+      ap (λ (q : Reply). types-by (outcome-of-reply q) (new-types τ (config-of (image-of (s .config))) (c .thread)) (s .names)) replies
+      ∙ ap (λ (C : Config). types-by (outcome-of-reply (reply (s .config) (call-of c))) (new-types τ C (c .thread)) (s .names)) reads
       ∙ go (reply (s .config) (call-of c))
     where
-      go : (q : Reply) → types-by (answered q) (new-types τ (s .config) (c .thread)) (s .names) ≡ leaves τ s (c .thread) q .names
+      go : (q : Reply) → types-by (outcome-of-reply q) (new-types τ (s .config) (c .thread)) (s .names) ≡ leaves τ s (c .thread) q .names
       go (moved rule C′) = refl
       go (waits y) = refl
       go finished = refl

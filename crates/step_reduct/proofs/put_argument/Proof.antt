@@ -1,6 +1,6 @@
 -- `reducts::put_argument` meets its contract.
 use native.Mathlib.Omega.{arith}
-use Rattle.step_rules.specs.Moves.{between}
+use Rattle.step_rules.specs.Moves.{bytes-between}
 use Rattle.step_reduct.proofs.Redexes.{argument-length}
 use borrow.Author.Needs.{needs}
 use Rattle.step_reduct.proofs.put_argument.Statement.{statement}
@@ -13,7 +13,7 @@ same-length : tie.Need-same-length
 same-length c = search needs
 
 returns : tie.Need-returns
-unfolding between
+unfolding bytes-between
 returns c = c .before .before .put-part .ensures
 
 pub put-argument-spec : {M : Type 1} → statement M

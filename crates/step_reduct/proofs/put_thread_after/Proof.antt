@@ -4,7 +4,7 @@ use Prim.Native.Nat.{_-_, _+_, ℕ}
 use native.Mathlib.Omega.{arith}
 use lib.ListN.{take, drop}
 use Rattle.buffer.specs.Written.{same, then, known-as}
-use Rattle.step_rules.specs.Moves.{between, expression-after}
+use Rattle.step_rules.specs.Moves.{bytes-between, expression-after}
 use Rattle.step_reduct.proofs.Redexes.{length-between, has-thread, expression-length}
 use borrow.Author.Needs.{needs}
 use Rattle.step_reduct.proofs.put_thread_after.Statement.{statement}
@@ -26,7 +26,7 @@ put-part-requires c κs =
     (omega (arith, o, w .movable .begins), (omega (arith, w .movable .second, w .movable .third, w .movable .ends, w .movable .inside), omega (arith, o, expression-length w, c .before .before .before .before .before .pre .1)))
 
 first-part : (c : tie.After-put-redex-after-arg) → c .before .before .before .put-part .result ≡ c .before .before .before .before .before .before .before .before .before .args .at + (c .before .before .before .before .before .before .before .before .before .args .step .at - c .before .before .before .before .before .before .offset-at .result)
-unfolding between
+unfolding bytes-between
 first-part c =
     let w = c .before .before .before .before .before .before .before .before .before .pre .0 in
     let o = c .before .before .before .before .before .before .offset-at .ensures .0 in
@@ -57,7 +57,7 @@ same-length : tie.Need-same-length
 same-length c = search needs
 
 returns : tie.Need-returns
-unfolding expression-after between
+unfolding expression-after bytes-between
 returns c =
     let p = c .before .before .before .before .before .before .before in
     let s = p .before .before .before .before .before .before .before .before .before .args .image .now in

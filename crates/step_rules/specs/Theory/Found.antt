@@ -22,18 +22,18 @@ use Rattle.term_redex.specs.declared.Meeting.{Meeting}
 use Rattle.term_redex.specs.declared.Place.the-variants.{Done}
 use Rattle.term_redex.specs.Places.{place-of, Searchable}
 use Rattle.term_redex.proofs.Meetings.{MeetingAt, done-value, meet-met, meeting-stands}
-use Rattle.step_rules.specs.Meets.{Deciding, Meets}
+use Rattle.step_rules.specs.Meets.{Deciding, MeetsAt}
 use Rattle.step_rules.specs.Theory.Reading.{rules, length-config, thread-stands}
 
 -- the two values and their context
-pub record MeetsAt (s : List ℕ) (x : ℕ) (m : Meeting) : Type 0 where
+pub record FoundMeeting (s : List ℕ) (x : ℕ) (m : Meeting) : Type 0 where
   pub context : Context
   pub function : Exp
   pub argument : Exp
   pub function-value : Value function
-  pub meets : Meets s x m context function-value argument
+  pub meets : MeetsAt s x m context function-value argument
 
-pub found-meets : {s : List ℕ} {x : ℕ} {m : Meeting} → Bytes s → Deciding s x m → MeetsAt s x m
+pub found-meets : {s : List ℕ} {x : ℕ} {m : Meeting} → Bytes s → Deciding s x m → FoundMeeting s x m
 unfolding step-of step-component step-place
 found-meets {s} {x} {m} b d =
     let e = d .expression in
@@ -59,7 +59,7 @@ found-meets {s} {x} {m} b d =
     }
 
 -- a name that stands in the application is a name of the image
-pub name-there : {s : List ℕ} {x : ℕ} {m : Meeting} {F : Context} {f : Exp} {w : Value f} {v : Exp} → Meets s x m F w v → (y : ℕ) → 1 ≤ count y f → y < names s
+pub name-there : {s : List ℕ} {x : ℕ} {m : Meeting} {F : Context} {f : Exp} {w : Value f} {v : Exp} → MeetsAt s x m F w v → (y : ℕ) → 1 ≤ count y f → y < names s
 unfolding count count-in
 name-there {s} {x} {m} {F} {f} {w} {v} M y l = elim (decLt y (names s)) [
   | yes p ↦ p

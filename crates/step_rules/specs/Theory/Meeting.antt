@@ -23,18 +23,18 @@ use Rattle.term_redex.specs.declared.Meeting.{Meeting}
 use Rattle.term_redex.specs.Contexts.{back, front}
 use Rattle.term_redex.proofs.Contexts.{plug-bytes}
 use Rattle.step_rules.specs.declared.Move.{Move}
-use Rattle.step_rules.specs.Moves.{between, thread-holding, argument-bytes, redex-after, expression-after, other-after, after, names-after, components-after}
-use Rattle.step_rules.specs.Meets.{move-of, Meets}
+use Rattle.step_rules.specs.Moves.{bytes-between, thread-holding, argument-bytes, redex-after, expression-after, other-after, component-after, names-after, components-after}
+use Rattle.step_rules.specs.Meets.{move-of, MeetsAt}
 use Rattle.step_rules.specs.Theory.Changes.{Table}
 
 -- the front of what stands at a position
-pub between-front : (s : List ℕ) (a b : ℕ) (p q : List ℕ) → drop a s ≡ p ++ q → b ≡ a + length p → between s a b ≡ p
-unfolding between
+pub between-front : (s : List ℕ) (a b : ℕ) (p q : List ℕ) → drop a s ≡ p ++ q → b ≡ a + length p → bytes-between s a b ≡ p
+unfolding bytes-between
 between-front s a b p q e n =
     let k : length p ≡ b - a = omega arith in
     ap (take (b - a)) e ∙ take-at p q (b - a) k
 
-pub between-term : {s : List ℕ} {a : ℕ} {e : Exp} (b : ℕ) → TermAt s a e → b ≡ a + size e → between s a b ≡ bytes e
+pub between-term : {s : List ℕ} {a : ℕ} {e : Exp} (b : ℕ) → TermAt s a e → b ≡ a + size e → bytes-between s a b ≡ bytes e
 between-term {s} {a} {e} b t n = between-front s a b (bytes e) (drop (a + size e) s) (t .stands) (omega (arith, length-bytes e))
 
 -- the body of a lambda
@@ -51,11 +51,11 @@ body-stands {s} {a} {t} {e} h =
     }
 
 -- the components before a step
-pub table-start : {s : List ℕ} {x : ℕ} {m : Meeting} {F : Context} {f : Exp} {w : Value f} {v : Exp} → Meets s x m F w v → Table (config-of s) (names s) (encoded-at s)
+pub table-start : {s : List ℕ} {x : ℕ} {m : Meeting} {F : Context} {f : Exp} {w : Value f} {v : Exp} → MeetsAt s x m F w v → Table (config-of s) (names s) (encoded-at s)
 unfolding encoded-all
 table-start {s} M = record { is = written-back s (M .in-bytes) (M .stands) }
 
-module _ {s : List ℕ} {x : ℕ} {m : Meeting} {F : Context} {f : Exp} {w : Value f} {v : Exp} (M : Meets s x m F w v) (rule name from to future : ℕ) where
+module _ {s : List ℕ} {x : ℕ} {m : Meeting} {F : Context} {f : Exp} {w : Value f} {v : Exp} (M : MeetsAt s x m F w v) (rule name from to future : ℕ) where
   abbrev move : Move
   move = move-of rule x m name from to future
 
@@ -66,7 +66,7 @@ module _ {s : List ℕ} {x : ℕ} {m : Meeting} {F : Context} {f : Exp} {w : Val
 
   -- the thread's expression after a step, whatever came in place of the application
   pub expression-is : (r : Exp) → redex-after s move ≡ bytes r → expression-after s move ≡ bytes (plug F r)
-  unfolding move-of expression-after between
+  unfolding move-of expression-after bytes-between
   expression-is r e =
       let n : offset-at s x + length-at s x ≡ offset-at s x + size (plug F (app f v)) = ap (λ k. offset-at s x + k) (M .long) in
       let a : take (offset-at s x + length-at s x - m .end) (drop (m .end) s) ≡ back F = ap (λ k. take (k - m .end) (drop (m .end) s)) n ∙ M .placed .after in
@@ -75,9 +75,9 @@ module _ {s : List ℕ} {x : ℕ} {m : Meeting} {F : Context} {f : Exp} {w : Val
   -- the components after a step are those of a configuration
   pub components-are : (r : Exp) → redex-after s move ≡ bytes r → (C : Config) (n : ℕ) (g : ℕ → Encoded) → Table C n g → n ≡ names-after s move
       → ((k : ℕ) → g k ≡ cond (eqb k x) (encode (thread-of (plug F r))) (other-after s move k)) → components-after s move ≡ map encode C
-  unfolding move-of components-after after encode
+  unfolding move-of components-after component-after encode
   components-are r e C n g t k h =
       let p = expression-is r e in
-      sym (tabulate-same (names-after s move) g (after s move) (λ i l. h i ∙ ap (λ b. cond (eqb i x) (thread-holding b) (other-after s move i)) (sym p)))
+      sym (tabulate-same (names-after s move) g (component-after s move) (λ i l. h i ∙ ap (λ b. cond (eqb i x) (thread-holding b) (other-after s move i)) (sym p)))
       ∙ ap (λ j. tabulate j g) (sym k)
       ∙ sym (t .is)

@@ -13,7 +13,7 @@ use Rattle.calculus.specs.Image.{ImageRule, size}
 use Rattle.calculus.specs.Theory.Tests.{and-parts, clash}
 use Rattle.calculus.specs.Theory.Lists.{at-bound}
 use Rattle.calculus.specs.Theory.ImageTest.{image-test-iff}
-use Rattle.term.specs.Expressions.{bytes, Fits, TermAt}
+use Rattle.term.specs.Expressions.{bytes, FitsBytes, TermAt}
 use Rattle.term.proofs.Sizes.{length-bytes}
 use Rattle.image_layout.specs.Encoded.{Encoded}
 use Rattle.image_layout.specs.Slice.{names, offset-at, length-at, expression-at, encoded-at, length-encoded, encoded-there, encoded-expression}
@@ -57,7 +57,7 @@ module _ (s : List ℕ) (b : Bytes s) (stands : image-stands s ≡ true) where
         cc
 
     -- the expression of a component stands where its head says
-    pub expression-stands : (e : Exp) → encode c .expression ≡ bytes e → Fits e → Stands s k e
+    pub expression-stands : (e : Exp) → encode c .expression ≡ bytes e → FitsBytes e → Stands s k e
     unfolding expression-at
     expression-stands e is fits =
         let p : bytes e ≡ take (length-at s k) (drop (offset-at s k) s) = sym is ∙ ap (λ (x : Encoded). x .expression) encoded-is ∙ encoded-expression s k in

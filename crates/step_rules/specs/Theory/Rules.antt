@@ -23,16 +23,16 @@ use Rattle.image.specs.Configuration.{encode, config-of, image-of}
 use Rattle.term_redex.specs.declared.Meeting.{Meeting}
 use Rattle.term_redex.proofs.Contexts.{plug-nodes}
 use Rattle.term_subst.specs.Outcome.{nodes-substitute}
-use Rattle.step_rules.specs.Moves.{between, thread-holding, cell-holding, argument-bytes, copied-bytes, name-bytes, redexes, redex-after, others, other-after, news, names-after, image-after, node-counts, nodes-after}
+use Rattle.step_rules.specs.Moves.{bytes-between, thread-holding, cell-holding, argument-bytes, copied-bytes, name-bytes, redexes, redex-after, others, other-after, news, names-after, image-after, node-counts, nodes-after}
 use Rattle.step_rules.specs.Stepped.{Movable, Stepped}
-use Rattle.step_rules.specs.Meets.{move-of, Meets}
+use Rattle.step_rules.specs.Meets.{move-of, MeetsAt}
 use Rattle.step_rules.specs.Theory.Reading.{rules, below, length-config, Stands, thread-stands, cell-stands}
 use Rattle.step_rules.specs.Theory.Changes.{Table, table-length, table-set, table-more, swap, nodes-set, nodes-append, nodes-part}
 use Rattle.step_rules.specs.Theory.Meeting.{between-front, between-term, body-stands, table-start, argument-is, components-are}
 use Rattle.step_rules.specs.Theory.Writers.{counted, thread-below, few, few-all, movable}
 
 -- a move by a rule, from the parts that are the rule's own: what comes in place of the application, the table of the components, the nodes
-module _ {s : List ℕ} {x : ℕ} {m : Meeting} {F : Context} {f : Exp} {w : Value f} {v : Exp} (M : Meets s x m F w v) where
+module _ {s : List ℕ} {x : ℕ} {m : Meeting} {F : Context} {f : Exp} {w : Value f} {v : Exp} (M : MeetsAt s x m F w v) where
   stepped : (n named from to future : ℕ) (r : Rule) (e : Exp) (C : Config) (size : ℕ) (g : ℕ → Encoded)
       → step-meeting (config-of s) x F w v ≡ rule r C → number r ≡ n
       → redex-after s (move-of n x m named from to future) ≡ bytes e
@@ -72,7 +72,7 @@ module _ {s : List ℕ} {x : ℕ} {m : Meeting} {F : Context} {f : Exp} {w : Val
   new-name = length-config s (M .in-bytes) (M .stands)
 
 -- rule 1
-pub beta-moves : {s : List ℕ} {x t : ℕ} {m : Meeting} {F : Context} {e v : Exp} → Meets s x m F (is-lam {t = t} {e = e}) v → Stepped s x (move-of 1 x m 0 0 0 0)
+pub beta-moves : {s : List ℕ} {x t : ℕ} {m : Meeting} {F : Context} {e v : Exp} → MeetsAt s x m F (is-lam {t = t} {e = e}) v → Stepped s x (move-of 1 x m 0 0 0 0)
 unfolding move-of step-meeting redex-after redexes other-after others names-after news nodes-after node-counts nodes
 beta-moves {s} {x} {t} {m} {F} {e} {v} M =
     let body : TermAt s (m .at + 3) e = subst (λ k. TermAt s k e) (omega arith) (body-stands (M .placed .function)) in
@@ -86,7 +86,7 @@ beta-moves {s} {x} {t} {m} {F} {e} {v} M =
     (λ z. counted body (omega (arith, few M))) (λ z. absurd (omega arith)))
 
 -- rules 2, 4 and 6: new names. The thread is none of them.
-module _ {s : List ℕ} {x t : ℕ} {o : Op} {m : Meeting} {F : Context} {v : Exp} (M : Meets s x m F (is-const {c = op o t}) v) where
+module _ {s : List ℕ} {x t : ℕ} {o : Op} {m : Meeting} {F : Context} {v : Exp} (M : MeetsAt s x m F (is-const {c = op o t}) v) where
   not-new : (k : ℕ) → names s ≤ k → ¬ (x ≡ k)
   not-new k l e = omega (arith, thread-below M)
 
@@ -96,7 +96,7 @@ module _ {s : List ℕ} {x t : ℕ} {o : Op} {m : Meeting} {F : Context} {v : Ex
       movable M n 0 0 0 0 (omega (arith, thread-below M)) (omega (arith, thread-below M)) (omega arith) (omega arith) (λ z. absurd (p z)) (λ z. absurd (q z))
 
 -- rule 2
-pub thread-moves : {s : List ℕ} {x t : ℕ} {m : Meeting} {F : Context} {v : Exp} → Meets s x m F (is-const {c = op thread t}) v → Stepped s x (move-of 2 x m 0 0 0 0)
+pub thread-moves : {s : List ℕ} {x t : ℕ} {m : Meeting} {F : Context} {v : Exp} → MeetsAt s x m F (is-const {c = op thread t}) v → Stepped s x (move-of 2 x m 0 0 0 0)
 unfolding move-of step-meeting redex-after redexes other-after others names-after news nodes-after node-counts nodes sum-all sum-in bytes encode
 thread-moves {s} {x} {t} {m} {F} {v} M =
     let C = config-of s in
@@ -115,7 +115,7 @@ thread-moves {s} {x} {t} {m} {F} {v} M =
     (plainly M 2 (omega arith) (omega arith))
 
 -- rule 4
-pub handle-moves : {s : List ℕ} {x t : ℕ} {m : Meeting} {F : Context} {v : Exp} → Meets s x m F (is-const {c = op handle t}) v → Stepped s x (move-of 4 x m 0 0 0 0)
+pub handle-moves : {s : List ℕ} {x t : ℕ} {m : Meeting} {F : Context} {v : Exp} → MeetsAt s x m F (is-const {c = op handle t}) v → Stepped s x (move-of 4 x m 0 0 0 0)
 unfolding move-of step-meeting redex-after redexes other-after others names-after news nodes-after node-counts nodes sum-all sum-in bytes encode
 handle-moves {s} {x} {t} {m} {F} {v} M =
     let C = config-of s in
@@ -136,7 +136,7 @@ handle-moves {s} {x} {t} {m} {F} {v} M =
     (plainly M 4 (omega arith) (omega arith))
 
 -- rule 6
-pub cell-moves : {s : List ℕ} {x t : ℕ} {m : Meeting} {F : Context} {v : Exp} → Meets s x m F (is-const {c = op cell t}) v → Stepped s x (move-of 6 x m 0 0 0 0)
+pub cell-moves : {s : List ℕ} {x t : ℕ} {m : Meeting} {F : Context} {v : Exp} → MeetsAt s x m F (is-const {c = op cell t}) v → Stepped s x (move-of 6 x m 0 0 0 0)
 unfolding move-of step-meeting redex-after redexes other-after others names-after news nodes-after node-counts nodes sum-all sum-in bytes encode
 cell-moves {s} {x} {t} {m} {F} {v} M =
     let C = config-of s in
@@ -152,7 +152,7 @@ cell-moves {s} {x} {t} {m} {F} {v} M =
     (plainly M 6 (omega arith) (omega arith))
 
 -- rules 3, 5 and 7: the name at the place is a name of the image
-module _ {s : List ℕ} {x : ℕ} {m : Meeting} {F : Context} {f : Exp} {w : Value f} {v : Exp} (M : Meets s x m F w v) where
+module _ {s : List ℕ} {x : ℕ} {m : Meeting} {F : Context} {f : Exp} {w : Value f} {v : Exp} (M : MeetsAt s x m F w v) where
   -- one of another component than the thread's is another name
   other : (y : ℕ) {c : Component} → at (config-of s) y ≡ some c → ¬ (thread-of (plug F (app f v)) ≡ c) → ¬ (x ≡ y)
   other y h n e = let p = M .thread in let q = ap (at (config-of s)) e in n (cc)
@@ -173,13 +173,13 @@ module _ {s : List ℕ} {x : ℕ} {m : Meeting} {F : Context} {f : Exp} {w : Val
       (λ z. counted (q .term) (omega (arith, nodes-part (config-of s) y h, few-all M)))
 
 -- rule 3, at the function of an application
-pub deref-moves : {s : List ℕ} {x y : ℕ} {m : Meeting} {F : Context} {v : Exp} → Meets s x m F (is-name {k = y}) v → (e : Exp) → at (config-of s) y ≡ some (thread-of e) → Value e
+pub deref-moves : {s : List ℕ} {x y : ℕ} {m : Meeting} {F : Context} {v : Exp} → MeetsAt s x m F (is-name {k = y}) v → (e : Exp) → at (config-of s) y ≡ some (thread-of e) → Value e
     → Stepped s x (move-of 3 x m y (offset-at s y) (offset-at s y + length-at s y) 0)
 unfolding move-of step-meeting step-call when-done redex-after redexes other-after others names-after news nodes-after node-counts nodes size bytes
 deref-moves {s} {x} {y} {m} {F} {v} M e h u =
     let to = offset-at s y + length-at s y in
     let q = thread-stands s (M .in-bytes) (M .stands) y e h in
-    let a : between s (m .at) (m .argument - 2) ≡ 2 ∷ [] =
+    let a : bytes-between s (m .at) (m .argument - 2) ≡ 2 ∷ [] =
     between-front s (m .at) (m .argument - 2) (2 ∷ []) _ (M .placed .application .stands) (omega (arith, M .placed .second)) in
     let p : term-at s (offset-at s y) ≡ e = found-at (q .term) .term in
     stepped M 3 y (offset-at s y) to 0 FUTURE-DEREF (app e v) (put (config-of s) x F (app e v)) (names s) _
@@ -190,13 +190,13 @@ deref-moves {s} {x} {y} {m} {F} {v} M e h u =
     (value-moves M 3 y e h (omega arith))
 
 -- rule 3, at the first argument of a full exch
-pub deref-exch-moves : {s : List ℕ} {x y t : ℕ} {m : Meeting} {F : Context} {v : Exp} → Meets s x m F (is-exch {t = t} (is-name {k = y})) v → (e : Exp)
+pub deref-exch-moves : {s : List ℕ} {x y t : ℕ} {m : Meeting} {F : Context} {v : Exp} → MeetsAt s x m F (is-exch {t = t} (is-name {k = y})) v → (e : Exp)
     → at (config-of s) y ≡ some (thread-of e) → Value e → Stepped s x (move-of 3 x m y (offset-at s y) (offset-at s y + length-at s y) 0)
 unfolding move-of step-meeting step-exchange when-done redex-after redexes other-after others names-after news nodes-after node-counts nodes size const-size bytes const-bytes op-tag
 deref-exch-moves {s} {x} {y} {t} {m} {F} {v} M e h u =
     let to = offset-at s y + length-at s y in
     let q = thread-stands s (M .in-bytes) (M .stands) y e h in
-    let a : between s (m .at) (m .argument - 2) ≡ 2 ∷ 2 ∷ 6 ∷ t ∷ [] =
+    let a : bytes-between s (m .at) (m .argument - 2) ≡ 2 ∷ 2 ∷ 6 ∷ t ∷ [] =
     between-front s (m .at) (m .argument - 2) (2 ∷ 2 ∷ 6 ∷ t ∷ []) _ (M .placed .application .stands) (omega (arith, M .placed .second)) in
     let p : term-at s (offset-at s y) ≡ e = found-at (q .term) .term in
     let r = app (app (const (op exch t)) e) v in
@@ -208,7 +208,7 @@ deref-exch-moves {s} {x} {y} {t} {m} {F} {v} M e h u =
     (value-moves M 3 y e h (omega arith))
 
 -- rule 5
-pub bind-moves : {s : List ℕ} {x z : ℕ} {m : Meeting} {F : Context} {v : Exp} → Meets s x m F (is-name {k = z}) v → (y : ℕ) → at (config-of s) z ≡ some (open-for y)
+pub bind-moves : {s : List ℕ} {x z : ℕ} {m : Meeting} {F : Context} {v : Exp} → MeetsAt s x m F (is-name {k = z}) v → (y : ℕ) → at (config-of s) z ≡ some (open-for y)
     → Stepped s x (move-of 5 x m z 0 0 y)
 unfolding move-of step-meeting step-call redex-after redexes other-after others names-after news nodes-after node-counts nodes sum-in bytes const-bytes encode
 bind-moves {s} {x} {z} {m} {F} {v} M y h =
@@ -234,7 +234,7 @@ bind-moves {s} {x} {z} {m} {F} {v} M y h =
     (movable M 5 z 0 0 y (name-below M z h) (name-below M y g) (omega arith) (omega arith) (λ i. absurd (omega arith)) (λ i. absurd (omega arith)))
 
 -- rule 7
-pub exchange-moves : {s : List ℕ} {x y t : ℕ} {m : Meeting} {F : Context} {v : Exp} → Meets s x m F (is-exch {t = t} (is-name {k = y})) v → (e : Exp)
+pub exchange-moves : {s : List ℕ} {x y t : ℕ} {m : Meeting} {F : Context} {v : Exp} → MeetsAt s x m F (is-exch {t = t} (is-name {k = y})) v → (e : Exp)
     → at (config-of s) y ≡ some (holds e) → Stepped s x (move-of 7 x m y (offset-at s y) (offset-at s y + length-at s y) 0)
 unfolding move-of step-meeting step-exchange redex-after redexes other-after others names-after news nodes-after node-counts nodes sum-in encode
 exchange-moves {s} {x} {y} {t} {m} {F} {v} M e h =

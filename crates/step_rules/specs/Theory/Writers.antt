@@ -15,7 +15,7 @@ use Rattle.image.specs.Configuration.{config-of}
 use Rattle.term_redex.specs.declared.Meeting.{Meeting}
 use Rattle.term_redex.proofs.Contexts.{plug-nodes}
 use Rattle.step_rules.specs.Stepped.{Counted, Movable}
-use Rattle.step_rules.specs.Meets.{move-of, Meets}
+use Rattle.step_rules.specs.Meets.{move-of, MeetsAt}
 use Rattle.step_rules.specs.Theory.Reading.{rules, below, thread-stands}
 use Rattle.step_rules.specs.Theory.Changes.{nodes-part}
 
@@ -35,7 +35,7 @@ size-positive (app f a) = omega arith
 pub counted : {s : List ℕ} {a : ℕ} {e : Exp} → TermAt s a e → nodes e ≤ max-nodes → Counted s a
 counted {s} {a} {e} t n = let p = found-at t in record { good = p .good; few = omega (arith, ap nodes (p .term)) }
 
-module _ {s : List ℕ} {x : ℕ} {m : Meeting} {F : Context} {f : Exp} {w : Value f} {v : Exp} (M : Meets s x m F w v) where
+module _ {s : List ℕ} {x : ℕ} {m : Meeting} {F : Context} {f : Exp} {w : Value f} {v : Exp} (M : MeetsAt s x m F w v) where
   pub thread-below : x < names s
   thread-below = below s (M .in-bytes) (M .stands) x (M .thread)
 

@@ -5,7 +5,7 @@ use Prim.Native.Nat.{_-_, _+_, _≤_, _<_, ℕ}
 use native.Mathlib.Omega.{arith}
 use lib.ListN.{length}
 use Rattle.buffer.specs.Written.{still, known-as}
-use Rattle.step_rules.specs.Moves.{after}
+use Rattle.step_rules.specs.Moves.{component-after}
 use Rattle.image_layout.specs.Slice.{names, encoded-expression}
 use Rattle.image_layout.specs.Theory.Reading.{has-expression}
 use Rattle.step_write.specs.declared.Change.{Change}
@@ -32,7 +32,7 @@ image-of p = p .before .before .before .before .args .image .now
 is : (p : tie.After-change-of) (x : Change) → p .change-of .result ≡ x → x ≡ change-of (p .before .before .before .before .args .step) (names (image-of p)) (p .before .before .before .before .args .k)
 is p x e = sym e ∙ p .change-of .ensures ∙ ap (λ (m : ℕ). change-of (p .before .before .before .before .args .step) m (p .before .before .before .before .args .k)) (p .before .names-of .ensures .0)
 
-becomes : (p : tie.After-change-of) (x : Change) → p .change-of .result ≡ x → after (image-of p) (p .before .before .before .before .args .step) (p .before .before .before .before .args .k) ≡ changed (image-of p) (p .before .before .before .before .args .step) (p .before .before .before .before .args .k) x
+becomes : (p : tie.After-change-of) (x : Change) → p .change-of .result ≡ x → component-after (image-of p) (p .before .before .before .before .args .step) (p .before .before .before .before .args .k) ≡ changed (image-of p) (p .before .before .before .before .args .step) (p .before .before .before .before .args .k) x
 becomes p x e = after-is (image-of p) (p .before .before .before .before .args .step) (p .before .before .before .before .args .k) x (is p x e)
 
 there : (p : tie.After-change-of) → p .change-of .result ≡ Kept → p .before .before .before .before .args .k < names (image-of p)

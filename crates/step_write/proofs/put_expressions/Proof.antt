@@ -8,12 +8,12 @@ use Rattle.calculus.specs.Theory.Tabulate.{tabulate-all}
 use Rattle.buffer.specs.Written.{Wrote, still, same, known-as}
 use Rattle.image_layout.specs.Encoded.{expressions}
 use Rattle.image_layout.specs.Theory.Turns.{expression-turn, room-expression}
-use Rattle.step_rules.specs.Moves.{after, names-after}
+use Rattle.step_rules.specs.Moves.{component-after, names-after}
 use Rattle.step_write.proofs.put_expressions.Statement.{statement}
 use Rattle.step_write.proofs.put_expressions.Tie as tie
 
 abbrev Inv-loop : tie.InvT-loop
-Inv-loop out₀ at image step names next₀ k₀ out next k = (k ≤ names) × Wrote out₀ at (expressions (tabulate k (after image step))) out next
+Inv-loop out₀ at image step names next₀ k₀ out next k = (k ≤ names) × Wrote out₀ at (expressions (tabulate k (component-after image step))) out next
 
 abbrev μ-loop : tie.MeasureT-loop
 μ-loop out₀ at image step names next₀ k₀ out next k = names - k
@@ -36,7 +36,7 @@ put-expression-after-requires : tie.Need-put-expression-after-requires Inv-loop 
 put-expression-after-requires c κs =
     let t = c .before in
     let l = t .before .loop in
-    ((t .before .before .before .before .pre .0 .0, below t), room-expression (names-after (bytes-of t) (t .before .before .before .before .args .step)) (after (bytes-of t) (t .before .before .before .before .args .step)) (t .before .before .before .before .pre .1) (below t) (t .before .before .before .before .pre .0 .1 .1) (l .inv .1))
+    ((t .before .before .before .before .pre .0 .0, below t), room-expression (names-after (bytes-of t) (t .before .before .before .before .args .step)) (component-after (bytes-of t) (t .before .before .before .before .args .step)) (t .before .before .before .before .pre .1) (below t) (t .before .before .before .before .pre .0 .1 .1) (l .inv .1))
 
 add-k : tie.Need-add-k Inv-loop μ-loop
 add-k c = omega arith
@@ -45,7 +45,7 @@ loop-less : tie.Need-loop-less Inv-loop μ-loop
 loop-less c = omega arith
 
 loop-again : tie.Need-loop-again Inv-loop μ-loop
-loop-again c = let t = c .before .before .before .before in (omega arith, expression-turn (names-after (bytes-of t) (t .before .before .before .before .args .step)) (after (bytes-of t) (t .before .before .before .before .args .step)) (t .before .loop .inv .1) (c .before .before .put-expression-after .ensures))
+loop-again c = let t = c .before .before .before .before in (omega arith, expression-turn (names-after (bytes-of t) (t .before .before .before .before .args .step)) (component-after (bytes-of t) (t .before .before .before .before .args .step)) (t .before .loop .inv .1) (c .before .before .put-expression-after .ensures))
 
 same-length : tie.Need-same-length Inv-loop μ-loop
 same-length c = same (c .before .loop .inv .1)

@@ -8,7 +8,7 @@ use Rattle.calculus.specs.Bytes.{two-bytes, two-byte-values}
 use Rattle.buffer.specs.Written.{Wrote, same, known-as}
 use Rattle.buffer.specs.TwoBytes.{length-two-bytes}
 use Rattle.image_layout.specs.Theory.Turns.{Room, room-kept, room-names, heads-end, image-turns}
-use Rattle.step_rules.specs.Moves.{after, names-after}
+use Rattle.step_rules.specs.Moves.{component-after, names-after}
 use Rattle.step_write.proofs.Components.{image-room, image-is}
 use borrow.Author.Needs.{needs}
 use Rattle.step_write.proofs.put_image_after.Statement.{statement}
@@ -28,11 +28,11 @@ total : (p : tie.After-new-names) → p .before .names-of .result + p .new-names
 unfolding names-after
 total p = ap₂ _+_ (p .before .names-of .ensures .0) (p .new-names .ensures)
 
-has-room : (p : tie.After-new-names) → Room (names-after (image-in p) (p .before .before .before .before .args .step)) (after (image-in p) (p .before .before .before .before .args .step)) (p .before .before .before .before .args .out .now)
+has-room : (p : tie.After-new-names) → Room (names-after (image-in p) (p .before .before .before .before .args .step)) (component-after (image-in p) (p .before .before .before .before .args .step)) (p .before .before .before .before .args .out .now)
 has-room p = image-room (image-in p) (p .before .before .before .before .args .step) (p .before .before .before .before .pre .1 .0) (p .before .before .before .before .pre .1 .1)
 
 few : (p : tie.After-new-names) → (2 ≤ length (p .before .before .before .before .args .out .now)) × (names-after (image-in p) (p .before .before .before .before .args .step) < two-byte-values)
-few p = room-names (names-after (image-in p) (p .before .before .before .before .args .step)) (after (image-in p) (p .before .before .before .before .args .step)) (has-room p)
+few p = room-names (names-after (image-in p) (p .before .before .before .before .args .step)) (component-after (image-in p) (p .before .before .before .before .args .step)) (has-room p)
 
 add-names : tie.Need-add-names
 add-names c = omega (arith, total c, few c .1)
@@ -56,7 +56,7 @@ put-expressions-requires c κs =
     let h = c .before .before .before .before in
     let p = h .before .before .before .before .before in
     let w = c .before .before .before .put-heads .ensures in (
-      (h .before .before .before .before .before .before .before .before .before .pre .0, (total p, heads-end (names-after (image-in p) (h .before .before .before .before .before .before .before .before .before .args .step)) (after (image-in p) (h .before .before .before .before .before .before .before .before .before .args .step)) (names-wrote h .0) (w .ends))),
+      (h .before .before .before .before .before .before .before .before .before .pre .0, (total p, heads-end (names-after (image-in p) (h .before .before .before .before .before .before .before .before .before .args .step)) (component-after (image-in p) (h .before .before .before .before .before .before .before .before .before .args .step)) (names-wrote h .0) (w .ends))),
       room-kept _ _ {old = h .before .before .before .before .before .before .before .before .before .args .out .now} (has-room p) (same w ∙ same (names-wrote h .1)),
     )
 
@@ -69,7 +69,7 @@ returns c =
     let p = h .before .before .before .before .before in
     let s = image-in p in
     let m = h .before .before .before .before .before .before .before .before .before .args .step in
-    known-as (image-turns (names-after s m) (after s m) (names-wrote h .1) (c .before .before .before .before .before .before .put-heads .ensures) (c .before .before .put-expressions .ensures)) (image-is s m)
+    known-as (image-turns (names-after s m) (component-after s m) (names-wrote h .1) (c .before .before .before .before .before .before .put-heads .ensures) (c .before .before .put-expressions .ensures)) (image-is s m)
 
 pub put-image-after-spec : {M : Type 1} → statement M
 put-image-after-spec =

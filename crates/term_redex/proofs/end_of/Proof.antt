@@ -4,7 +4,7 @@ use Prim.Native.Nat.{_+_, _-_}
 use native.Mathlib.Omega.{arith}
 use borrow.Author.Needs.{needs}
 use lib.ListN.{length}
-use Rattle.term.proofs.Views.{NodeAt, node-at}
+use Rattle.term.proofs.Views.{NodeAt, node-there}
 use Rattle.term_redex.proofs.Ends.{Pending, pending-end, pending-good, pending-node, pending-start}
 use Rattle.term_redex.proofs.end_of.Statement.{statement}
 use Rattle.term_redex.proofs.end_of.Tie as tie
@@ -16,25 +16,25 @@ abbrev μ-loop : tie.MeasureT-loop
 μ-loop s at here₀ pending₀ here pending = length s - here
 
 abbrev AtNode : Type 0
-AtNode = tie.After-node-at Inv-loop μ-loop
+AtNode = tie.After-known-node Inv-loop μ-loop
 
 abbrev loop : AtNode → tie.At-loop Inv-loop μ-loop
 loop c = c .before .before
 
 -- what the node adds, and what is to come after it
-node : (c : AtNode) → NodeAt (loop c .before .before .args .s .now) (loop c .loop .here) (c .node-at .result)
-node c = node-at (loop c .loop .inv .inside) (c .node-at .ensures)
+node : (c : AtNode) → NodeAt (loop c .before .before .args .s .now) (loop c .loop .here) (c .known-node .result)
+node c = node-there (loop c .loop .inv .inside) (c .known-node .ensures)
 
 more : (c : AtNode)
-    → Pending (loop c .before .before .args .s .now) (loop c .before .before .args .at) (loop c .loop .here + c .node-at .result .size)
-    (loop c .loop .pending - 1 + c .node-at .result .subterms)
-more c = pending-node (c .node-at .ensures) (loop c .loop .inv) (c .before .loop-test .taken)
+    → Pending (loop c .before .before .args .s .now) (loop c .before .before .args .at) (loop c .loop .here + c .known-node .result .size)
+    (loop c .loop .pending - 1 + c .known-node .result .subterms)
+more c = pending-node (c .known-node .ensures) (loop c .loop .inv) (c .before .loop-test .taken)
 
 loop-holds : tie.Need-loop-holds Inv-loop μ-loop
 loop-holds c = pending-start (c .before .pre)
 
-node-at-requires : tie.Need-node-at-requires Inv-loop μ-loop
-node-at-requires c κs = pending-good (c .before .loop .inv) (c .loop-test .taken)
+known-node-requires : tie.Need-known-node-requires Inv-loop μ-loop
+known-node-requires c κs = pending-good (c .before .loop .inv) (c .loop-test .taken)
 
 add-here : tie.Need-add-here Inv-loop μ-loop
 add-here c = omega (arith, more c .inside)
@@ -64,7 +64,7 @@ end-of-spec =
     Inv-loop
     μ-loop
     loop-holds
-    node-at-requires
+    known-node-requires
     add-here
     sub-pending
     cast-pending

@@ -20,17 +20,17 @@ is-application-requires c κs = search needs
 returns : tie.Need-returns
 returns c = sym (no-exchange _ (sym (c .before .is-application .ensures) ∙ not-true _ (c .if1 .taken)))
 
-add-node-at : tie.Need-add-node-at
-add-node-at c = search needs
+add-known-node : tie.Need-add-known-node
+add-known-node c = search needs
 
-node-at-requires : tie.Need-node-at-requires
-node-at-requires c κs = application-at (λ i. c .before .before .shared-slice-known .given i .fits) (c .before .before .before .pre) (is-one c) .function
+known-node-requires : tie.Need-known-node-requires
+known-node-requires c κs = application-at (λ i. c .before .before .shared-slice-known .given i .fits) (c .before .before .before .pre) (is-one c) .function
 
 returns-2 : tie.Need-returns-2
 returns-2 c =
     let p = c .before .before in
-    sym (exchange-node (λ i. p .before .before .shared-slice-known .given i .fits) (p .before .before .before .pre) (is-one p) (c .before .node-at .ensures))
+    sym (exchange-node (λ i. p .before .before .shared-slice-known .given i .fits) (p .before .before .before .pre) (is-one p) (c .before .known-node .ensures))
 
 pub is-exchange-spec : {M : Type 1} → statement M
 is-exchange-spec =
-    tie.close (tie.spec is-application-requires returns add-node-at node-at-requires returns-2)
+    tie.close (tie.spec is-application-requires returns add-known-node known-node-requires returns-2)

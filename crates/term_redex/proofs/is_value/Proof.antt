@@ -16,13 +16,13 @@ returns c =
     let p = c .before .before .past-exchanges in
     value-not (p .ensures .0) (sym (c .before .is-application .ensures) ∙ c .if1 .taken) (p .ensures .1)
 
-node-at-requires : tie.Need-node-at-requires
-node-at-requires c κs = c .before .before .past-exchanges .ensures .0 .good
+known-node-requires : tie.Need-known-node-requires
+known-node-requires c κs = c .before .before .past-exchanges .ensures .0 .good
 
 returns-2 : tie.Need-returns-2
 returns-2 c =
     let t = c .before .before in
-    value-node (t .before .before .past-exchanges .ensures .0) (sym (t .before .is-application .ensures) ∙ t .if1 .left) (c .before .node-at .ensures)
+    value-node (t .before .before .past-exchanges .ensures .0) (sym (t .before .is-application .ensures) ∙ t .if1 .left) (c .before .known-node .ensures)
 
 pub is-value-spec : {M : Type 1} → statement M
-is-value-spec = tie.close (tie.spec past-exchanges-requires is-application-requires returns node-at-requires returns-2)
+is-value-spec = tie.close (tie.spec past-exchanges-requires is-application-requires returns known-node-requires returns-2)

@@ -6,14 +6,14 @@ use native.Mathlib.Omega.{arith}
 use borrow.Author.Needs.{needs}
 use borrow.Fn.Kinds.{In}
 use borrow.Fn.PlainCycle.{and, falls, is, Measures}
-use Rattle.term.specs.declared.Head.the-variants.{Is}
+use Rattle.term.specs.declared.Front.the-variants.{Is}
 use Rattle.term.specs.declared.Node.{Node}
-use Rattle.term.specs.Reader.{GoodAt, head-at}
-use Rattle.term.proofs.Views.{first-good, is-two, leaf-from, node-at, NodeAt, not-bad, one-from, past-first, two-from, TwoAt}
+use Rattle.term.specs.Reader.{GoodAt, node-at}
+use Rattle.term.proofs.Views.{first-good, is-two, leaf-from, node-there, NodeAt, not-bad, one-from, past-first, two-from, TwoAt}
 use Rattle.term_scan.specs.declared.Reach.the-variants.{End}
 use Rattle.term_scan.specs.Depths.{reach}
 use Rattle.term_scan.proofs.Depths.{reach-cut, reach-end, reach-leaf, reach-one, reach-two, reach-zero}
-use Rattle.term.proofs.head_at.Reads as head-at-reads
+use Rattle.term.proofs.node_at.Reads as node-at-reads
 use Rattle.term_scan.proofs.end_within.Reads as reads
 use Rattle.term_scan.proofs.end_within.Kinds as kinds
 use Rattle.term_scan.proofs.+end_within.Lts-end_within as lts
@@ -31,7 +31,7 @@ abbrev below : ℕ → In 1 kinds.ps
 below t = and 1 kinds.ps (falls 1 kinds.ps _<_ μ t) reads.Pre
 
 abbrev calls : ℕ → lts.Claims
-calls t = (head-at-reads.Asked, head-at-reads.Learnt, below t, reads.Post)
+calls t = (node-at-reads.Asked, node-at-reads.Learnt, below t, reads.Post)
 
 module _ (t : ℕ) where
   -- where the head is a node: the bytes, the position, the node, and what is known
@@ -60,11 +60,11 @@ module _ (t : ℕ) where
   some : (c : AtNode) → limit c ≡ 0 → ⊥
   some c = c .before .before .before .before .before .if1 .left
 
-  is-head : (c : AtNode) → head-at (all c) (at c) ≡ Is (head c)
-  is-head c = sym (c .before .before .before .before .head-at .ensures) ∙ c .before .before .node .given .1
+  is-head : (c : AtNode) → node-at (all c) (at c) ≡ Is (head c)
+  is-head c = sym (c .before .before .before .before .node-at .ensures) ∙ c .before .before .node .given .1
 
   node : (c : AtNode) → NodeAt (all c) (at c) (head c)
-  node c = node-at (good c .inside) (is-head c)
+  node c = node-there (good c .inside) (is-head c)
 
   -- where the first subterm has ended
   abbrev AtFirst : Type 0
@@ -94,8 +94,8 @@ module _ (t : ℕ) where
   returns : lts.Need-returns (calls t) (given t) reads.Post
   returns c = let a = c .before .before .args in reach-zero (a .s .now) (a .left) (a .at) (c .if1 .taken)
 
-  head-at-requires : lts.Need-head-at-requires (calls t) (given t) reads.Post
-  head-at-requires c κs = c .before .before .pre .1 .inside
+  node-at-requires : lts.Need-node-at-requires (calls t) (given t) reads.Post
+  node-at-requires c κs = c .before .before .pre .1 .inside
 
   enum-known-node : lts.Need-enum-known-node (calls t) (given t) reads.Post
   enum-known-node c = search needs
@@ -104,7 +104,7 @@ module _ (t : ℕ) where
   enum-told c = search needs
 
   returns-2 : lts.Need-returns-2 (calls t) (given t) reads.Post
-  returns-2 c = absurd (not-bad (c .before .before .before .before .before .pre .1) (sym (c .before .before .head-at .ensures) ∙ c .enum-told .given .1))
+  returns-2 c = absurd (not-bad (c .before .before .before .before .before .pre .1) (sym (c .before .before .node-at .ensures) ∙ c .enum-told .given .1))
 
   add-first : lts.Need-add-first (calls t) (given t) reads.Post
   add-first c = omega (arith, node c .inside)
@@ -155,7 +155,7 @@ pub +end-within-spec : {M : Type 1} → statement M
 +end-within-spec =
     close μ λ t. lts.spec (calls t) (given t) reads.Post
     (returns t)
-    (head-at-requires t)
+    (node-at-requires t)
     (enum-known-node t)
     (enum-told t)
     (returns-2 t)

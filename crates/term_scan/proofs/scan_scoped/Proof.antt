@@ -7,9 +7,9 @@ use native.Mathlib.Omega.{arith}
 use borrow.Author.Needs.{needs}
 use borrow.Author.Tests.{not-false, not-true}
 use lib.ListN.{length}
-use Rattle.term.specs.declared.Head.the-variants.{Is}
+use Rattle.term.specs.declared.Front.the-variants.{Is}
 use Rattle.term.specs.declared.Node.{Node}
-use Rattle.term.specs.Reader.{head-at}
+use Rattle.term.specs.Reader.{node-at}
 use Rattle.term.proofs.Views.{is-two, NodeAt}
 use Rattle.term_scan.proofs.Scanning.{Scanning, scanning-bad, scanning-done, scanning-few, scanning-lambda, scanning-leaf, scanning-loose, scanning-low, scanning-node, scanning-no-type, scanning-over, scanning-pop, scanning-room, scanning-start, scanning-two}
 use Rattle.term_scan.proofs.scan_scoped.Statement.{statement}
@@ -43,8 +43,8 @@ some c = c .before .before .before .before .before .if1 .left
 left : (c : AtNode) → loop c .loop .nodes < loop c .before .before .before .args .limit
 left c = c .before .before .before .before .if3 .left
 
-is-head : (c : AtNode) → head-at (all (loop c)) (loop c .loop .here) ≡ Is (head c)
-is-head c = sym (c .before .before .before .head-at .ensures) ∙ c .before .node .given .1
+is-head : (c : AtNode) → node-at (all (loop c)) (loop c .loop .here) ≡ Is (head c)
+is-head c = sym (c .before .before .before .node-at .ensures) ∙ c .before .node .given .1
 
 node : (c : AtNode) → NodeAt (all (loop c)) (loop c .loop .here) (head c)
 node c = scanning-node (loop c .loop .inv) (some c) (is-head c)
@@ -83,8 +83,8 @@ same-length-2 c = kept (c .before .before)
 returns-2 : tie.Need-returns-2 Inv-loop μ-loop
 returns-2 c = scanning-over (c .before .before .loop .inv) (c .before .if1 .left) (c .if3 .taken)
 
-head-at-requires : tie.Need-head-at-requires Inv-loop μ-loop
-head-at-requires c κs = c .before .before .loop .inv .seen .inside
+node-at-requires : tie.Need-node-at-requires Inv-loop μ-loop
+node-at-requires c κs = c .before .before .loop .inv .seen .inside
 
 enum-known-node : tie.Need-enum-known-node Inv-loop μ-loop
 enum-known-node c = search needs
@@ -98,7 +98,7 @@ same-length-3 c = kept (c .before .before .before .before .before)
 returns-3 : tie.Need-returns-3 Inv-loop μ-loop
 returns-3 c =
     scanning-bad (c .before .before .before .before .before .loop .inv) (c .before .before .before .before .if1 .left)
-    (sym (c .before .before .head-at .ensures) ∙ c .enum-told .given .1)
+    (sym (c .before .before .node-at .ensures) ∙ c .enum-told .given .1)
 
 add-here : tie.Need-add-here Inv-loop μ-loop
 add-here c = omega (arith, node c .inside)
@@ -184,7 +184,7 @@ scan-scoped-spec =
     loop-again
     same-length-2
     returns-2
-    head-at-requires
+    node-at-requires
     enum-known-node
     enum-told
     same-length-3

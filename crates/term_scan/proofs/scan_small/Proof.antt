@@ -25,7 +25,7 @@ loop c = c .before .before .before .before .before .before
 
 more : (c : AtNode) → More (loop c .before .before .args .s .now) (loop c .before .before .args .at) (loop c .loop .here) (loop c .loop .nodes) (loop c .loop .pending) (c .before .node .given .0 .0)
 more c =
-    seen-node (loop c .loop .inv .0) (c .before .before .before .before .before .loop-test .taken) (sym (c .before .before .before .head-at .ensures) ∙ c .before .node .given .1)
+    seen-node (loop c .loop .inv .0) (c .before .before .before .before .before .loop-test .taken) (sym (c .before .before .before .node-at .ensures) ∙ c .before .node .given .1)
 
 loop-holds : tie.Need-loop-holds Inv-loop μ-loop
 loop-holds c = (seen-start _ _ (c .before .pre), zero-le)
@@ -35,8 +35,8 @@ returns c =
     let p = c .before .before in
     small-over (p .before .before .args .budget) (p .loop .inv .0) (c .before .loop-test .taken) (omega arith)
 
-head-at-requires : tie.Need-head-at-requires Inv-loop μ-loop
-head-at-requires c κs = c .before .before .loop .inv .0 .inside
+node-at-requires : tie.Need-node-at-requires Inv-loop μ-loop
+node-at-requires c κs = c .before .before .loop .inv .0 .inside
 
 enum-known-node : tie.Need-enum-known-node Inv-loop μ-loop
 enum-known-node c = search needs
@@ -47,7 +47,7 @@ enum-told c = search needs
 returns-2 : tie.Need-returns-2 Inv-loop μ-loop
 returns-2 c =
     ap (small _)
-    (seen-bad (c .before .before .before .before .before .loop .inv .0) (c .before .before .before .before .loop-test .taken) (sym (c .before .before .head-at .ensures) ∙ c .enum-told .given .1))
+    (seen-bad (c .before .before .before .before .before .loop .inv .0) (c .before .before .before .before .loop-test .taken) (sym (c .before .before .node-at .ensures) ∙ c .enum-told .given .1))
 
 add-here : tie.Need-add-here Inv-loop μ-loop
 add-here c = omega (arith, more c .seen .inside)
@@ -81,7 +81,7 @@ scan-small-spec =
     μ-loop
     loop-holds
     returns
-    head-at-requires
+    node-at-requires
     enum-known-node
     enum-told
     returns-2

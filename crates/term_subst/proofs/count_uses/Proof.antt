@@ -6,9 +6,9 @@ use Prim.Native.Nat.{_*_, _+_, _-_, _<_, _≤_, ℕ}
 use native.Mathlib.Omega.{arith}
 use borrow.Author.Needs.{needs}
 use lib.ListN.{length}
-use Rattle.term.specs.declared.Head.the-variants.{Is}
+use Rattle.term.specs.declared.Front.the-variants.{Is}
 use Rattle.term.specs.declared.Node.{Node}
-use Rattle.term.specs.Reader.{head-at}
+use Rattle.term.specs.Reader.{node-at}
 use Rattle.term_subst.proofs.Walked.{walked-deep, walked-good, walked-in, walked-low, walked-not-bad, walked-pending, walked-two-subterms}
 use Rattle.term_subst.proofs.Counting.{Counting, counting-done, counting-few, counting-leaf, counting-one, counting-pop, counting-start, counting-two}
 use Rattle.term_subst.proofs.count_uses.Statement.{statement}
@@ -39,8 +39,8 @@ head c = c .before .before .node .given .0 .0
 some : (c : AtNode) → loop c .loop .pending ≡ 0 → ⊥
 some c = c .before .before .before .before .before .if1 .left
 
-is-head : (c : AtNode) → head-at (all (loop c)) (loop c .loop .here) ≡ Is (head c)
-is-head c = sym (c .before .before .before .before .head-at .ensures) ∙ c .before .before .node .given .1
+is-head : (c : AtNode) → node-at (all (loop c)) (loop c .loop .here) ≡ Is (head c)
+is-head c = sym (c .before .before .before .before .node-at .ensures) ∙ c .before .before .node .given .1
 
 inside : (c : AtNode) → (loop c .loop .here + head c .size ≤ length (all (loop c))) × (loop c .loop .here < loop c .loop .here + head c .size)
 inside c = walked-in (loop c .loop .inv .walked) (some c) (is-head c)
@@ -66,8 +66,8 @@ loop-less c = omega arith
 loop-again : tie.Need-loop-again Inv-loop μ-loop
 loop-again c = counting-pop (c .before .before .loop .inv) (c .before .if1 .taken) (c .if2 .left)
 
-head-at-requires : tie.Need-head-at-requires Inv-loop μ-loop
-head-at-requires c κs = walked-good (c .before .loop .inv .walked) (c .if1 .left) .inside
+node-at-requires : tie.Need-node-at-requires Inv-loop μ-loop
+node-at-requires c κs = walked-good (c .before .loop .inv .walked) (c .if1 .left) .inside
 
 enum-known-node : tie.Need-enum-known-node Inv-loop μ-loop
 enum-known-node c = search needs
@@ -79,7 +79,7 @@ returns-2 : tie.Need-returns-2 Inv-loop μ-loop
 returns-2 c =
     absurd
     (walked-not-bad (c .before .before .before .before .loop .inv .walked) (c .before .before .before .if1 .left)
-    (sym (c .before .before .head-at .ensures) ∙ c .enum-told .given .1))
+    (sym (c .before .before .node-at .ensures) ∙ c .enum-told .given .1))
 
 add-here : tie.Need-add-here Inv-loop μ-loop
 add-here c = omega (arith, inside c .0)
@@ -156,7 +156,7 @@ count-uses-spec =
     array-read-pending
     loop-less
     loop-again
-    head-at-requires
+    node-at-requires
     enum-known-node
     enum-told
     returns-2

@@ -8,9 +8,9 @@ use native.Mathlib.Omega.{arith}
 use borrow.Author.Needs.{needs}
 use lib.ListN.{length}
 use Rattle.calculus.specs.Bytes.{Bytes}
-use Rattle.term.specs.declared.Head.the-variants.{Is}
+use Rattle.term.specs.declared.Front.the-variants.{Is}
 use Rattle.term.specs.declared.Node.{Node}
-use Rattle.term.specs.Reader.{head-at}
+use Rattle.term.specs.Reader.{node-at}
 use Rattle.term.specs.Expressions.{leaf-exp}
 use Rattle.buffer.specs.Written.{same}
 use Rattle.term_subst.specs.Variable.{is-variable}
@@ -59,8 +59,8 @@ head c = c .before .before .node .given .0 .0
 some : (c : AtNode) → loop c .loop .pending ≡ 0 → ⊥
 some c = c .before .before .before .before .before .if1 .left
 
-is-head : (c : AtNode) → head-at (all (loop c)) (loop c .loop .here) ≡ Is (head c)
-is-head c = sym (c .before .before .before .before .head-at .ensures) ∙ c .before .before .node .given .1
+is-head : (c : AtNode) → node-at (all (loop c)) (loop c .loop .here) ≡ Is (head c)
+is-head c = sym (c .before .before .before .before .node-at .ensures) ∙ c .before .before .node .given .1
 
 inside : (c : AtNode) → (loop c .loop .here + head c .size ≤ length (all (loop c))) × (loop c .loop .here < loop c .loop .here + head c .size)
 inside c = walked-in (loop c .loop .inv .walked) (some c) (is-head c)
@@ -92,8 +92,8 @@ loop-less c = omega arith
 loop-again : tie.Need-loop-again Inv-loop μ-loop
 loop-again c = putting-pop (c .before .before .loop .inv) (c .before .if1 .taken) (c .if2 .left)
 
-head-at-requires : tie.Need-head-at-requires Inv-loop μ-loop
-head-at-requires c κs = walked-good (c .before .loop .inv .walked) (c .if1 .left) .inside
+node-at-requires : tie.Need-node-at-requires Inv-loop μ-loop
+node-at-requires c κs = walked-good (c .before .loop .inv .walked) (c .if1 .left) .inside
 
 enum-known-node : tie.Need-enum-known-node Inv-loop μ-loop
 enum-known-node c = search needs
@@ -104,7 +104,7 @@ enum-told c = search needs
 not-bad : (c : tie.After-enum-told Inv-loop μ-loop) → ⊥
 not-bad c =
     walked-not-bad (c .before .before .before .before .loop .inv .walked) (c .before .before .before .if1 .left)
-    (sym (c .before .before .head-at .ensures) ∙ c .enum-told .given .1)
+    (sym (c .before .before .node-at .ensures) ∙ c .enum-told .given .1)
 
 same-length-2 : tie.Need-same-length-2 Inv-loop μ-loop
 same-length-2 c = absurd (not-bad c)
@@ -212,7 +212,7 @@ put-substituted-spec =
     array-read-pending
     loop-less
     loop-again
-    head-at-requires
+    node-at-requires
     enum-known-node
     enum-told
     same-length-2

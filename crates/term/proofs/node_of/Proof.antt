@@ -1,4 +1,4 @@
--- `terms::head_of` meets its contract: at each `return` the tests that led there say which case of `head-of` holds (proofs/Heads.antt).
+-- `terms::node_of` meets its contract: at each `return` the tests that led there say which case of `node-of` holds (proofs/Heads.antt).
 use mathlib.Core.Path.{_≡_, ap}
 use mathlib.Core.Bool.{true}
 use Prim.Native.Nat.{_<_}
@@ -10,9 +10,9 @@ use Rattle.calculus.specs.Limits.{max-num}
 use Rattle.term.specs.declared.Form.{Form}
 use Rattle.term.specs.Forms.{in-range, num-tag, operand-of}
 use Rattle.term.specs.Reader.{front-operand}
-use Rattle.term.proofs.Heads.{operand-at-most, head-none, head-unknown, head-cut, head-over, head-node}
-use Rattle.term.proofs.head_of.Statement.{statement}
-use Rattle.term.proofs.head_of.Tie as tie
+use Rattle.term.proofs.Nodes.{operand-at-most, head-none, head-unknown, head-cut, head-over, head-node}
+use Rattle.term.proofs.node_of.Statement.{statement}
+use Rattle.term.proofs.node_of.Tie as tie
 
 returns : tie.Need-returns
 returns c = head-none (c .before .before .args .s .now) (c .if1 .taken)
@@ -73,8 +73,8 @@ returns-6 c =
     let low : in-range (getD l 0 0) (front-operand l) ≡ true = simp (le-leb (front-operand l) max-num (omega arith)) in
     rw (a, f .ensures) (head-node l (omega arith) (omega arith) (omega arith) low)
 
-pub head-of-spec : {M : Type 1} → statement M
-head-of-spec =
+pub node-of-spec : {M : Type 1} → statement M
+node-of-spec =
     tie.close
     (tie.spec
     returns

@@ -1,4 +1,4 @@
--- The node at the front of a list: what `head-of` answers stands there, and what the table allows is read back. Nothing here goes tag by tag.
+-- The node at the front of a list: what `node-of` answers stands there, and what the table allows is read back. Nothing here goes tag by tag.
 use mathlib.Core.Path.{_≡_, refl, ap, subst}
 use mathlib.Core.Bool.{Bool, _&&_, false, true}
 use mathlib.Core.List.{List, [], _∷_, _++_}
@@ -12,12 +12,12 @@ use lib.Seq.{drop-at}
 use Rattle.calculus.specs.Bytes.{Bytes}
 use Rattle.calculus.specs.Limits.{max-num}
 use Rattle.term.specs.declared.Form.{Form}
-use Rattle.term.specs.declared.Head.the-variants.{Is, Bad}
+use Rattle.term.specs.declared.Front.the-variants.{Is, Bad}
 use Rattle.term.specs.declared.Node.{Node}
 use Rattle.term.specs.Numbers.{little-endian, value-of}
 use Rattle.term.specs.Forms.{form, form-of, forms, in-range, num-tag, operand-of, subterms-of, tags}
-use Rattle.term.specs.Tree.{head-bytes, InTable}
-use Rattle.term.specs.Reader.{head-of, head-stands, pick-head, front-operand, front-node}
+use Rattle.term.specs.Tree.{node-bytes, InTable}
+use Rattle.term.specs.Reader.{node-of, node-stands, pick-node, front-operand, front-node}
 use Rattle.term.proofs.Table.{every-at}
 use Rattle.term.proofs.Numbers.{length-little-endian, value-bytes, value-fits, bytes-value}
 
@@ -30,7 +30,7 @@ pub operand-at-most : (tag : ℕ) → operand-of tag ≤ 2
 unfolding form-of forms
 operand-at-most tag = leb→le (operand-of tag) 2 (every-at (λ (f : Form). leb (f .operand) 2) forms (form 0 0) tt tt tag)
 
--- what `head-of` says where it finds a node
+-- what `node-of` says where it finds a node
 pub record Heads (l : List ℕ) (h : Node) : Type 0 where
   pub at-tag : getD l 0 0 ≡ h .tag
   pub at-arg : front-operand l ≡ h .arg
@@ -46,49 +46,49 @@ all-true true true false d e = (refl, e, cc)
 all-true true false c d e = (e, cc, cc)
 all-true false b c d e = (cc, cc, cc)
 
-picked : (b : Bool) (h k : Node) → pick-head b (Is h) ≡ Is k → (b ≡ true) × (h ≡ k)
+picked : (b : Bool) (h k : Node) → pick-node b (Is h) ≡ Is k → (b ≡ true) × (h ≡ k)
 picked true h k e = (refl, cc)
 picked false h k e = (cc, cc)
 
--- the tests of `head-stands` that passed
-stood : (l : List ℕ) → head-stands l ≡ true
+-- the tests of `node-stands` that passed
+stood : (l : List ℕ) → node-stands l ≡ true
     → (getD l 0 0 < tags) × (1 + operand-of (getD l 0 0) ≤ length l) × (in-range (getD l 0 0) (front-operand l) ≡ true)
 stood l e =
     let a = all-true (ltb 0 (length l)) (ltb (getD l 0 0) tags) (leb (1 + operand-of (getD l 0 0)) (length l)) (in-range (getD l 0 0) (front-operand l)) e in
     (ltb-true (getD l 0 0) tags (a .0), leb-true (1 + operand-of (getD l 0 0)) (length l) (a .1), a .2)
 
-pub head-is : (l : List ℕ) (h : Node) → head-of l ≡ Is h → Heads l h
-unfolding head-of
+pub head-is : (l : List ℕ) (h : Node) → node-of l ≡ Is h → Heads l h
+unfolding node-of
 head-is l h e =
-    let p = picked (head-stands l) (front-node l) h e in
+    let p = picked (node-stands l) (front-node l) h e in
     let s = stood l (p .0) in
     subst (Heads l) (p .1)
     (record { at-tag = refl; at-arg = refl; at-size = refl; at-subterms = refl; known = s .0; whole = s .1; low = s .2 })
 
 -- the ways to `Bad`, and the way to a node
 module _ (l : List ℕ) where
-  pub head-none : length l ≡ 0 → Bad ≡ head-of l
-  unfolding head-of
+  pub head-none : length l ≡ 0 → Bad ≡ node-of l
+  unfolding node-of
   head-none h = simp (le-ltb 0 (length l) (omega arith))
 
   module _ (some : 0 < length l) where
-    pub head-unknown : tags ≤ getD l 0 0 → Bad ≡ head-of l
-    unfolding head-of
+    pub head-unknown : tags ≤ getD l 0 0 → Bad ≡ node-of l
+    unfolding node-of
     head-unknown h = simp (lt-ltb 0 (length l) some, le-ltb (getD l 0 0) tags h)
 
     module _ (known : getD l 0 0 < tags) where
-      pub head-cut : length l < 1 + operand-of (getD l 0 0) → Bad ≡ head-of l
-      unfolding head-of
+      pub head-cut : length l < 1 + operand-of (getD l 0 0) → Bad ≡ node-of l
+      unfolding node-of
       head-cut h = simp (lt-ltb 0 (length l) some, lt-ltb (getD l 0 0) tags known, lt-leb (1 + operand-of (getD l 0 0)) (length l) h)
 
       module _ (whole : 1 + operand-of (getD l 0 0) ≤ length l) where
-        pub head-over : max-num < front-operand l → getD l 0 0 ≡ num-tag → Bad ≡ head-of l
-        unfolding head-of
+        pub head-over : max-num < front-operand l → getD l 0 0 ≡ num-tag → Bad ≡ node-of l
+        unfolding node-of
         head-over h e =
             simp (lt-ltb 0 (length l) some, lt-ltb (getD l 0 0) tags known, le-leb (1 + operand-of (getD l 0 0)) (length l) whole, lt-leb (front-operand l) max-num h, eq-eqb (getD l 0 0) num-tag e)
 
-        pub head-node : in-range (getD l 0 0) (front-operand l) ≡ true → Is (front-node l) ≡ head-of l
-        unfolding head-of
+        pub head-node : in-range (getD l 0 0) (front-operand l) ≡ true → Is (front-node l) ≡ node-of l
+        unfolding node-of
         head-node h =
             simp (lt-ltb 0 (length l) some, lt-ltb (getD l 0 0) tags known, le-leb (1 + operand-of (getD l 0 0)) (length l) whole, h)
 
@@ -97,8 +97,8 @@ abbrev pub table-node : ℕ → ℕ → ℕ → Node
 table-node tag arg k = record { tag = tag; arg = arg; size = 1 + operand-of tag; subterms = k }
 
 -- is read back
-pub head-reads : (tag arg k : ℕ) (rest : List ℕ) → InTable tag arg k → head-of (head-bytes tag arg ++ rest) ≡ Is (table-node tag arg k)
-unfolding head-of
+pub head-reads : (tag arg k : ℕ) (rest : List ℕ) → InTable tag arg k → node-of (node-bytes tag arg ++ rest) ≡ Is (table-node tag arg k)
+unfolding node-of
 head-reads tag arg k rest a =
     let v : value-of (operand-of tag) (little-endian (operand-of tag) arg ++ rest) ≡ arg = value-bytes (operand-of tag) arg rest (a .fits) in
     let n : length (little-endian (operand-of tag) arg ++ rest) ≡ operand-of tag + length rest =
@@ -106,11 +106,11 @@ head-reads tag arg k rest a =
     simp (v, lt-ltb 0 (suc (length (little-endian (operand-of tag) arg ++ rest))) (omega arith), lt-ltb tag tags (a .known), le-leb (1 + operand-of tag) (suc (length (little-endian (operand-of tag) arg ++ rest))) (omega arith), a .low, a .shape)
 
 -- past it stands the rest
-pub head-past : (tag arg : ℕ) (rest : List ℕ) → drop (1 + operand-of tag) (head-bytes tag arg ++ rest) ≡ rest
-head-past tag arg rest = drop-at (head-bytes tag arg) rest (1 + operand-of tag) (simp (length-little-endian) (omega arith))
+pub head-past : (tag arg : ℕ) (rest : List ℕ) → drop (1 + operand-of tag) (node-bytes tag arg ++ rest) ≡ rest
+head-past tag arg rest = drop-at (node-bytes tag arg) rest (1 + operand-of tag) (simp (length-little-endian) (omega arith))
 
 -- the bytes of what is read stand there
-pub head-written : (l : List ℕ) (h : Node) → Bytes l → Heads l h → head-bytes (h .tag) (h .arg) ++ drop (h .size) l ≡ l
+pub head-written : (l : List ℕ) (h : Node) → Bytes l → Heads l h → node-bytes (h .tag) (h .arg) ++ drop (h .size) l ≡ l
 head-written [] h b e = absurd (omega (arith, e .whole, e .at-size))
 head-written (x ∷ xs) h b e =
     let o : 1 + operand-of x ≤ suc (length xs) = rw (e .at-tag, e .at-size) (e .whole) in

@@ -5,14 +5,14 @@ use mathlib.Core.List.{List}
 use Prim.Native.Nat.{_*_, _+_, _<_, _≤_, ℕ}
 use lib.ListN.{getD, length, take}
 use Rattle.calculus.specs.Limits.{min-file-length, max-file-length, min-parts, max-parts, min-entries, max-entries}
-use Rattle.recipe_file.specs.File.{opening, edition, parts, table-part, bays, pair-at, offset-of, length-of, entry-length}
+use Rattle.recipe_file.specs.File.{opening, edition, parts, table-part, bays, pair-offset, offset-of, length-of, entry-length}
 
 -- n is from `least` to `most`
 pub record Between (least most n : ℕ) : Type 0 where
   pub low : least ≤ n
   pub high : n ≤ most
 
-pub record Laid (s : List ℕ) : Type 0 where
+pub record FileRule (s : List ℕ) : Type 0 where
   -- "file 12 to 8,192 bytes"
   pub size : Between min-file-length max-file-length (length s)
   -- "Bytes 0 and 1 are 4C 46"
@@ -22,7 +22,7 @@ pub record Laid (s : List ℕ) : Type 0 where
   -- "2 to 17 parts"
   pub has-parts : Between min-parts max-parts (parts s)
   -- "The first part begins at 4 + 4n"
-  pub first : offset-of s 0 ≡ pair-at (parts s)
+  pub first : offset-of s 0 ≡ pair-offset (parts s)
   -- "each next one where the former ends"; so the pairs are "sorted by offset" (proofs.Inside, `sorted`)
   pub next : (i : ℕ) → i + 1 < parts s → offset-of s (i + 1) ≡ offset-of s i + length-of s i
   -- "the last ends with the file"
@@ -34,10 +34,10 @@ pub record Laid (s : List ℕ) : Type 0 where
 
 -- pair i of a file that is laid out so
 pub record HasPart (s : List ℕ) (i : ℕ) : Type 0 where
-  pub laid : Laid s
+  pub laid : FileRule s
   pub below : i < parts s
 
 -- a bay of such a file
 pub record HasBay (s : List ℕ) (bay : ℕ) : Type 0 where
-  pub laid : Laid s
+  pub laid : FileRule s
   pub below : bay < bays s
