@@ -12,7 +12,7 @@ use Rattle.calculus.specs.Syntax.{Exp, name, thread-of, open-for, at}
 use Rattle.calculus.specs.Typing.{TypeNumbers}
 use Rattle.calculus.specs.NewTypes.{function-at, new-types}
 use Rattle.calculus.specs.Limits.{max-image-length}
-use Rattle.calculus.specs.Run.{ValuesTyped}
+use Rattle.calculus.specs.State.{ValuesTyped}
 use Rattle.calculus.specs.Bytes.{Bytes}
 use Rattle.calculus.specs.Table.{type-at}
 use Rattle.calculus.specs.Recipe.{start}

@@ -7,7 +7,7 @@ use lib.Dec.{ltb}
 use lib.ListN.{drop, length}
 use Rattle.calculus.specs.Step.{step-of}
 use Rattle.calculus.specs.Limits.{max-image-length}
-use Rattle.calculus.specs.Run.{Reply, moved, waits, finished, refuses, reply-of}
+use Rattle.calculus.specs.Reply.{Reply, moved, waits, finished, refuses, reply-of}
 use Rattle.image.specs.Configuration.{image-of, config-of}
 use Rattle.image.specs.Stands.{image-stands}
 use Rattle.step_spec.specs.declared.Outcome.{Outcome}

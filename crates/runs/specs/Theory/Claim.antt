@@ -10,8 +10,10 @@ use lib.Seq.{take-append-seam}
 use Rattle.calculus.specs.Syntax.{Config, at}
 use Rattle.calculus.specs.Typing.{TypeNumbers}
 use Rattle.calculus.specs.Limits.{max-image-length}
-use Rattle.calculus.specs.Run as calculus
-use Rattle.calculus.specs.Run.{State, ValuesTyped, after, reply, refuses}
+use Rattle.calculus.specs.Theory.ConfigRuns as calculus
+use Rattle.calculus.specs.State.{State, ValuesTyped}
+use Rattle.calculus.specs.Reply.{refuses}
+use Rattle.calculus.specs.Theory.ConfigRuns.{state-after, config-reply}
 use Rattle.calculus.specs.Bytes.{Bytes}
 use Rattle.calculus.specs.Table.{type-at}
 use Rattle.calculus.specs.Recipe.{start}
@@ -37,34 +39,34 @@ reads {C} k = read-again C (k .keeps) (k .writable)
 
 -- what is said of a step in bytes and of the calculus's
 module _ {τ : TypeNumbers} where
-  applies : {n : Step} {m : calculus.Step} → Simulates τ n m → {z : ℕ} → Applies n z → calculus.Applies m z
+  applies : {n : Step} {m : calculus.ConfigStep} → Simulates τ n m → {z : ℕ} → Applies n z → calculus.ConfigApplies m z
   applies (same s c k l) (size, e, f) =
-      let (C′, g) = answered-rule (reply (s .config) (call-of c)) (sym (answers τ s (k .keeps) (k .writable) c) ∙ e) in
+      let (C′, g) = answered-rule (config-reply (s .config) (call-of c)) (sym (answers τ s (k .keeps) (k .writable) c) ∙ e) in
       (C′, g, rw (reads k) at f)
 
-  binds : {n : Step} {m : calculus.Step} → Simulates τ n m → {y : ℕ} → Binds n y → calculus.Binds m y
+  binds : {n : Step} {m : calculus.ConfigStep} → Simulates τ n m → {y : ℕ} → Binds n y → calculus.ConfigBinds m y
   binds (same s c k l) (z, a, h) = (z, applies (same s c k l) a, rw (reads k) at h)
 
-  refused : {n : Step} {m : calculus.Step} → Simulates τ n m → (number : ℕ) → (answer n ≡ Refused number) ↔ (calculus.replied m ≡ refuses number)
+  refused : {n : Step} {m : calculus.ConfigStep} → Simulates τ n m → (number : ℕ) → (answer n ≡ Refused number) ↔ (calculus.config-replied m ≡ refuses number)
   refused (same s c k l) number =
       let a = answers τ s (k .keeps) (k .writable) c in
-      let (there, back) = answered-refused (reply (s .config) (call-of c)) number in
+      let (there, back) = answered-refused (config-reply (s .config) (call-of c)) number in
       (λ e. there (sym a ∙ e), λ e. a ∙ back e)
 
-  is-thread : {n : Step} {m : calculus.Step} → Simulates τ n m → IsThread n ↔ calculus.IsThread m
+  is-thread : {n : Step} {m : calculus.ConfigStep} → Simulates τ n m → IsThread n ↔ calculus.ConfigIsThread m
   is-thread (same s c k l) = (λ (e, h). (e, rw (reads k) at h), λ (e, h). (e, rw (reads k) h))
 
-  buffer : {n : Step} {m : calculus.Step} → Simulates τ n m → m .call .buffer ≡ length (n .call .out)
+  buffer : {n : Step} {m : calculus.ConfigStep} → Simulates τ n m → m .call .buffer ≡ length (n .call .out)
   buffer (same s c k l) = refl
 
-  goes : {n : Step} {m : calculus.Step} → Simulates τ n m → calculus.Goes (calculus.replied m) → Goes (answer n)
-  goes (same s c k l) g = rw (answers τ s (k .keeps) (k .writable) c) (answered-goes (reply (s .config) (call-of c)) g)
+  goes : {n : Step} {m : calculus.ConfigStep} → Simulates τ n m → calculus.ReplyGoes (calculus.config-replied m) → Goes (answer n)
+  goes (same s c k l) g = rw (answers τ s (k .keeps) (k .writable) c) (answered-goes (config-reply (s .config) (call-of c)) g)
 
-  typed-left : {n : Step} {m : calculus.Step} → Simulates τ n m → ValuesTyped τ (after τ (m .before) (m .call)) → ValuesTypedIn τ (left n) (types-left τ n)
+  typed-left : {n : Step} {m : calculus.ConfigStep} → Simulates τ n m → ValuesTyped τ (state-after τ (m .before) (m .call)) → ValuesTypedIn τ (left n) (types-left τ n)
   typed-left (same s c k l) v =
       rw (leaves-image τ s (k .keeps) (k .writable) c, leaves-types τ s (k .keeps) (k .writable) c, reads l) v
 
-module _ (τ : TypeNumbers) (s : State) (kept : AllKept τ s) (claim : (run : List calculus.Call) → calculus.Demand τ s run) (calls : List Call) where
+module _ (τ : TypeNumbers) (s : State) (kept : AllKept τ s) (claim : (run : List calculus.ConfigCall) → calculus.ConfigDemand τ s run) (calls : List Call) where
   pub run-demand : Demand τ (image-of (s .config)) (s .names) calls
   run-demand = record {
     one-application = λ z i j m n p q am an.

@@ -14,7 +14,7 @@ use Rattle.calculus.specs.Reduction.{Rule, number, Reduces}
 use Rattle.calculus.specs.Step.{rule, waiting, done, no-thread, used-handle, wrong-kind, step-of}
 use Rattle.calculus.specs.Limits.{max-image-length}
 use Rattle.calculus.specs.Image.{ImageRule, WithinLimits, limits-test, Writable}
-use Rattle.calculus.specs.Run.{Reply, moved, refuses, reply-of}
+use Rattle.calculus.specs.Reply.{Reply, moved, refuses, reply-of}
 use Rattle.calculus.specs.Theory.Tests.{clash, ltb-not}
 use Rattle.calculus.specs.Theory.Step.{rule-iff}
 use Rattle.calculus.specs.Theory.Replies.{moved-answer}
