@@ -4,6 +4,7 @@ use Prim.Native.Nat.{ℕ}
 use Rattle.calculus.specs.Syntax.{Config}
 use Rattle.calculus.specs.Reduction.{number}
 use Rattle.calculus.specs.Step.{Answer, rule, waiting, done, no-thread, used-handle, wrong-kind}
+use Rattle.calculus.specs.Causes.{no-thread-cause, room-cause, used-handle-cause, wrong-kind-cause}
 use Rattle.calculus.specs.Image.{limits-test}
 
 -- what a step answers, with document 01's numbers: a rule's number and the new image (its length is
@@ -16,9 +17,9 @@ pub data Reply : Type 0 where
 
 -- causes 14 to 17. 15: "a rule applies, outcome above 256 names or 4,096 nodes"
 unfoldable pub reply-of : Answer → Reply
-reply-of (rule r C′) = cond (limits-test C′) (moved (number r) C′) (refuses 15)
+reply-of (rule r C′) = cond (limits-test C′) (moved (number r) C′) (refuses room-cause)
 reply-of (waiting y) = waits y
 reply-of done = finished
-reply-of no-thread = refuses 14
-reply-of used-handle = refuses 16
-reply-of wrong-kind = refuses 17
+reply-of no-thread = refuses no-thread-cause
+reply-of used-handle = refuses used-handle-cause
+reply-of wrong-kind = refuses wrong-kind-cause
