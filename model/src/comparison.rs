@@ -149,8 +149,9 @@ impl<'a, I: Implementation> Comparison<'a, I> {
         let pattern = pattern(&self.pattern, draw, length);
         let out = self.out.last(length);
         out.copy_from_slice(pattern);
-        let Some(found) = self.implementation.load(self.input.place(file), out) else {
-            return Ok(());
+        let found = match self.implementation.load(self.input.place(file), out) {
+            Some(found) => found,
+            None => return Ok(()),
         };
         self.expected_out.clear();
         self.expected_out.extend_from_slice(pattern);
@@ -210,8 +211,9 @@ impl<'a, I: Implementation> Comparison<'a, I> {
         let out = self.out.last(length);
         out.copy_from_slice(pattern);
         let placed = self.input.place(image);
-        let Some(found) = self.implementation.step(placed, thread, out) else {
-            return Ok(None);
+        let found = match self.implementation.step(placed, thread, out) {
+            Some(found) => found,
+            None => return Ok(None),
         };
         self.expected_out.clear();
         self.expected_out.extend_from_slice(pattern);
@@ -239,8 +241,9 @@ fn pattern<'p>(bytes: &'p [u8], draw: &mut Draw, length: usize) -> &'p [u8] {
 
 /// Accepted exactly when every term has a derivation by Fig. 9 with a type of multiplicity many.
 fn derivations_agree(file: &[u8], answer: &VerdictAnswer) -> Result<(), Difference> {
-    let Some((table, terms)) = read_recipe(file) else {
-        return Ok(());
+    let (table, terms) = match read_recipe(file) {
+        Some(found) => found,
+        None => return Ok(()),
     };
     let derived = derived_types(&table, &terms);
     let numbers: Option<Vec<u8>> =

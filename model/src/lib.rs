@@ -2,6 +2,8 @@
 //! document and from the figures of the paper on the concurrent lambda calculus with futures.
 //! It is written to be read and to be compared with the proved library, not to be fast.
 
+#![deny(unsafe_op_in_unsafe_fn)]
+
 pub mod answers;
 pub mod command;
 pub mod comparison;

@@ -147,15 +147,16 @@ pub fn standings(nodes: &[Node]) -> Vec<Standing> {
         lambdas: 0,
     }];
     for node in nodes {
-        let Some(here) = coming.pop() else {
-            break;
+        let here = match coming.pop() {
+            Some(here) => here,
+            None => break,
         };
         result.push(here);
         let below = Standing {
             nesting: here.nesting + 1,
             lambdas: here.lambdas + usize::from(matches!(node, Node::Lambda(_))),
         };
-        coming.extend(std::iter::repeat_n(below, node.subterms()));
+        coming.extend(std::iter::repeat(below).take(node.subterms()));
     }
     result
 }

@@ -31,24 +31,26 @@ struct Meeting<'a> {
 
 /// The move of that thread.
 pub fn move_of(configuration: &Configuration, thread: usize) -> Move {
-    let Component::Thread(expression) = &configuration.components[thread] else {
-        unreachable!("only a thread moves");
+    let expression = match &configuration.components[thread] {
+        Component::Thread(expression) => expression,
+        _ => unreachable!("only a thread moves"),
     };
-    let Found::Meeting {
-        context,
-        function,
-        argument,
-    } = find(expression)
-    else {
-        return Move::Done;
-    };
-    let meeting = Meeting {
-        configuration,
-        thread,
-        context,
-        argument,
-    };
-    meeting.with_function(&function)
+    match find(expression) {
+        Found::Value => Move::Done,
+        Found::Meeting {
+            context,
+            function,
+            argument,
+        } => {
+            let meeting = Meeting {
+                configuration,
+                thread,
+                context,
+                argument,
+            };
+            meeting.with_function(&function)
+        }
+    }
 }
 
 impl Meeting<'_> {
@@ -146,8 +148,9 @@ impl Meeting<'_> {
 
     /// The first argument of a full exch: F[exch [] v].
     fn exchange(&self, exch: &Rc<Expression>, first: &Expression) -> Move {
-        let Expression::Name(y) = *first else {
-            return Move::WrongValue;
+        let y = match *first {
+            Expression::Name(y) => y,
+            _ => return Move::WrongValue,
         };
         match self.configuration.get(y) {
             Component::Thread(e) => {

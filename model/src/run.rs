@@ -27,8 +27,9 @@ impl Run {
     /// The run without steps; `None` for a recipe that is not accepted.
     pub fn start(file: &[u8]) -> Option<Run> {
         let mut out = vec![0; limits::IMAGE_BYTES];
-        let Loaded::Accepted(bay_types, length) = load(file, &mut out) else {
-            return None;
+        let (bay_types, length) = match load(file, &mut out) {
+            Loaded::Accepted(bay_types, length) => (bay_types, length),
+            _ => return None,
         };
         let (table, _) = read_recipe(file)?;
         let mut types = vec![setting_type(); bay_types.len()];
@@ -87,8 +88,9 @@ impl Run {
     /// What a rule makes known: new names and their types, the handle applied, the future bound.
     fn note(&mut self, before: &Configuration, thread: usize, rule: u8) -> Result<(), String> {
         let expression = before.components[thread].expression();
-        let Some(Found::Meeting { function, .. }) = expression.map(find) else {
-            return Err("a rule without a place".to_owned());
+        let function = match expression.map(find) {
+            Some(Found::Meeting { function, .. }) => function,
+            _ => return Err("a rule without a place".to_owned()),
         };
         match (&*function, rule) {
             (Expression::Constant(_, number), 2 | 4 | 6) => self.note_new_names(*number, rule),
@@ -114,8 +116,9 @@ impl Run {
 
     /// "no handle is applied in two of its steps and no future is bound in two"
     fn note_handle(&mut self, before: &Configuration, z: u8) -> Result<(), String> {
-        let Component::OpenHandle(y) = before.get(z) else {
-            return Err(format!("rule 5 on {z}, which is no open handle"));
+        let y = match before.get(z) {
+            Component::OpenHandle(y) => y,
+            _ => return Err(format!("rule 5 on {z}, which is no open handle")),
         };
         if self.applied_handles.contains(&z) || self.bound_futures.contains(y) {
             return Err(format!("handle {z} or future {y} a second time"));

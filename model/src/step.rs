@@ -30,8 +30,9 @@ pub fn stepped(image: &[u8], thread: u64, out_length: usize) -> Stepped {
     if out_length < limits::IMAGE_BYTES {
         return Stepped::Refused(12);
     }
-    let Some(configuration) = read_image(image) else {
-        return Stepped::Refused(13);
+    let configuration = match read_image(image) {
+        Some(configuration) => configuration,
+        None => return Stepped::Refused(13),
     };
     step_configuration(&configuration, thread)
 }
@@ -40,8 +41,9 @@ pub fn stepped(image: &[u8], thread: u64, out_length: usize) -> Stepped {
 pub fn step_configuration(configuration: &Configuration, thread: u64) -> Stepped {
     let place = usize::try_from(thread).ok();
     let component = place.and_then(|place| configuration.components.get(place));
-    let (Some(place), Some(Component::Thread(_))) = (place, component) else {
-        return Stepped::Refused(14);
+    let place = match (place, component) {
+        (Some(place), Some(Component::Thread(_))) => place,
+        _ => return Stepped::Refused(14),
     };
     match move_of(configuration, place) {
         Move::Rule(_, next) if !next.is_within_limits() => Stepped::Refused(15),

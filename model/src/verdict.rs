@@ -107,8 +107,10 @@ fn names_nothing(table: &Table, bays: usize, term: &[Node]) -> bool {
 /// narrowing broken".
 fn has_unfit_type(table: &Table, term: &[Node]) -> bool {
     let unfit = |node: &Node| match node {
-        Node::Lambda(t) => table.get(*t).is_none_or(|whole| whole.function().is_none()),
-        Node::Constant(c, t) => table.get(*t).is_none_or(|whole| !is_instance(*c, whole)),
+        Node::Lambda(t) => table
+            .get(*t)
+            .map_or(true, |whole| whole.function().is_none()),
+        Node::Constant(c, t) => table.get(*t).map_or(true, |whole| !is_instance(*c, whole)),
         _ => false,
     };
     term.iter().any(unfit)
@@ -162,7 +164,7 @@ fn misuses_once(table: &Table, e: &Expression) -> bool {
     match e {
         Expression::Lambda(t, x, body) => {
             let once = table.get(*t).and_then(|whole| whole.function());
-            let once = once.is_some_and(|(parameter, _)| parameter.is_once());
+            let once = once.map_or(false, |(parameter, _)| parameter.is_once());
             let misused = once && (uses(*x, body) != 1 || free_under_many(table, *x, body));
             misused || misuses_once(table, body)
         }
@@ -197,7 +199,7 @@ fn free_under_many(table: &Table, x: Variable, e: &Expression) -> bool {
 
 /// Cause 11: "a bay's type has multiplicity once".
 fn is_once_at_root(table: &Table, e: &Expression) -> bool {
-    type_of(table, e).is_some_and(|found| found.is_once())
+    type_of(table, e).map_or(false, |found| found.is_once())
 }
 
 /// The environment of a recipe of that many bays: each setting a cell of num.

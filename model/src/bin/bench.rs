@@ -7,7 +7,7 @@ use model::ffi::Library;
 use model::format::write_parts;
 use model::generate::recipes;
 use model::limits;
-use model::timing::{fastest, Work};
+use model::timing::{fastest, opaque, Work};
 use std::time::Duration;
 
 /// How often each work is measured, and how long at least.
@@ -70,7 +70,7 @@ fn row(call: &str, input: &str, mut works: [Work; 3]) {
 fn check<'a>(implementation: &'a dyn Implementation, corpus: &'a Corpus) -> Work<'a> {
     Box::new(|| {
         for file in &corpus.files {
-            std::hint::black_box(implementation.check(std::hint::black_box(file)));
+            opaque(implementation.check(opaque(file)));
         }
         corpus.files.len() as u64
     })
@@ -80,8 +80,8 @@ fn load<'a>(implementation: &'a dyn Implementation, corpus: &'a Corpus) -> Work<
     let mut out = vec![0; limits::IMAGE_BYTES];
     Box::new(move || {
         for file in &corpus.files {
-            let file = std::hint::black_box(file);
-            std::hint::black_box(implementation.load(file, &mut out));
+            let file = opaque(file);
+            opaque(implementation.load(file, &mut out));
         }
         corpus.files.len() as u64
     })
@@ -92,7 +92,7 @@ fn step<'a>(implementation: &'a dyn Implementation, start: &'a [u8], thread: u64
     let mut image = start.to_vec();
     let mut out = vec![0; limits::IMAGE_BYTES];
     Box::new(move || {
-        let stepped = implementation.step(std::hint::black_box(&image), thread, &mut out);
+        let stepped = implementation.step(opaque(&image), thread, &mut out);
         let stepped = stepped.unwrap_or_default();
         image.clear();
         if stepped.outcome == RULE {

@@ -4,7 +4,7 @@
 use model::answers::{Implementation, Plain};
 use model::ffi::Library;
 use model::format::write_parts;
-use model::timing::{fastest, Work};
+use model::timing::{fastest, opaque, Work};
 use std::fmt::Write as _;
 use std::time::Duration;
 
@@ -23,12 +23,12 @@ struct Curve {
 }
 
 fn check(implementation: &dyn Implementation, file: &[u8]) {
-    std::hint::black_box(implementation.check(std::hint::black_box(file)));
+    opaque(implementation.check(opaque(file)));
 }
 
 fn step(implementation: &dyn Implementation, image: &[u8]) {
     let mut out = [0; IMAGE_BYTES];
-    std::hint::black_box(implementation.step(std::hint::black_box(image), 0, &mut out));
+    opaque(implementation.step(opaque(image), 0, &mut out));
 }
 
 /// An image of threads, one for each expression.
@@ -152,9 +152,12 @@ fn panel(svg: &mut String, left: f64, curve: &Curve, measured: &[(usize, f64, f6
 }
 
 fn main() {
-    let Some(path) = std::env::args().nth(1) else {
-        eprintln!("use: growth OUT.svg");
-        std::process::exit(1);
+    let path = match std::env::args().nth(1) {
+        Some(path) => path,
+        None => {
+            eprintln!("use: growth OUT.svg");
+            std::process::exit(1);
+        }
     };
     let mut svg = String::from(
         "<svg xmlns='http://www.w3.org/2000/svg' width='960' height='320' font-family='sans-serif' font-size='14'>\n\

@@ -233,7 +233,7 @@ fn growing(draw: &mut Draw) -> Vec<Node> {
         term.extend([Node::Application, Node::Variable(0)]);
     }
     term.push(Node::Unit);
-    term.extend(std::iter::repeat_n(Node::Lambda(2), draw.between(5, 20)));
+    term.extend(std::iter::repeat(Node::Lambda(2)).take(draw.between(5, 20)));
     term.push(Node::Unit);
     term
 }
@@ -266,8 +266,9 @@ fn grow(draw: &mut Draw, configuration: &mut Configuration, wanted: usize) {
         - configuration.components[chosen]
             .expression()
             .map_or(0, |e| e.size());
-    let Some(room) = wanted.checked_sub(others).filter(|room| *room >= 1) else {
-        return;
+    let room = match wanted.checked_sub(others).filter(|room| *room >= 1) {
+        Some(room) => room,
+        None => return,
     };
     let expression = tree(&large(draw, configuration.names(), room));
     configuration.components[chosen] = Component::Thread(expression);

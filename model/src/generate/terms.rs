@@ -187,7 +187,7 @@ impl<'a> TermMaker<'a> {
         };
         let results = |place: &usize| {
             let parts = self.table.function_parts(self.scope[*place]);
-            parts.is_some_and(|(_, _, result)| result == goal)
+            parts.map_or(false, |(_, _, result)| result == goal)
         };
         let places = 0..self.scope.len();
         let candidates: Vec<usize> = places.filter(|p| usable(p) && results(p)).collect();

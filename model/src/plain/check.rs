@@ -88,10 +88,7 @@ fn check_pairs(file: &[u8], n: usize) -> Result<(), u32> {
         expected += length;
     }
     let table_length = number_at(file, 6);
-    if expected != file.len()
-        || !table_length.is_multiple_of(3)
-        || !(9..=768).contains(&table_length)
-    {
+    if expected != file.len() || table_length % 3 != 0 || !(9..=768).contains(&table_length) {
         return Err(3);
     }
     Ok(())

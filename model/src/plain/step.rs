@@ -22,16 +22,18 @@ pub fn step(bytes: &[u8], thread: u64, out: &mut [u8]) -> Stepped {
         return Stepped::Refused(12);
     }
     let mut levels = ExpressionLevels::new();
-    let Some(image) = read(&mut levels, bytes) else {
-        return Stepped::Refused(13);
+    let image = match read(&mut levels, bytes) {
+        Some(image) => image,
+        None => return Stepped::Refused(13),
     };
     if thread >= image.names as u64 || image.kind(thread as usize) != 1 {
         return Stepped::Refused(14);
     }
     let thread = thread as usize;
     let expression = image.expression(thread);
-    let Some(place) = find(expression) else {
-        return Stepped::Done;
+    let place = match find(expression) {
+        Some(place) => place,
+        None => return Stepped::Done,
     };
     let change = match decide(image, expression, place) {
         Ok(change) => change,

@@ -74,8 +74,9 @@ fn wider(term: &str, more: usize) -> String {
 /// A load and steps of these threads: the rules answered (0 for none), and the last image.
 pub fn run(file: &[u8], threads: &[u64]) -> (Vec<u8>, Vec<u8>) {
     let mut out = vec![0; limits::IMAGE_BYTES];
-    let Loaded::Accepted(_, length) = load(file, &mut out) else {
-        panic!("refused");
+    let length = match load(file, &mut out) {
+        Loaded::Accepted(_, length) => length,
+        _ => panic!("refused"),
     };
     let mut image = out[..length].to_vec();
     let mut answers = Vec::new();

@@ -46,13 +46,16 @@ pub fn opening(file: &[u8]) -> Result<(), Fault> {
 /// Cause 3.
 pub fn layout(file: &[u8]) -> Result<(), Fault> {
     let n = usize::from(file[3]);
-    let Some(pairs) = pairs(file) else {
-        let found = format!(
-            "{n} pairs end at byte {}, and the file has {} bytes",
-            first_offset(n),
-            file.len()
-        );
-        return refuse(3, Place::Pair(n - 1), file.len(), found);
+    let pairs = match pairs(file) {
+        Some(pairs) => pairs,
+        None => {
+            let found = format!(
+                "{n} pairs end at byte {}, and the file has {} bytes",
+                first_offset(n),
+                file.len()
+            );
+            return refuse(3, Place::Pair(n - 1), file.len(), found);
+        }
     };
     let mut expected = first_offset(n);
     for (part, pair) in pairs.iter().enumerate() {
@@ -93,7 +96,7 @@ fn pair_is_sound(file: &[u8], part: usize, pair: Pair, expected: usize) -> Resul
 
 fn table_length(length: usize) -> Result<(), Fault> {
     let entries = length / limits::ENTRY_BYTES;
-    let whole = length.is_multiple_of(limits::ENTRY_BYTES);
+    let whole = length % limits::ENTRY_BYTES == 0;
     if whole && limits::ENTRIES.contains(&entries) {
         return Ok(());
     }

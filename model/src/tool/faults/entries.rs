@@ -23,7 +23,7 @@ pub fn entries(recipe: &Parts) -> Result<(), Fault> {
 /// Which rule the entry breaks, if it breaks one.
 fn broken(entries: &[Entry], number: usize, entry: Entry) -> Option<String> {
     let first = FIRST_ENTRIES.get(number);
-    if first.is_some_and(|first| *first != entry) {
+    if first.map_or(false, |first| *first != entry) {
         let due = [
             "unit (00 00 00)",
             "num (01 00 00)",

@@ -12,7 +12,7 @@ use crate::tool::text::type_texts::TypeTexts;
 fn is_kind(entries: &[Entry], number: u8, kind: u8) -> bool {
     entries
         .get(usize::from(number))
-        .is_some_and(|e| e.kind == kind)
+        .map_or(false, |e| e.kind == kind)
 }
 
 /// Cause 10.
@@ -35,8 +35,9 @@ fn misused(
     outline: &Outline,
     lambda: usize,
 ) -> Option<(usize, String)> {
-    let Node::Lambda(t) = nodes[lambda] else {
-        return None;
+    let t = match nodes[lambda] {
+        Node::Lambda(t) => t,
+        _ => return None,
     };
     let (parameter, _) = function(entries, t)?;
     if !is_kind(entries, parameter, ONCE) {

@@ -62,7 +62,7 @@ impl Layout<'_> {
 
     fn new_line(&mut self, indent: usize) {
         self.out.push('\n');
-        self.out.extend(std::iter::repeat_n(' ', indent));
+        self.out.extend(std::iter::repeat(' ').take(indent));
     }
 
     /// The lambdas that follow each other in one line, then the body.
