@@ -14,7 +14,7 @@ use std::fmt;
 /// Room for the longest file or image that the generator makes.
 const INPUT_ROOM: usize = 1 << 17;
 /// Room for the longest out buffer.
-const OUT_ROOM: usize = 2 * limits::IMAGE_BYTES;
+const OUT_ROOM: usize = 2 * limits::MAX_IMAGE;
 /// After how many recipes every constant is tried at every type of another table.
 const TABLE_EVERY: u64 = 5_000;
 /// The most steps of one run.
@@ -171,7 +171,7 @@ impl<'a, I: Implementation> Comparison<'a, I> {
 
     /// A run: random threads and buffers, refused and idle steps among them.
     pub fn compare_run(&mut self, draw: &mut Draw, file: &[u8]) -> Result<(), Difference> {
-        let mut out = vec![0; limits::IMAGE_BYTES];
+        let mut out = vec![0; limits::MAX_IMAGE];
         let loaded = Model.load(file, &mut out).unwrap_or_default();
         let mut image = out[..loaded.length as usize].to_vec();
         let mut thread = images::thread_number(draw, &image);

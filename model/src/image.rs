@@ -2,15 +2,10 @@
 
 use crate::config::{Component, Configuration};
 use crate::expression::Expression;
+use crate::kinds::{CELL, FUTURE, OPEN_HANDLE, THREAD, USED_HANDLE};
 use crate::limits;
 use crate::nodes::{read_term, standings, write_term, Node};
 use std::rc::Rc;
-
-const THREAD: u8 = 1;
-const CELL: u8 = 2;
-const OPEN_HANDLE: u8 = 3;
-const USED_HANDLE: u8 = 4;
-const FUTURE: u8 = 5;
 
 /// "heads of six bytes: kind, companion byte, offset, length"
 #[derive(Debug, Clone, Copy, PartialEq, Eq)]
@@ -52,7 +47,7 @@ fn heads(image: &[u8]) -> Option<Vec<Head>> {
 /// The configuration of an image, or `None` when it breaks a rule or limit (refusal 13).
 pub fn read_image(image: &[u8]) -> Option<Configuration> {
     let heads = heads(image)?;
-    let sound = heads.len() <= limits::NAMES
+    let sound = heads.len() <= limits::MAX_NAMES
         && kinds_are_known(&heads)
         && expressions_are_laid_out(&heads, image.len())
         && others_have_no_expression(&heads)
@@ -63,7 +58,7 @@ pub fn read_image(image: &[u8]) -> Option<Configuration> {
     }
     let terms = read_expressions(&heads, image)?;
     let nodes: usize = terms.iter().flatten().map(Vec::len).sum();
-    let fits = nodes <= limits::IMAGE_NODES
+    let fits = nodes <= limits::MAX_NODES
         && terms.iter().flatten().all(|term| variables_are_bound(term))
         && terms
             .iter()

@@ -5,6 +5,7 @@
 #![deny(unsafe_op_in_unsafe_fn)]
 
 pub mod answers;
+pub mod causes;
 pub mod command;
 pub mod comparison;
 pub mod config;
@@ -18,14 +19,17 @@ pub mod format;
 pub mod generate;
 pub mod guard;
 pub mod image;
+pub mod kinds;
 pub mod limits;
 pub mod load;
 pub mod nodes;
 pub mod plain;
 pub mod reduce;
+pub mod rules;
 pub mod run;
 pub mod step;
 pub mod table;
+pub mod tags;
 pub mod timing;
 pub mod tool;
 pub mod types;

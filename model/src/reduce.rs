@@ -3,6 +3,7 @@
 use crate::config::{Component, Configuration};
 use crate::context::{find, Context, Found};
 use crate::expression::{apply, Expression};
+use crate::rules;
 use crate::types::Constant;
 use std::rc::Rc;
 
@@ -80,7 +81,7 @@ impl Meeting<'_> {
 
     /// (BETA) E[(λy.e) v] → E[e[v/y]]
     fn beta(&self, substituted: Rc<Expression>) -> Move {
-        Move::Rule(1, self.goes_on(substituted))
+        Move::Rule(rules::BETA, self.goes_on(substituted))
     }
 
     /// (THREAD.NEW) E[thread v] → E[y] | y ← v y
@@ -89,7 +90,7 @@ impl Meeting<'_> {
         let mut next = self.goes_on(y.clone());
         let expression = apply(self.argument.clone(), y);
         next.components.push(Component::Thread(expression));
-        Move::Rule(2, next)
+        Move::Rule(rules::THREAD_NEW, next)
     }
 
     /// (HANDLE.NEW) E[handle v] → E[v y z] | z h y, y taking m and z taking m + 1
@@ -101,7 +102,7 @@ impl Meeting<'_> {
         let mut next = self.goes_on(applied);
         next.components.push(Component::Future);
         next.components.push(Component::OpenHandle(y));
-        Move::Rule(4, next)
+        Move::Rule(rules::HANDLE_NEW, next)
     }
 
     /// (CELL.NEW) E[cell v] → E[y] | y c v
@@ -109,7 +110,7 @@ impl Meeting<'_> {
         let y = Rc::new(Expression::Name(self.new_name()));
         let mut next = self.goes_on(y);
         next.components.push(Component::Cell(self.argument.clone()));
-        Move::Rule(6, next)
+        Move::Rule(rules::CELL_NEW, next)
     }
 
     /// A name at the function of an application: F[[] v].
@@ -136,14 +137,17 @@ impl Meeting<'_> {
         if !e.is_value() {
             return Move::Waiting(y);
         }
-        Move::Rule(3, self.goes_on(replaced(e.clone())))
+        Move::Rule(rules::FUTURE_DEREF, self.goes_on(replaced(e.clone())))
     }
 
     /// (HANDLE.BIND) E[z v] | z h y → E[unit] | y ← v | z h •
     fn handle_bind(&self, z: u8, y: u8) -> Move {
         let next = self.goes_on(Rc::new(Expression::Unit));
         let next = next.with(usize::from(y), Component::Thread(self.argument.clone()));
-        Move::Rule(5, next.with(usize::from(z), Component::UsedHandle))
+        Move::Rule(
+            rules::HANDLE_BIND,
+            next.with(usize::from(z), Component::UsedHandle),
+        )
     }
 
     /// The first argument of a full exch: F[exch [] v].

@@ -14,7 +14,7 @@ use model::tool::write::made;
 
 /// The history of a run, and the number of bays.
 fn history(file: &[u8], turns: u64, mut order: Order) -> History {
-    let mut image = vec![0; limits::IMAGE_BYTES];
+    let mut image = vec![0; limits::MAX_IMAGE];
     let loaded = Model.load(file, &mut image).unwrap_or_default();
     image.truncate(loaded.length as usize);
     let bays = loaded.bays as usize;

@@ -77,7 +77,7 @@ fn check<'a>(implementation: &'a dyn Implementation, corpus: &'a Corpus) -> Work
 }
 
 fn load<'a>(implementation: &'a dyn Implementation, corpus: &'a Corpus) -> Work<'a> {
-    let mut out = vec![0; limits::IMAGE_BYTES];
+    let mut out = vec![0; limits::MAX_IMAGE];
     Box::new(move || {
         for file in &corpus.files {
             let file = opaque(file);
@@ -90,7 +90,7 @@ fn load<'a>(implementation: &'a dyn Implementation, corpus: &'a Corpus) -> Work<
 /// Steps one thread as far as it goes, then begins again.
 fn step<'a>(implementation: &'a dyn Implementation, start: &'a [u8], thread: u64) -> Work<'a> {
     let mut image = start.to_vec();
-    let mut out = vec![0; limits::IMAGE_BYTES];
+    let mut out = vec![0; limits::MAX_IMAGE];
     Box::new(move || {
         let stepped = implementation.step(opaque(&image), thread, &mut out);
         let stepped = stepped.unwrap_or_default();
@@ -106,7 +106,7 @@ fn step<'a>(implementation: &'a dyn Implementation, start: &'a [u8], thread: u64
 
 /// The starting images of the examples and of some recipes, and an image at the limits.
 fn images() -> Vec<(&'static str, Vec<u8>, u64)> {
-    let mut out = vec![0; limits::IMAGE_BYTES];
+    let mut out = vec![0; limits::MAX_IMAGE];
     let mut image = |file: &[u8]| {
         let loaded = Model.load(file, &mut out).unwrap_or_default();
         out[..loaded.length as usize].to_vec()

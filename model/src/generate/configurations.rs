@@ -37,8 +37,8 @@ impl<'a> Maker<'a> {
     fn leaf(&mut self, lambdas: usize) {
         let node = match self.draw.below(6) {
             0 => Node::Unit,
-            1 if self.draw.one_in(3) => Node::Num(limits::NUM),
-            1 => Node::Num(self.draw.below(usize::from(limits::NUM) + 1) as u16),
+            1 if self.draw.one_in(3) => Node::Num(limits::MAX_NUM),
+            1 => Node::Num(self.draw.below(usize::from(limits::MAX_NUM) + 1) as u16),
             2 => Node::Constant(self.draw.pick(&CONSTANTS), self.draw.byte()),
             3 | 4 if lambdas > 0 => Node::Variable(self.draw.below(lambdas.min(256)) as u8),
             _ => Node::Name(self.draw.below(self.names) as u8),
@@ -219,7 +219,7 @@ pub fn outcome_at_limit(draw: &mut Draw) -> Configuration {
     if outcomes.is_empty() {
         return configuration;
     }
-    let wanted = draw.between(limits::IMAGE_NODES - 2, limits::IMAGE_NODES + 2);
+    let wanted = draw.between(limits::MAX_NODES - 2, limits::MAX_NODES + 2);
     let filler = wanted - draw.pick(&outcomes).min(wanted - 1);
     let expression = tree(&large(draw, names, filler));
     configuration.components.push(Component::Thread(expression));

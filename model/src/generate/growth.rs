@@ -71,7 +71,7 @@ fn leaves(draft: &Draft, only_nums: bool) -> Vec<(usize, usize)> {
         let standing = standings(term);
         for (at, (node, here)) in term.iter().zip(standing).enumerate() {
             let wanted = matches!(node, Node::Num(_)) || (*node == Node::Unit && !only_nums);
-            if wanted && here.nesting + 2 <= limits::NESTING {
+            if wanted && here.nesting + 2 <= limits::MAX_NESTING {
                 places.push((bay, at));
             }
         }

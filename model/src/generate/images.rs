@@ -3,6 +3,7 @@
 use crate::draw::Draw;
 use crate::generate::configurations::{configuration, configuration_at_limits, outcome_at_limit};
 use crate::image::write_image;
+use crate::kinds;
 use crate::limits;
 
 /// A slice to step: mostly an image, sometimes a damaged one.
@@ -51,8 +52,8 @@ fn raise_a_num(image: &mut [u8]) {
 
 /// A used handle becomes an open one, of a future that has a handle or of any name.
 fn open_a_used_handle(image: &mut [u8], draw: &mut Draw) {
-    let used = names_of_kind(image, 4);
-    let futures = names_of_kind(image, 5);
+    let used = names_of_kind(image, kinds::USED_HANDLE);
+    let futures = names_of_kind(image, kinds::FUTURE);
     if used.is_empty() {
         return;
     }
@@ -63,7 +64,7 @@ fn open_a_used_handle(image: &mut [u8], draw: &mut Draw) {
         draw.pick(&futures) as u8
     };
     let head = limits::COUNT_BYTES + limits::HEAD_BYTES * handle;
-    image[head..head + 2].copy_from_slice(&[3, companion]);
+    image[head..head + 2].copy_from_slice(&[kinds::OPEN_HANDLE, companion]);
 }
 
 /// A field of a head changed a little: kind, companion, offset or length.
@@ -102,9 +103,9 @@ fn names_of_kind(image: &[u8], wanted: u8) -> Vec<u64> {
     let names = usize::from(u16::from_le_bytes([count[0], count[1]]));
     let heads = image.get(limits::COUNT_BYTES..).unwrap_or(&[]);
     let heads = heads.chunks_exact(limits::HEAD_BYTES).take(names);
-    let kinds = heads.map(|head| head[0]);
+    let found = heads.map(|head| head[0]);
     (0..)
-        .zip(kinds)
+        .zip(found)
         .filter(|(_, kind)| *kind == wanted)
         .map(|(name, _)| name)
         .collect()
@@ -114,7 +115,7 @@ fn names_of_kind(image: &[u8], wanted: u8) -> Vec<u64> {
 pub fn thread_number(draw: &mut Draw, image: &[u8]) -> u64 {
     let names = u64::from(image.first().copied().unwrap_or(0));
     let below = draw.below(names as usize + 1) as u64;
-    let threads = names_of_kind(image, 1);
+    let threads = names_of_kind(image, kinds::THREAD);
     match draw.below(30) {
         0 => names,
         1 => below + 256,
@@ -131,10 +132,10 @@ pub fn thread_number(draw: &mut Draw, image: &[u8]) -> u64 {
 pub fn out_length(draw: &mut Draw) -> usize {
     match draw.below(24) {
         0 => 0,
-        1 => limits::IMAGE_BYTES - 1,
-        2 => limits::IMAGE_BYTES + 1,
-        3 => draw.below(limits::IMAGE_BYTES),
-        4 => limits::IMAGE_BYTES + draw.below(5_000),
-        _ => limits::IMAGE_BYTES,
+        1 => limits::MAX_IMAGE - 1,
+        2 => limits::MAX_IMAGE + 1,
+        3 => draw.below(limits::MAX_IMAGE),
+        4 => limits::MAX_IMAGE + draw.below(5_000),
+        _ => limits::MAX_IMAGE,
     }
 }

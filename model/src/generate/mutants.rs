@@ -5,7 +5,7 @@ use crate::format::{write_parts, Recipe};
 use crate::generate::recipes::well_typed;
 use crate::limits;
 use crate::nodes::{end_of_term, Node};
-use crate::table::{entry, Entry};
+use crate::table::{entry, Entry, CELL, MANY, ONCE};
 use crate::types::Constant;
 
 /// A recipe changed in one to four places, its layout kept.
@@ -123,8 +123,8 @@ pub fn near_type(recipe: &mut Recipe, draw: &mut Draw, number: u8, levels: usize
         None => return number,
     };
     let other = draw.below(recipe.entries.len()) as u8;
-    let first = draw.one_in(2) || near.kind < 3;
-    if near.kind < 2 {
+    let first = draw.one_in(2) || near.kind < ONCE;
+    if near.kind < CELL {
         return other;
     }
     match (levels > 0, first) {
@@ -133,8 +133,8 @@ pub fn near_type(recipe: &mut Recipe, draw: &mut Draw, number: u8, levels: usize
         (false, _) => match draw.below(4) {
             0 => near = entry(2, near.p, 0),
             1 => near.p = other,
-            2 if near.kind >= 3 => near.q = other,
-            _ => near.kind = if near.kind == 4 { 3 } else { 4 },
+            2 if near.kind >= ONCE => near.q = other,
+            _ => near.kind = if near.kind == MANY { ONCE } else { MANY },
         },
     }
     number_of(recipe, near)
@@ -244,8 +244,8 @@ fn change_bays(recipe: &mut Recipe, draw: &mut Draw) {
         0 if recipe.terms.len() > 1 => {
             recipe.terms.pop();
         }
-        1 => recipe.terms.resize(limits::BAYS, some),
-        2 if draw.one_in(3) => recipe.terms.resize(limits::BAYS + 1, vec![Node::Unit]),
+        1 => recipe.terms.resize(limits::MAX_BAYS, some),
+        2 if draw.one_in(3) => recipe.terms.resize(limits::MAX_BAYS + 1, vec![Node::Unit]),
         _ => recipe.terms.push(some),
     }
 }

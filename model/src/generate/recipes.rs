@@ -88,7 +88,7 @@ pub fn with_faults(draw: &mut Draw) -> Recipe {
 
 fn draft(draw: &mut Draw, faults: Faults) -> Draft {
     let bays = match draw.below(8) {
-        0 => draw.between(1, limits::BAYS),
+        0 => draw.between(1, limits::MAX_BAYS),
         1 => draw.between(2, 4),
         _ => 1,
     };
@@ -149,10 +149,10 @@ pub fn at_a_limit(draw: &mut Draw) -> Recipe {
     };
     let mut made = draft_as_wished(draw, &wish);
     if draw.one_in(2) {
-        grow_to_nesting(&mut made, draw, limits::NESTING + past);
+        grow_to_nesting(&mut made, draw, limits::MAX_NESTING + past);
     }
     if draw.one_in(2) {
-        grow_to_nodes(&mut made, draw, limits::NODES + past);
+        grow_to_nodes(&mut made, draw, limits::MAX_RECIPE_NODES + past);
     }
     if draw.one_in(2) {
         let wanted = *limits::ENTRIES.end() - draw.below(2);
@@ -165,14 +165,14 @@ pub fn at_a_limit(draw: &mut Draw) -> Recipe {
 pub fn largest(draw: &mut Draw) -> Recipe {
     loop {
         let wish = Wish {
-            bays: limits::BAYS,
+            bays: limits::MAX_BAYS,
             fuel: 20,
             deepest: 20,
             faults: Faults::default(),
         };
         let mut made = draft_as_wished(draw, &wish);
-        let nested = grow_to_nesting(&mut made, draw, limits::NESTING);
-        let grown = nested.and_then(|()| grow_to_nodes(&mut made, draw, limits::NODES));
+        let nested = grow_to_nesting(&mut made, draw, limits::MAX_NESTING);
+        let grown = nested.and_then(|()| grow_to_nodes(&mut made, draw, limits::MAX_RECIPE_NODES));
         made.table.fill(draw, *limits::ENTRIES.end());
         if grown.is_some() && made.table.len() == *limits::ENTRIES.end() {
             return made.finish();

@@ -88,7 +88,7 @@ impl<'a> TermMaker<'a> {
         if !duties.is_empty() {
             return None;
         }
-        let value = self.draw.between(0, usize::from(limits::NUM)) as u16;
+        let value = self.draw.between(0, usize::from(limits::MAX_NUM)) as u16;
         let node = match goal {
             UNIT_NUMBER => Node::Unit,
             NUM_NUMBER => Node::Num(value),
@@ -316,7 +316,7 @@ impl<'a> TermMaker<'a> {
 
     /// A small term of the type that does the duties one after the other.
     fn simplest(&mut self, goal: u8, duties: Duties, nesting: usize) -> Option<()> {
-        if nesting > limits::NESTING {
+        if nesting > limits::MAX_NESTING {
             return None;
         }
         match duties.split_last() {
@@ -391,7 +391,7 @@ impl<'a> TermMaker<'a> {
     fn simplest_future(&mut self, goal: u8, nesting: usize) -> Option<()> {
         let body = self.table.function(Multiplicity::Many, goal, goal)?;
         let whole = self.table.function(Multiplicity::Many, body, goal)?;
-        if nesting + 2 > limits::NESTING {
+        if nesting + 2 > limits::MAX_NESTING {
             return None;
         }
         self.nodes.push(Node::Application);

@@ -12,7 +12,7 @@ use std::fmt::Debug;
 /// Room for the longest recipe or image that the generator makes.
 const INPUT_ROOM: usize = 1 << 17;
 /// Room for the longest out buffer.
-const OUT_ROOM: usize = 2 * limits::IMAGE_BYTES;
+const OUT_ROOM: usize = 2 * limits::MAX_IMAGE;
 
 /// Three answers as texts: A's, B's and the model's, each with its out buffer.
 #[derive(Debug, Default)]

@@ -1,5 +1,6 @@
 //! Causes 8 and 9: the types of lambdas and constants, and whether they agree.
 
+use crate::causes;
 use crate::nodes::{end_of_term, Node};
 use crate::table::Table;
 use crate::tool::faults::terms::at_node;
@@ -30,7 +31,7 @@ pub fn fit_types(recipe: &Parts, terms: &[Vec<Node>]) -> Result<(), Fault> {
                 _ => None,
             };
             if let Some(found) = unfit {
-                return Err(at_node(recipe, 8, (bay, at), nodes, found));
+                return Err(at_node(recipe, causes::ANNOTATION, (bay, at), nodes, found));
             }
         }
     }
@@ -58,7 +59,7 @@ pub fn agree(recipe: &Parts, terms: &[Vec<Node>]) -> Result<(), Fault> {
         while let Some(at) = found {
             found = (at + 1..end_of_term(nodes, at)).find(disagrees);
             if let (None, Some((place, why))) = (found, disagreement(&printer, at)) {
-                return Err(at_node(recipe, 9, (bay, place), nodes, why));
+                return Err(at_node(recipe, causes::TYPE, (bay, place), nodes, why));
             }
         }
     }

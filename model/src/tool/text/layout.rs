@@ -19,7 +19,7 @@ pub fn laid_out(printer: &Printer, indent: usize) -> String {
         .iter()
         .map(|above| above.nesting)
         .max();
-    if deepest > Some(limits::NESTING) {
+    if deepest > Some(limits::MAX_NESTING) {
         return printer.line(0, Standing::Alone);
     }
     let mut layout = Layout {

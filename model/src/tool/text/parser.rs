@@ -154,7 +154,7 @@ impl<'t> Parser<'t> {
             return Err(self.expected(&format!("{due}{more}")));
         }
         self.advance();
-        if bay >= limits::BAYS {
+        if bay >= limits::MAX_BAYS {
             return Err(error(here, "a recipe has at most 16 bays".to_owned()));
         }
         if self.peek() != Token::Number(&bay.to_string()) {
