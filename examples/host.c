@@ -16,7 +16,7 @@ static unsigned two_bytes(const uint8_t *at) {
 /* The setting of a bay is the cell with the bay's number: a num, or the name of a num still awaited. */
 static void print_vents(const uint8_t *image, uint32_t bays) {
     for (uint32_t bay = 0; bay < bays; bay++) {
-        const uint8_t *head = image + FIKAREHU_COUNT_BYTES + FIKAREHU_HEAD_BYTES * bay;
+        const uint8_t *head = image + FIKAREHU_FIRST_HEAD + FIKAREHU_HEAD_LENGTH * bay;
         const uint8_t *value = image + two_bytes(head + 2); /* after kind and companion comes the offset */
         if (value[0] == FIKAREHU_TAG_NUM) {
             unsigned opening = two_bytes(value + 1);

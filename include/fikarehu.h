@@ -53,16 +53,17 @@ enum {
 /* The limits of an image. */
 enum {
     FIKAREHU_MAX_NAMES = 256,
-    FIKAREHU_MAX_NODES = 4096,   /* nodes over all expressions */
-    FIKAREHU_MAX_IMAGE = 13826   /* bytes, and the least length of an out buffer */
+    FIKAREHU_MAX_NODES = 4096,  /* nodes over all expressions */
+    FIKAREHU_MAX_IMAGE = 13826  /* bytes, and the least length of an out buffer */
 };
 
-/* The shapes of a file and an image: bytes of an entry of the type table, of an image's number of
- * names, and of the head of each name. */
+/* Bytes: an entry of the type table, the longest node, the number of names before the first head
+ * of an image, and a head. */
 enum {
-    FIKAREHU_ENTRY_BYTES = 3,
-    FIKAREHU_COUNT_BYTES = 2,
-    FIKAREHU_HEAD_BYTES = 6
+    FIKAREHU_ENTRY_LENGTH = 3,
+    FIKAREHU_MAX_NODE_LENGTH = 3,
+    FIKAREHU_FIRST_HEAD = 2,
+    FIKAREHU_HEAD_LENGTH = 6
 };
 
 /* The kind of a name: the first byte of its head in an image. */
@@ -81,6 +82,13 @@ enum {
     FIKAREHU_TYPE_CELL = 2,
     FIKAREHU_TYPE_ONCE = 3,  /* a function usable once */
     FIKAREHU_TYPE_MANY = 4   /* a function usable many times */
+};
+
+/* The numbers of the first three entries of every type table: unit, num, cell of num. */
+enum {
+    FIKAREHU_UNIT_ENTRY = 0,
+    FIKAREHU_NUM_ENTRY = 1,
+    FIKAREHU_SETTING_ENTRY = 2
 };
 
 /* The tag of a node: the first byte of a term, and of each subterm. */

@@ -5,7 +5,7 @@
 #include "../include/fikarehu.h"
 #include "check.h"
 
-enum { MOST_TABLE = FIKAREHU_ENTRY_BYTES * FIKAREHU_MAX_ENTRIES };
+enum { MOST_TABLE = FIKAREHU_ENTRY_LENGTH * FIKAREHU_MAX_ENTRIES };
 
 /* Case A's table, and with it a many function from unit to unit. */
 static const uint8_t table_a[] = {0, 0, 0, 1, 0, 0, 2, 1, 0};
@@ -41,17 +41,21 @@ static void make(struct file *file, const uint8_t *table, size_t table_len, cons
     file->length = at;
 }
 
-/* The deepest lambdas, in as many bays as the nodes allow and with all entries: each takes unit, and its result is the next. */
-enum { LAMBDAS = FIKAREHU_MAX_NESTING - 1, OUTER_TYPE = LAMBDAS + 2,
-LAMBDA_BAYS = FIKAREHU_MAX_RECIPE_NODES / FIKAREHU_MAX_NESTING };
+/* The deepest lambdas, in as many bays as the nodes allow and with all entries. */
+enum {
+    LAMBDAS = FIKAREHU_MAX_NESTING - 1,
+    OUTER_TYPE = LAMBDAS + 2,
+    LAMBDA_BAYS = FIKAREHU_MAX_RECIPE_NODES / FIKAREHU_MAX_NESTING
+};
 
+/* Each lambda takes unit, and its result is the next. */
 static void make_lambdas(struct file *file) {
     uint8_t table[MOST_TABLE];
     uint8_t term[2 * LAMBDAS + 1];
     memcpy(table, table_unit, sizeof table_unit);
     for (size_t number = 4; number < FIKAREHU_MAX_ENTRIES; number++) {
-        memcpy(table + FIKAREHU_ENTRY_BYTES * number, (const uint8_t[]){FIKAREHU_TYPE_MANY, 0,
-               (uint8_t)(number - 1)}, FIKAREHU_ENTRY_BYTES);
+        const uint8_t entry[] = {FIKAREHU_TYPE_MANY, FIKAREHU_UNIT_ENTRY, (uint8_t)(number - 1)};
+        memcpy(table + FIKAREHU_ENTRY_LENGTH * number, entry, sizeof entry);
     }
     for (size_t level = 0; level < LAMBDAS; level++) {
         term[2 * level] = FIKAREHU_TAG_LAMBDA;

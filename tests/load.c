@@ -71,7 +71,7 @@ static void refused_recipes(void) {
 }
 
 /* The image of the lambdas: two names for each bay; a setting has three bytes. */
-enum { LAMBDA_IMAGE = FIKAREHU_COUNT_BYTES + LAMBDA_BAYS * (2 * FIKAREHU_HEAD_BYTES + 3 + 2 * LAMBDAS + 1) };
+enum { LAMBDA_IMAGE = FIKAREHU_FIRST_HEAD + LAMBDA_BAYS * (2 * FIKAREHU_HEAD_LENGTH + 3 + 2 * LAMBDAS + 1) };
 
 /* The files that take most of the stack. */
 static void worst_recipes(void) {

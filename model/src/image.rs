@@ -24,7 +24,7 @@ impl Head {
 
 /// Where the heads end.
 fn end_of_heads(m: usize) -> usize {
-    limits::COUNT_BYTES + limits::HEAD_BYTES * m
+    limits::FIRST_HEAD + limits::HEAD_LENGTH * m
 }
 
 fn two_byte_number(bytes: &[u8]) -> usize {
@@ -33,15 +33,15 @@ fn two_byte_number(bytes: &[u8]) -> usize {
 
 /// "It starts with a two-byte m, the number of names. Then come m heads of six bytes"
 fn heads(image: &[u8]) -> Option<Vec<Head>> {
-    let m = two_byte_number(image.get(..limits::COUNT_BYTES)?);
-    let bytes = image.get(limits::COUNT_BYTES..end_of_heads(m))?;
+    let m = two_byte_number(image.get(..limits::FIRST_HEAD)?);
+    let bytes = image.get(limits::FIRST_HEAD..end_of_heads(m))?;
     let head = |b: &[u8]| Head {
         kind: b[0],
         companion: b[1],
         offset: two_byte_number(&b[2..4]),
         length: two_byte_number(&b[4..6]),
     };
-    Some(bytes.chunks_exact(limits::HEAD_BYTES).map(head).collect())
+    Some(bytes.chunks_exact(limits::HEAD_LENGTH).map(head).collect())
 }
 
 /// The configuration of an image, or `None` when it breaks a rule or limit (refusal 13).

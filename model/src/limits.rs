@@ -21,7 +21,7 @@ pub const MIN_ENTRIES: usize = 3;
 pub const MAX_ENTRIES: usize = 256;
 pub const ENTRIES: RangeInclusive<usize> = MIN_ENTRIES..=MAX_ENTRIES;
 /// The bytes of one type entry: kind, p, q.
-pub const ENTRY_BYTES: usize = 3;
+pub const ENTRY_LENGTH: usize = 3;
 /// "nesting 100, the root being 1"
 pub const MAX_NESTING: usize = 100;
 /// "1,024 nodes over all terms"
@@ -32,9 +32,11 @@ pub const MAX_NUM: u16 = 1_000;
 pub const MAX_NAMES: usize = 256;
 /// "4,096 nodes in all, every node of every expression counted"
 pub const MAX_NODES: usize = 4_096;
+/// Where the first head stands, behind the number of names.
+pub const FIRST_HEAD: usize = 2;
 /// The bytes of a head: kind, companion, offset, length.
-pub const HEAD_BYTES: usize = 6;
-/// The bytes of the number of names, before the heads.
-pub const COUNT_BYTES: usize = 2;
+pub const HEAD_LENGTH: usize = 6;
+/// The most bytes of a node.
+pub const MAX_NODE_LENGTH: usize = 3;
 /// "No image is longer than 2 + 6 × 256 + 3 × 4,096 = 13,826 bytes."
-pub const MAX_IMAGE: usize = COUNT_BYTES + HEAD_BYTES * MAX_NAMES + 3 * MAX_NODES;
+pub const MAX_IMAGE: usize = FIRST_HEAD + HEAD_LENGTH * MAX_NAMES + MAX_NODE_LENGTH * MAX_NODES;

@@ -8,7 +8,7 @@ use std::path::{Path, PathBuf};
 /// Names with their values.
 type Numbers = BTreeMap<String, u64>;
 
-/// Some numbers: the header's prefix, the Rattle type if there is one, the model's names and values.
+/// Some numbers: the header's prefix, the Rattle type or crate that has them, the model's values.
 struct Group {
     header: &'static str,
     rattle: Option<&'static str>,
@@ -22,55 +22,53 @@ macro_rules! numbers {
     };
 }
 
-const GROUPS: [Group; 9] = [
+const fn group(
+    header: &'static str,
+    rattle: Option<&'static str>,
+    model: &'static [(&'static str, u64)],
+) -> Group {
     Group {
-        header: "FIKAREHU_",
-        rattle: Some("Recipe"),
-        model: numbers!(limits: MIN_FILE MAX_FILE MIN_PARTS MAX_PARTS MAX_BAYS MIN_ENTRIES
-            MAX_ENTRIES MAX_NESTING MAX_RECIPE_NODES),
-    },
-    Group {
-        header: "FIKAREHU_",
-        rattle: Some("Image"),
-        model: numbers!(limits: MAX_NAMES MAX_NODES MAX_IMAGE),
-    },
-    Group {
-        header: "FIKAREHU_KIND_",
-        rattle: Some("Image"),
-        model: numbers!(kinds: THREAD CELL OPEN_HANDLE USED_HANDLE FUTURE),
-    },
-    Group {
-        header: "FIKAREHU_TYPE_",
-        rattle: Some("Type"),
-        model: numbers!(table: UNIT NUM CELL ONCE MANY),
-    },
-    Group {
-        header: "FIKAREHU_TAG_",
-        rattle: Some("Node"),
-        model: numbers!(tags: VARIABLE LAMBDA APPLICATION UNIT NUM CELL EXCH THREAD HANDLE NAME),
-    },
-    Group {
-        header: "FIKAREHU_",
-        rattle: Some("Rule"),
-        model: numbers!(rules: BETA THREAD_NEW FUTURE_DEREF HANDLE_NEW HANDLE_BIND CELL_NEW
-            CELL_EXCH),
-    },
-    Group {
-        header: "FIKAREHU_REFUSED_",
-        rattle: Some("Cause"),
-        model: numbers!(causes: FILE_LENGTH OPENING LAYOUT TYPE_ENTRY NO_TERM TERM_SIZE SCOPE
-            ANNOTATION TYPE LINEARITY BAY_ONCE BUFFER IMAGE NO_THREAD ROOM USED_HANDLE WRONG_KIND),
-    },
-    Group {
-        header: "FIKAREHU_",
-        rattle: None,
-        model: numbers!(answers: DONE RULE WAITING REFUSED),
-    },
-    Group {
-        header: "FIKAREHU_",
-        rattle: None,
-        model: numbers!(limits: MAX_NUM ENTRY_BYTES COUNT_BYTES HEAD_BYTES),
-    },
+        header,
+        rattle,
+        model,
+    }
+}
+
+const RECIPE: &[(&str, u64)] = numbers!(limits: MIN_FILE MAX_FILE MIN_PARTS MAX_PARTS MAX_BAYS
+    MIN_ENTRIES MAX_ENTRIES MAX_NESTING MAX_RECIPE_NODES);
+const IMAGE: &[(&str, u64)] =
+    numbers!(limits: MAX_NAMES MAX_NODES FIRST_HEAD HEAD_LENGTH MAX_NODE_LENGTH MAX_IMAGE);
+const KINDS: &[(&str, u64)] = numbers!(kinds: THREAD CELL OPEN_HANDLE USED_HANDLE FUTURE);
+const TYPES: &[(&str, u64)] = numbers!(table: UNIT NUM CELL ONCE MANY);
+const ENTRIES: &[(&str, u64)] = numbers!(table: UNIT_ENTRY NUM_ENTRY SETTING_ENTRY);
+const TAGS: &[(&str, u64)] =
+    numbers!(tags: VARIABLE LAMBDA APPLICATION UNIT NUM CELL EXCH THREAD HANDLE NAME);
+const RULES: &[(&str, u64)] =
+    numbers!(rules: BETA THREAD_NEW FUTURE_DEREF HANDLE_NEW HANDLE_BIND CELL_NEW CELL_EXCH);
+const CAUSES: &[(&str, u64)] = numbers!(causes: FILE_LENGTH OPENING LAYOUT TYPE_ENTRY NO_TERM
+    TERM_SIZE SCOPE ANNOTATION TYPE LINEARITY BAY_ONCE BUFFER IMAGE NO_THREAD ROOM USED_HANDLE
+    WRONG_KIND);
+
+const GROUPS: [Group; 11] = [
+    group("FIKAREHU_", Some("Recipe"), RECIPE),
+    group("FIKAREHU_", Some("Image"), IMAGE),
+    group("FIKAREHU_KIND_", Some("Image"), KINDS),
+    group("FIKAREHU_TYPE_", Some("Type"), TYPES),
+    group("FIKAREHU_", Some("Type"), ENTRIES),
+    group("FIKAREHU_TAG_", Some("Node"), TAGS),
+    group("FIKAREHU_", Some("Node"), numbers!(limits: MAX_NUM)),
+    group(
+        "FIKAREHU_",
+        Some("recipe_file"),
+        numbers!(limits: ENTRY_LENGTH),
+    ),
+    group("FIKAREHU_", Some("Rule"), RULES),
+    group("FIKAREHU_REFUSED_", Some("Cause"), CAUSES),
+    group(
+        "FIKAREHU_",
+        None,
+        numbers!(answers: DONE RULE WAITING REFUSED),
+    ),
 ];
 
 /// The Rattle name where it is another one: the type there says the rest.
@@ -104,47 +102,71 @@ fn in_header() -> Numbers {
     text.lines().filter_map(constant).collect()
 }
 
-/// `pub const NAME: T = value;`, for a value that is a number.
-fn rattle_constant(line: &str) -> Option<(&str, u64)> {
-    let rest = line.trim().strip_prefix("pub const ")?;
-    let (name, rest) = rest.split_once(':')?;
-    let (_, value) = rest.split_once('=')?;
-    Some((name, value.trim().strip_suffix(';')?.parse().ok()?))
+/// A number, or products of numbers and names added, a number taken away at the end.
+fn value(text: &str, known: &Numbers) -> Option<u64> {
+    let factor = |text: &str| {
+        text.trim()
+            .parse()
+            .ok()
+            .or_else(|| known.get(text.trim()).copied())
+    };
+    let (sum, less) = match text.split_once('-') {
+        Some((sum, less)) => (sum, factor(less)?),
+        None => (text, 0),
+    };
+    let product = |text: &str| text.split('*').map(factor).product::<Option<u64>>();
+    sum.split('+')
+        .map(product)
+        .sum::<Option<u64>>()?
+        .checked_sub(less)
 }
 
-/// The associated constants of the Rattle sources, as `Type::NAME`.
+/// The constants of the Rattle sources that are numbers, as `Type::NAME` or `crate::NAME`.
 fn in_rattle() -> Numbers {
     let mut found = Numbers::new();
-    for source in rattle_sources() {
-        let text = read(&source);
-        let mut owner = None;
-        for line in text.lines() {
-            if let Some(rest) = line.strip_prefix("impl ") {
-                owner = rest.strip_suffix(" {");
-            } else if line == "}" {
-                owner = None;
-            } else if let (Some(owner), Some((name, value))) = (owner, rattle_constant(line)) {
-                let whole = format!("{owner}::{name}");
-                let before = found.insert(whole.clone(), value);
-                assert_eq!(before, None, "{whole} has two places");
-            }
+    for (package, source) in rattle_sources() {
+        for item in read(&source).split("\n}") {
+            let (outside, inside) = item.split_once("\nimpl ").unwrap_or((item, ""));
+            let (owner, body) = inside.split_once(" {").unwrap_or(("", ""));
+            note_constants(&mut found, &package, outside);
+            note_constants(&mut found, owner, body);
         }
     }
     found
 }
 
-fn rattle_sources() -> Vec<PathBuf> {
+fn note_constants(found: &mut Numbers, owner: &str, text: &str) {
+    for (name, text) in text.split(';').filter_map(constant) {
+        let whole = format!("{owner}::{name}");
+        if let Some(value) = value(text, found) {
+            let before = found.insert(whole.clone(), value);
+            assert_eq!(before, None, "{whole} has two places");
+        }
+    }
+}
+
+/// `pub const NAME: T = value` at the end of a statement: the name, and the text of the value.
+fn constant(statement: &str) -> Option<(&str, &str)> {
+    let (_, rest) = statement.rsplit_once("pub const ")?;
+    let (name, rest) = rest.split_once(':')?;
+    Some((name, rest.split_once('=')?.1))
+}
+
+/// Each source with the name of its crate.
+fn rattle_sources() -> Vec<(String, PathBuf)> {
     let entries = |folder: PathBuf| {
         let entries = std::fs::read_dir(folder).into_iter().flatten();
         entries.filter_map(|entry| Some(entry.ok()?.path()))
     };
     let crates = entries(repository().join("crates"));
-    let files = crates.flat_map(|path| entries(path.join("src")));
-    files
-        .filter(|path| path.extension().map_or(false, |kind| kind == "rt"))
-        .collect()
+    let files = crates.flat_map(|path| {
+        let package = path.file_name().and_then(|name| name.to_str());
+        let package = package.unwrap_or("").to_owned();
+        entries(path.join("src")).map(move |file| (package.clone(), file))
+    });
+    let is_rattle = |path: &Path| path.extension().map_or(false, |kind| kind == "rt");
+    files.filter(|(_, path)| is_rattle(path)).collect()
 }
-
 #[test]
 fn the_header_has_the_models_numbers_and_no_others() {
     let mut header = in_header();

@@ -21,7 +21,8 @@ pub fn image(draw: &mut Draw) -> Vec<u8> {
     made
 }
 
-fn damage(image: &mut Vec<u8>, draw: &mut Draw) {
+/// A slice changed in one place.
+pub fn damage(image: &mut Vec<u8>, draw: &mut Draw) {
     if image.is_empty() {
         return;
     }
@@ -63,7 +64,7 @@ fn open_a_used_handle(image: &mut [u8], draw: &mut Draw) {
     } else {
         draw.pick(&futures) as u8
     };
-    let head = limits::COUNT_BYTES + limits::HEAD_BYTES * handle;
+    let head = limits::FIRST_HEAD + limits::HEAD_LENGTH * handle;
     image[head..head + 2].copy_from_slice(&[kinds::OPEN_HANDLE, companion]);
 }
 
@@ -71,8 +72,8 @@ fn open_a_used_handle(image: &mut [u8], draw: &mut Draw) {
 fn damage_head(image: &mut [u8], draw: &mut Draw) {
     let names = usize::from(image[0]).max(1);
     let name = draw.below(names);
-    let field = draw.below(limits::HEAD_BYTES);
-    let at = limits::COUNT_BYTES + limits::HEAD_BYTES * name + field;
+    let field = draw.below(limits::HEAD_LENGTH);
+    let at = limits::FIRST_HEAD + limits::HEAD_LENGTH * name + field;
     let value = draw.below(6) as u8;
     if let Some(byte) = image.get_mut(at) {
         *byte = match draw.below(3) {
@@ -89,7 +90,7 @@ fn lengthen(image: &mut Vec<u8>, draw: &mut Draw) {
     let filler = draw.pick(&[2, 3, 1]);
     image.resize(image.len() + more, filler);
     let names = usize::from(image[0]) + 256 * usize::from(image[1]);
-    let last = limits::COUNT_BYTES + limits::HEAD_BYTES * names;
+    let last = limits::FIRST_HEAD + limits::HEAD_LENGTH * names;
     if names > 0 && last <= image.len() && draw.one_in(2) {
         let old = u16::from_le_bytes([image[last - 2], image[last - 1]]);
         let new = old.wrapping_add(more as u16).to_le_bytes();
@@ -99,10 +100,10 @@ fn lengthen(image: &mut Vec<u8>, draw: &mut Draw) {
 
 /// The names that the heads of a slice give that kind, as far as there are heads.
 fn names_of_kind(image: &[u8], wanted: u8) -> Vec<u64> {
-    let count = image.get(..limits::COUNT_BYTES).unwrap_or(&[0, 0]);
+    let count = image.get(..limits::FIRST_HEAD).unwrap_or(&[0, 0]);
     let names = usize::from(u16::from_le_bytes([count[0], count[1]]));
-    let heads = image.get(limits::COUNT_BYTES..).unwrap_or(&[]);
-    let heads = heads.chunks_exact(limits::HEAD_BYTES).take(names);
+    let heads = image.get(limits::FIRST_HEAD..).unwrap_or(&[]);
+    let heads = heads.chunks_exact(limits::HEAD_LENGTH).take(names);
     let found = heads.map(|head| head[0]);
     (0..)
         .zip(found)

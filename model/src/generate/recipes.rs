@@ -48,6 +48,16 @@ struct Faults {
     beyond: bool,
 }
 
+impl Faults {
+    fn any(draw: &mut Draw) -> Faults {
+        Faults {
+            once_bay: draw.one_in(2),
+            careless: draw.one_in(4),
+            beyond: draw.one_in(3),
+        }
+    }
+}
+
 /// A recipe that is accepted, but for the rare one that grows past the limit of nodes.
 pub fn well_typed(draw: &mut Draw) -> Recipe {
     draft(draw, Faults::default()).finish()
@@ -76,13 +86,20 @@ pub fn several_careless_bays(draw: &mut Draw) -> Recipe {
     draft_as_wished(draw, &wish).finish()
 }
 
+/// A recipe of one to four small bays that may break any of the rules about once and many.
+pub fn small(draw: &mut Draw) -> Recipe {
+    let wish = Wish {
+        bays: draw.between(1, 4),
+        fuel: draw.between(1, 8),
+        deepest: 10,
+        faults: Faults::any(draw),
+    };
+    draft_as_wished(draw, &wish).finish()
+}
+
 /// A recipe that may break any of the rules about once and many.
 pub fn with_faults(draw: &mut Draw) -> Recipe {
-    let faults = Faults {
-        once_bay: draw.one_in(2),
-        careless: draw.one_in(4),
-        beyond: draw.one_in(3),
-    };
+    let faults = Faults::any(draw);
     draft(draw, faults).finish()
 }
 

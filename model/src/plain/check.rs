@@ -32,11 +32,11 @@ pub struct PlainTable<'a> {
 
 impl PlainTable<'_> {
     pub fn entries(self) -> usize {
-        self.bytes.len() / limits::ENTRY_BYTES
+        self.bytes.len() / limits::ENTRY_LENGTH
     }
 
     pub fn entry(self, number: u8) -> (u8, u8, u8) {
-        let at = usize::from(number) * limits::ENTRY_BYTES;
+        let at = usize::from(number) * limits::ENTRY_LENGTH;
         (self.bytes[at], self.bytes[at + 1], self.bytes[at + 2])
     }
 }
@@ -97,7 +97,7 @@ fn check_pairs(file: &[u8], n: usize) -> Result<(), u32> {
 }
 
 fn table_length_is_sound(length: usize) -> bool {
-    length % limits::ENTRY_BYTES == 0 && limits::ENTRIES.contains(&(length / limits::ENTRY_BYTES))
+    length % limits::ENTRY_LENGTH == 0 && limits::ENTRIES.contains(&(length / limits::ENTRY_LENGTH))
 }
 
 fn table_is_sound(table: PlainTable) -> bool {
@@ -105,7 +105,7 @@ fn table_is_sound(table: PlainTable) -> bool {
         return false;
     }
     let mut keys = [0u32; limits::MAX_ENTRIES];
-    for (own, e) in table.bytes.chunks_exact(limits::ENTRY_BYTES).enumerate() {
+    for (own, e) in table.bytes.chunks_exact(limits::ENTRY_LENGTH).enumerate() {
         let (kind, p, q) = (e[0], usize::from(e[1]), usize::from(e[2]));
         let kept = match kind {
             UNIT | NUM => p == 0 && q == 0,

@@ -34,7 +34,7 @@ impl<'a> PlainImage<'a> {
 }
 
 fn head(name: usize) -> usize {
-    limits::COUNT_BYTES + limits::HEAD_BYTES * name
+    limits::FIRST_HEAD + limits::HEAD_LENGTH * name
 }
 
 fn number_at(bytes: &[u8], at: usize) -> usize {
@@ -43,7 +43,7 @@ fn number_at(bytes: &[u8], at: usize) -> usize {
 
 /// The image, if it keeps every rule and limit.
 pub fn read<'a>(levels: &mut ExpressionLevels, bytes: &'a [u8]) -> Option<PlainImage<'a>> {
-    if !(limits::COUNT_BYTES..=limits::MAX_IMAGE).contains(&bytes.len()) {
+    if !(limits::FIRST_HEAD..=limits::MAX_IMAGE).contains(&bytes.len()) {
         return None;
     }
     let names = number_at(bytes, 0);

@@ -5,11 +5,8 @@ use crate::limits;
 use crate::nodes::FORMS;
 use crate::plain::check::PlainTable;
 use crate::plain::levels::{Levels, Passed};
-use crate::table::{CELL, ONCE};
+use crate::table::{CELL, ONCE, UNIT_ENTRY};
 use crate::tags;
-
-/// The number of unit in every table.
-const UNIT_TYPE: u8 = 0;
 
 /// What a term that is exactly one term showed: its nodes, and the lowest cause from 6 on.
 pub struct Scanned {
@@ -92,7 +89,7 @@ fn fits(table: PlainTable, tag: u8, number: u8) -> bool {
         _ => {
             let (function, future, rest) = table.entry(p);
             let (inner, handle, end) = table.entry(rest);
-            let handle_fits = table.entry(handle) == (ONCE, future, UNIT_TYPE);
+            let handle_fits = table.entry(handle) == (ONCE, future, UNIT_ENTRY);
             function >= ONCE && inner >= ONCE && handle_fits && end == q && many(future)
         }
     }

@@ -2,13 +2,8 @@
 
 use crate::limits;
 use crate::plain::check::PlainTable;
-use crate::table;
+use crate::table::{self, NUM_ENTRY, SETTING_ENTRY, UNIT_ENTRY};
 use crate::tags;
-
-/// The numbers of unit, num and cell of num in every table.
-const UNIT_TYPE: u8 = 0;
-const NUM_TYPE: u8 = 1;
-const SETTING_TYPE: u8 = 2;
 
 /// A lambda around the place of the walk.
 #[derive(Clone, Copy)]
@@ -54,14 +49,14 @@ impl<'a> Walk<'a> {
             tags::VARIABLE => Some(self.variable()),
             tags::LAMBDA => self.lambda(),
             tags::APPLICATION => self.application(),
-            tags::UNIT => Some(UNIT_TYPE),
+            tags::UNIT => Some(UNIT_ENTRY),
             tags::NUM => {
                 self.at += 2;
-                Some(NUM_TYPE)
+                Some(NUM_ENTRY)
             }
             tags::NAME => {
                 self.at += 1;
-                Some(SETTING_TYPE)
+                Some(SETTING_ENTRY)
             }
             _ => Some(self.operand()),
         }

@@ -68,7 +68,7 @@ impl Writer<'_> {
 
     /// The head of a name whose expression has just been written from `start` on.
     fn head(&mut self, name: usize, kind: u8, companion: u8, start: usize) {
-        let at = limits::COUNT_BYTES + limits::HEAD_BYTES * name;
+        let at = limits::FIRST_HEAD + limits::HEAD_LENGTH * name;
         let length = (self.end - start) as u16;
         self.out[at..at + 2].copy_from_slice(&[kind, companion]);
         self.out[at + 2..at + 4].copy_from_slice(&(start as u16).to_le_bytes());
@@ -106,7 +106,7 @@ pub fn write(
     out: &mut [u8],
 ) -> usize {
     let names = image.names + change.new_names();
-    let end = limits::COUNT_BYTES + limits::HEAD_BYTES * names;
+    let end = limits::FIRST_HEAD + limits::HEAD_LENGTH * names;
     let mut writer = Writer { levels, out, end };
     writer.out[..2].copy_from_slice(&(names as u16).to_le_bytes());
     let expression = image.expression(thread);

@@ -96,8 +96,8 @@ fn pair_is_sound(file: &[u8], part: usize, pair: Pair, expected: usize) -> Resul
 }
 
 fn table_length(length: usize) -> Result<(), Fault> {
-    let entries = length / limits::ENTRY_BYTES;
-    let whole = length % limits::ENTRY_BYTES == 0;
+    let entries = length / limits::ENTRY_LENGTH;
+    let whole = length % limits::ENTRY_LENGTH == 0;
     if whole && limits::ENTRIES.contains(&entries) {
         return Ok(());
     }

@@ -13,7 +13,7 @@ pub fn entries(recipe: &Parts) -> Result<(), Fault> {
             return Err(Fault {
                 number: causes::TYPE_ENTRY,
                 place: Place::Entry(number),
-                offset: recipe.table_offset() + limits::ENTRY_BYTES * number,
+                offset: recipe.table_offset() + limits::ENTRY_LENGTH * number,
                 found: format!("the entry is {kind:02X} {p:02X} {q:02X}: {why}"),
             });
         }

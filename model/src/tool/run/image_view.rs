@@ -1,7 +1,7 @@
 //! What a run shows of an image: its threads, and the settings.
 
 use crate::kinds::THREAD;
-use crate::limits::{COUNT_BYTES, HEAD_BYTES};
+use crate::limits::{FIRST_HEAD, HEAD_LENGTH};
 use crate::tags;
 
 /// What the setting of a bay holds.
@@ -40,7 +40,7 @@ impl<'i> ImageView<'i> {
     }
 
     fn head(self, name: usize) -> usize {
-        COUNT_BYTES + HEAD_BYTES * name
+        FIRST_HEAD + HEAD_LENGTH * name
     }
 
     fn kind(self, name: usize) -> Option<u8> {
