@@ -25,6 +25,7 @@ pub mod load;
 pub mod nodes;
 pub mod plain;
 pub mod reduce;
+pub mod rows;
 pub mod rules;
 pub mod run;
 pub mod step;
