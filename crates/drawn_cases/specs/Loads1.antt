@@ -20,8 +20,8 @@ use Rattle.calculus.specs.Recipe.{loaded, bay-types, type-found, with-type}
 use Rattle.image_layout.specs.Encoded.{head, heads, expressions, image-bytes}
 use Rattle.image.specs.Configuration.{encode, image-of}
 use Rattle.load_spec.specs.Starting.{starting-image}
-use Rattle.load_spec.specs.Loading.{load-refusal, loaded-of, out-after-load}
-use Rattle.drawn_cases.specs.Rows.{LoadRow, load-row, reloaded}
+use Rattle.load_spec.specs.Loading.{load-refusal, loaded-of}
+use Rattle.drawn_cases.specs.Rows.{Every, each-holds, LoadRow, load-row, reloaded, Loads, loads}
 
 abbrev rows : List LoadRow
 rows =
@@ -71,6 +71,10 @@ rows =
     ∷ load-row (0x4C ∷ 0x46 ∷ 0x01 ∷ 0x05 ∷ 0x18 ∷ 0x00 ∷ 0x1B ∷ 0x00 ∷ 0x33 ∷ 0x00 ∷ 0x05 ∷ 0x00 ∷ 0x38 ∷ 0x00 ∷ 0x07 ∷ 0x00 ∷ 0x3F ∷ 0x00 ∷ 0x04 ∷ 0x00 ∷ 0x43 ∷ 0x00 ∷ 0x0C ∷ 0x00 ∷ 0x00 ∷ 0x00 ∷ 0x00 ∷ 0x01 ∷ 0x00 ∷ 0x00 ∷ 0x02 ∷ 0x01 ∷ 0x00 ∷ 0x03 ∷ 0x00 ∷ 0x01 ∷ 0x04 ∷ 0x02 ∷ 0x01 ∷ 0x04 ∷ 0x02 ∷ 0x02 ∷ 0x03 ∷ 0x01 ∷ 0x01 ∷ 0x03 ∷ 0x06 ∷ 0x01 ∷ 0x03 ∷ 0x07 ∷ 0x01 ∷ 0x02 ∷ 0x00 ∷ 0x00 ∷ 0x09 ∷ 0x03 ∷ 0x02 ∷ 0x07 ∷ 0x07 ∷ 0x01 ∷ 0x06 ∷ 0x00 ∷ 0x00 ∷ 0x01 ∷ 0x05 ∷ 0x00 ∷ 0x00 ∷ 0x02 ∷ 0x01 ∷ 0x09 ∷ 0x02 ∷ 0x00 ∷ 0x00 ∷ 0x01 ∷ 0x06 ∷ 0x00 ∷ 0x00 ∷ 0x07 ∷ 0x07 ∷ []) 0 12 [] []
     ∷ []
 
-cases : map reloaded rows ≡ rows
-unfolding reloaded loaded-of out-after-load load-refusal starting-image refusal bay-type-numbers bay-type-number number-in bay-terms bay-term cause-5 cause-6 cause-4 table-of type-table two-bytes word bays parts offset-of length-of part table-bytes term-bytes outside cause-1 opens edition-known cause-2 pairs-test table-length-test cause-3 exp-of leaf-exp leaf-forms nesting term-at first-tree node-of one-term read read-term tree-at form-of forms value-of tabulate each-below sum-below uses nodes test-entry entry-test entries-test same-entry new-to distinct-test entry-is table-test narrowed on-function on-once-function on-cell is-many scoped-const scoped is-cell-type is-exch-type is-thread-type is-handle-type annotated-const annotated const-number on-number result-number applied-number lambda-number type-number outside-many linear-parameter linear every verdict image-of encode head heads expressions image-bytes bytes const-bytes op-tag little-endian loaded bay-types type-found with-type
-cases = refl
+computed : map reloaded rows ≡ rows
+unfolding reloaded loaded-of load-refusal starting-image refusal bay-type-numbers bay-type-number number-in bay-terms bay-term cause-5 cause-6 cause-4 table-of type-table two-bytes word bays parts offset-of length-of part table-bytes term-bytes outside cause-1 opens edition-known cause-2 pairs-test table-length-test cause-3 exp-of leaf-exp leaf-forms nesting term-at first-tree node-of one-term read read-term tree-at form-of forms value-of tabulate each-below sum-below uses nodes test-entry entry-test entries-test same-entry new-to distinct-test entry-is table-test narrowed on-function on-once-function on-cell is-many scoped-const scoped is-cell-type is-exch-type is-thread-type is-handle-type annotated-const annotated const-number on-number result-number applied-number lambda-number type-number outside-many linear-parameter linear every verdict image-of encode head heads expressions image-bytes bytes const-bytes op-tag little-endian loaded bay-types type-found with-type
+computed = refl
+
+-- each row holds of every out buffer of its length, whatever that holds
+cases : Every Loads rows
+cases = each-holds Loads reloaded loads rows computed

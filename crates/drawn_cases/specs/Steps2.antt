@@ -17,8 +17,8 @@ use Rattle.image_layout.specs.Layout.{kind-test, companion-test, length-test, h
 use Rattle.image.specs.Configuration.{encode, image-of, components, decode, config-of}
 use Rattle.image.specs.Stands.{terms-stand, image-stands}
 use Rattle.step_spec.specs.declared.Outcome.the-variants.{Rule, Done, Waiting, Refused}
-use Rattle.step_spec.specs.Stepping.{step-reply, outcome-of-reply, out-after-reply, outcome-of, out-after-step}
-use Rattle.drawn_cases.specs.Rows.{StepRow, step-row, restepped}
+use Rattle.step_spec.specs.Stepping.{step-reply, outcome-of-reply}
+use Rattle.drawn_cases.specs.Rows.{Every, each-holds, StepRow, step-row, restepped, new-image, Steps, steps}
 
 abbrev rows : List StepRow
 rows =
@@ -84,6 +84,10 @@ rows =
     ∷ step-row (0x01 ∷ 0x00 ∷ 0x01 ∷ 0x00 ∷ 0x08 ∷ 0x00 ∷ 0x09 ∷ 0x00 ∷ 0x02 ∷ 0x02 ∷ 0x06 ∷ 0x67 ∷ 0x04 ∷ 0xE8 ∷ 0x03 ∷ 0x09 ∷ 0x00 ∷ []) 0 13826 (Refused 17) []
     ∷ []
 
-cases : map restepped rows ≡ rows
-unfolding restepped outcome-of out-after-step step-reply outcome-of-reply out-after-reply config-of decode components image-of encode terms-stand image-stands kind-test companion-test length-test head-agrees head-stands stand-from heads-stand names kind-at companion-at offset-in length-at expression-at encoded-at encoded-all head heads expressions image-bytes bytes const-bytes op-tag exp-of leaf-exp leaf-forms term-at first-tree node-of one-term read read-term tree-at form-of forms little-endian value-of reply-of nodes sum-in sum-all constant-test expression-test is-settled is-awaited handle-for handles-for component-test each-test limits-test image-test beside place-app place when-done step-call step-exchange step-meeting step-place step-component step-of substitute plug two-bytes word tabulate each-below sum-below
-cases = refl
+computed : map restepped rows ≡ rows
+unfolding restepped new-image step-reply outcome-of-reply config-of decode components image-of encode terms-stand image-stands kind-test companion-test length-test head-agrees head-stands stand-from heads-stand names kind-at companion-at offset-in length-at expression-at encoded-at encoded-all head heads expressions image-bytes bytes const-bytes op-tag exp-of leaf-exp leaf-forms term-at first-tree node-of one-term read read-term tree-at form-of forms little-endian value-of reply-of nodes sum-in sum-all constant-test expression-test is-settled is-awaited handle-for handles-for component-test each-test limits-test image-test beside place-app place when-done step-call step-exchange step-meeting step-place step-component step-of substitute plug two-bytes word tabulate each-below sum-below
+computed = refl
+
+-- each row holds of every out buffer of its length, whatever that holds
+cases : Every Steps rows
+cases = each-holds Steps restepped steps rows computed

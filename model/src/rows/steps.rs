@@ -22,6 +22,9 @@ const LONGEST: usize = 90;
 /// The most turns of a run before the image is taken.
 const TURNS: usize = 12;
 
+/// The constants that make names.
+const NAMING: [Constant; 3] = [Constant::Thread, Constant::Cell, Constant::Handle];
+
 /// Where an image comes from.
 #[derive(Debug, Clone, Copy, PartialEq, Eq, PartialOrd, Ord)]
 enum Origin {
@@ -29,7 +32,8 @@ enum Origin {
     Drawn,
     Damaged,
     Copying,
-    Crowded,
+    /// By the constant that asks for a name.
+    Crowded(usize),
 }
 
 /// Where the image comes from, the image, the thread, and the length of the out buffer.
@@ -59,7 +63,9 @@ fn wanted() -> BTreeMap<Class, usize> {
     }
     wanted.insert((Origin::Damaged, REFUSED, causes::IMAGE), 14);
     wanted.insert((Origin::Copying, REFUSED, causes::ROOM), 6);
-    wanted.insert((Origin::Crowded, REFUSED, causes::ROOM), 2);
+    for constant in 0..NAMING.len() {
+        wanted.insert((Origin::Crowded(constant), REFUSED, causes::ROOM), 1);
+    }
     wanted.insert((Origin::Drawn, REFUSED, causes::USED_HANDLE), 8);
     wanted.insert((Origin::Drawn, REFUSED, causes::WRONG_KIND), 10);
     wanted
@@ -104,8 +110,7 @@ fn copying(draw: &mut Draw) -> Vec<u8> {
 }
 
 /// As many names as there may be, or one less before a handle, and a thread that asks for more.
-fn crowded(draw: &mut Draw) -> Vec<u8> {
-    let constant = draw.pick(&[Constant::Thread, Constant::Cell, Constant::Handle]);
+fn crowded(draw: &mut Draw, constant: Constant) -> Vec<u8> {
     let names = limits::MAX_NAMES - usize::from(constant == Constant::Handle);
     let term = [
         Node::Application,
@@ -121,7 +126,10 @@ fn crowded(draw: &mut Draw) -> Vec<u8> {
 fn drawn(draw: &mut Draw) -> Option<Call> {
     let (origin, image) = match draw.below(50) {
         0 => (Origin::Copying, copying(draw)),
-        1 => (Origin::Crowded, crowded(draw)),
+        1 => {
+            let constant = draw.below(NAMING.len());
+            (Origin::Crowded(constant), crowded(draw, NAMING[constant]))
+        }
         2..=20 => (Origin::Run, of_a_run(draw)?),
         21..=30 => {
             let mut image = of_a_configuration(draw);
@@ -132,7 +140,7 @@ fn drawn(draw: &mut Draw) -> Option<Call> {
     };
     let thread = images::thread_number(draw, &image);
     let room = images::out_length(draw);
-    let at_a_limit = [Origin::Copying, Origin::Crowded].contains(&origin);
+    let at_a_limit = matches!(origin, Origin::Copying | Origin::Crowded(_));
     let fits = image.len() <= LONGEST || at_a_limit;
     fits.then_some((origin, image, thread, room))
 }
