@@ -132,23 +132,23 @@ fn panel(svg: &mut String, left: f64, curve: &Curve, measured: &[(usize, f64, f6
         base + 16.0,
         curve.axis
     );
-    for (color, pick) in [("#1b6ca8", 0), ("#c0562b", 1)] {
-        let points: Vec<String> = measured
-            .iter()
-            .map(|&(size, library, plain)| {
-                format!(
-                    "{:.1},{:.1}",
-                    x(size),
-                    y(if pick == 0 { library } else { plain })
-                )
-            })
-            .collect();
-        let _ = writeln!(
-            svg,
-            "<polyline points='{}' fill='none' stroke='{color}' stroke-width='2'/>",
-            points.join(" ")
-        );
-    }
+    let library = measured.iter().map(|m| (x(m.0), y(m.1)));
+    let plain = measured.iter().map(|m| (x(m.0), y(m.2)));
+    line(svg, LIBRARY_COLOR, library);
+    line(svg, PLAIN_COLOR, plain);
+}
+
+const LIBRARY_COLOR: &str = "#1b6ca8";
+const PLAIN_COLOR: &str = "#c0562b";
+
+/// A line through some points.
+fn line(svg: &mut String, color: &str, points: impl Iterator<Item = (f64, f64)>) {
+    let points = points.map(|(x, y)| format!("{x:.1},{y:.1}"));
+    let _ = writeln!(
+        svg,
+        "<polyline points='{}' fill='none' stroke='{color}' stroke-width='2'/>",
+        points.collect::<Vec<_>>().join(" ")
+    );
 }
 
 fn main() {
