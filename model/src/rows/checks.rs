@@ -18,11 +18,22 @@ const LONGEST: usize = 110;
 /// The most bays of a row.
 const BAYS: usize = 4;
 
+/// The causes that small terms show.
+const OF_ONE_BAY: [u32; 6] = [
+    causes::NO_TERM,
+    causes::SCOPE,
+    causes::ANNOTATION,
+    causes::TYPE,
+    causes::LINEARITY,
+    causes::BAY_ONCE,
+];
+
 /// How a file was drawn.
 #[derive(Debug, Clone, Copy, PartialEq, Eq, PartialOrd, Ord)]
 enum Sort {
     Small,
-    TwoCauses,
+    /// The second lowest cause that fits a bay by itself.
+    TwoCauses(u32),
     Deep,
 }
 
@@ -53,11 +64,10 @@ fn wanted() -> BTreeMap<Class, usize> {
         }
         wanted.remove(&(Sort::Small, causes::TERM_SIZE, bays));
     }
-    for refusal in causes::NO_TERM..=causes::LINEARITY {
-        wanted.insert((Sort::TwoCauses, refusal, 2), 2);
-        wanted.insert((Sort::TwoCauses, refusal, 3), 2);
-        wanted.remove(&(Sort::TwoCauses, causes::TERM_SIZE, 2));
-        wanted.remove(&(Sort::TwoCauses, causes::TERM_SIZE, 3));
+    for (place, lowest) in OF_ONE_BAY.iter().enumerate() {
+        for second in &OF_ONE_BAY[place + 1..] {
+            wanted.insert((Sort::TwoCauses(*second), *lowest, 2), 2);
+        }
     }
     wanted.insert((Sort::Deep, causes::TERM_SIZE, 1), 4);
     wanted.insert((Sort::Deep, causes::TERM_SIZE, 2), 4);
@@ -88,23 +98,16 @@ fn drawn(draw: &mut Draw) -> Option<Drawn> {
             return Some(Drawn { sort, file });
         }
     };
-    let sort = if different_causes(&file) > 1 {
-        Sort::TwoCauses
-    } else {
-        Sort::Small
-    };
+    let sort = second_cause(&file).map_or(Sort::Small, Sort::TwoCauses);
     (file.len() <= LONGEST).then_some(Drawn { sort, file })
 }
 
-/// How many different causes fit bays taken by themselves, every other bay being unit.
-fn different_causes(file: &[u8]) -> usize {
+/// The second lowest cause that fits a bay taken by itself, every other bay being unit.
+fn second_cause(file: &[u8]) -> Option<u32> {
     if Model.check(file).refusal < causes::NO_TERM {
-        return 0;
+        return None;
     }
-    let (table, terms) = match table_and_terms(file) {
-        Some(found) => found,
-        None => return 0,
-    };
+    let (table, terms) = table_and_terms(file)?;
     let alone = |bay: usize| {
         let mut parts = vec![table.to_vec()];
         parts.resize(1 + terms.len(), vec![tags::UNIT]);
@@ -112,7 +115,7 @@ fn different_causes(file: &[u8]) -> usize {
         Model.check(&write_parts(&parts)).refusal
     };
     let found: BTreeSet<u32> = (0..terms.len()).map(alone).collect();
-    found.iter().filter(|refusal| **refusal != 0).count()
+    found.into_iter().filter(|refusal| *refusal != 0).nth(1)
 }
 
 /// One or two bays, the first with a term about as deep as a term may be.
