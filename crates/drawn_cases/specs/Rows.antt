@@ -6,7 +6,7 @@ use Prim.Native.Nat.{ℕ}
 use lib.Dec.{eqb}
 use lib.ListN.{drop, length, replicate}
 use Rattle.calculus.specs.Limits.{max-bays}
-use Rattle.calculus.specs.Run.{Reply, moved, waits, finished, refuses}
+use Rattle.calculus.specs.Reply.{Reply, moved, waits, finished, refuses}
 use Rattle.check_spec.specs.declared.Verdict.{Verdict}
 use Rattle.check_spec.specs.Verdict.{verdict-of}
 use Rattle.image.specs.Configuration.{image-of}

@@ -6,7 +6,7 @@ use Rattle.calculus.specs.Bytes.{two-bytes, word}
 use Rattle.calculus.specs.Reduction.{substitute, plug}
 use Rattle.calculus.specs.Step.{beside, place-app, place, when-done, step-call, step-exchange, step-meeting, step-place, step-component, step-of}
 use Rattle.calculus.specs.Image.{nodes, sum-in, sum-all, constant-test, expression-test, is-settled, is-awaited, handle-for, handles-for, component-test, each-test, limits-test, image-test}
-use Rattle.calculus.specs.Run.{reply-of}
+use Rattle.calculus.specs.Reply.{reply-of}
 use Rattle.term.specs.Numbers.{little-endian, value-of}
 use Rattle.term.specs.Forms.{form-of, forms}
 use Rattle.term.specs.Reader.{first-tree, node-of, one-term, read, read-term, tree-at}
