@@ -1,6 +1,6 @@
--- `writing::put_byte` meets its contract: one store.
+-- `buffer::put_byte` meets its contract: one store.
 use borrow.Author.Needs.{needs}
-use Rattle.buffer.specs.Written.{stored}
+use Rattle.buffer.specs.Theory.Writes.{stored}
 use Rattle.buffer.proofs.put_byte.Statement.{statement}
 use Rattle.buffer.proofs.put_byte.Tie as tie
 

@@ -1,9 +1,10 @@
--- `writing::put_bytes` meets its contract. The loop's invariant: `out` has `src`'s first copied bytes written at `at`, and `next` is the place after them.
+-- `buffer::put_bytes` meets its contract. The loop's invariant: `out` has `src`'s first copied bytes written at `at`, and `next` is the place after them.
 -- The measure is what is left of `src`.
 use Prim.Native.Nat.{_≤_, _-_}
 use native.Mathlib.Omega.{arith}
 use lib.ListN.{length, take}
-use Rattle.buffer.specs.Written.{Wrote, still, same, copied-one, copied-next, copied-all}
+use Rattle.buffer.specs.Written.{Wrote}
+use Rattle.buffer.specs.Theory.Writes.{still, same, copied-one, copied-next, copied-all}
 use Rattle.buffer.proofs.put_bytes.Statement.{statement}
 use Rattle.buffer.proofs.put_bytes.Tie as tie
 

@@ -1,9 +1,9 @@
--- `writing::put_u16` meets its contract: two stores in a row.
+-- `buffer::put_u16` meets its contract: two stores in a row.
 use borrow.Author.Needs.{needs}
 use native.Mathlib.Omega.{arith}
 use lib.ListN.{length-set}
 use Rattle.calculus.specs.Bytes.{two-bytes}
-use Rattle.buffer.specs.Written.{stored, then, landed}
+use Rattle.buffer.specs.Theory.Writes.{stored, then, landed}
 use Rattle.buffer.proofs.put_u16.Statement.{statement}
 use Rattle.buffer.proofs.put_u16.Tie as tie
 

@@ -1,4 +1,4 @@
--- `sound::all_nodes` meets its contract. The loop's invariant: the names passed have taken their nodes off the budget (proofs/Budgets.antt), and the array
+-- `image_check::all_nodes` meets its contract. The loop's invariant: the names passed have taken their nodes off the budget (proofs/Budgets.antt), and the array
 -- that is lent has its length. The measure is how many names are still to come.
 use mathlib.Core.Path.{_≡_, refl, sym, _∙_}
 use Prim.Native.Nat.{_-_}

@@ -1,4 +1,4 @@
--- `sound::check_image` meets its contract: a law for each return.
+-- `image_check::check_image` meets its contract: a law for each return.
 use mathlib.Core.Path.{sym, _∙_}
 use native.Mathlib.Omega.{arith}
 use borrow.Author.Needs.{needs}

@@ -1,4 +1,4 @@
--- `sound::expression_nodes` meets its contract: a law for each return.
+-- `image_check::expression_nodes` meets its contract: a law for each return.
 use mathlib.Core.Path.{sym, _∙_}
 use Prim.Native.Nat.{zero-le}
 use borrow.Author.Needs.{needs}

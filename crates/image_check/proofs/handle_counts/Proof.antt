@@ -1,4 +1,4 @@
--- `sound::handle_counts` meets its contract. The loop's invariant: the names passed are counted (proofs/Handles.antt). The measure is how many names are
+-- `image_check::handle_counts` meets its contract. The loop's invariant: the names passed are counted (proofs/Handles.antt). The measure is how many names are
 -- still to come.
 use Prim.Native.Nat.{_-_}
 use native.Mathlib.Omega.{arith}

@@ -1,4 +1,4 @@
--- `sound::pair_stands` meets its contract: a law for each return.
+-- `image_check::pair_stands` meets its contract: a law for each return.
 use borrow.Author.Needs.{needs}
 use Rattle.image_check.proofs.Components.{named-head}
 use Rattle.image_check.proofs.Pairs.{companion-head, companion-pair, future-pair, other-pair, outside-pair}

@@ -1,4 +1,4 @@
--- `sound::pairs_stand` meets its contract. The loop's invariant: the names passed keep what handles and futures must (proofs/Pairs.antt). The measure is
+-- `image_check::pairs_stand` meets its contract. The loop's invariant: the names passed keep what handles and futures must (proofs/Pairs.antt). The measure is
 -- how many names are still to come.
 use mathlib.Core.Path.{sym, _∙_}
 use Prim.Native.Nat.{_-_}

@@ -1,4 +1,4 @@
--- `layout::companion_at` meets its contract.
+-- `image_layout::companion_at` meets its contract.
 use borrow.Author.Needs.{needs}
 use mathlib.Core.Path.{refl}
 use Rattle.image_layout.specs.Slice.{companion-at}

@@ -1,4 +1,4 @@
--- `layout::expression_at` meets its contract.
+-- `image_layout::expression_at` meets its contract.
 use borrow.Author.Needs.{needs}
 use native.Mathlib.Nat.{add-sub-cancel-left}
 use Rattle.image_layout.specs.Slice.{expression-at}

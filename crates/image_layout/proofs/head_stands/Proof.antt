@@ -1,4 +1,4 @@
--- `layout::head_stands` meets its contract: a law for each return.
+-- `image_layout::head_stands` meets its contract: a law for each return.
 use mathlib.Core.Path.{sym, _∙_}
 use borrow.Author.Needs.{needs}
 use borrow.Author.Tests.{not-true, not-false}

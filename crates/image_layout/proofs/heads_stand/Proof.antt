@@ -1,4 +1,4 @@
--- `layout::heads_stand` meets its contract. The loop's invariant: k names have stood, and what is left of the test is the test of the others. The measure is
+-- `image_layout::heads_stand` meets its contract. The loop's invariant: k names have stood, and what is left of the test is the test of the others. The measure is
 -- their number.
 use mathlib.Core.Path.{sym, _∙_}
 use Prim.Native.Nat.{_-_}

@@ -1,4 +1,4 @@
--- `layout::kind_at` meets its contract.
+-- `image_layout::kind_at` meets its contract.
 use borrow.Author.Needs.{needs}
 use mathlib.Core.Path.{refl}
 use Rattle.image_layout.specs.Slice.{kind-at}

@@ -1,4 +1,4 @@
--- `layout::length_at` meets its contract.
+-- `image_layout::length_at` meets its contract.
 use borrow.Author.Needs.{needs}
 use Rattle.image_layout.specs.Slice.{length-at}
 use Rattle.image_layout.proofs.length_at.Statement.{statement}

@@ -1,4 +1,4 @@
--- `layout::names_of` meets its contract.
+-- `image_layout::names_of` meets its contract.
 use borrow.Author.Needs.{needs}
 use Rattle.image_layout.specs.Slice.{names}
 use Rattle.image_layout.proofs.names_of.Statement.{statement}

@@ -1,4 +1,4 @@
--- `layout::offset_at` meets its contract.
+-- `image_layout::offset_at` meets its contract.
 use borrow.Author.Needs.{needs}
 use Rattle.image_layout.specs.Slice.{offset-at}
 use Rattle.image_layout.proofs.offset_at.Statement.{statement}

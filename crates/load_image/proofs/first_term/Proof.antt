@@ -1,4 +1,4 @@
--- `starting::first_term` meets its contract.
+-- `load_image::first_term` meets its contract.
 use mathlib.Core.Path.{ap}
 use borrow.Author.Needs.{needs}
 use native.Mathlib.Omega.{arith}

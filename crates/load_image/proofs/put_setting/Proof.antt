@@ -1,7 +1,7 @@
--- `starting::put_setting` meets its contract.
+-- `load_image::put_setting` meets its contract.
 use borrow.Author.Needs.{needs}
 use Rattle.calculus.specs.Bytes.{two-bytes}
-use Rattle.buffer.specs.Written.{then}
+use Rattle.buffer.specs.Theory.Writes.{then}
 use Rattle.load_image.proofs.put_setting.Statement.{statement}
 use Rattle.load_image.proofs.put_setting.Tie as tie
 

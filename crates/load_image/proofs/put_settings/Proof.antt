@@ -1,10 +1,11 @@
--- `starting::put_settings` meets its contract.
+-- `load_image::put_settings` meets its contract.
 use mathlib.Core.Path.{ap, refl}
 use Prim.Native.Nat.{_-_, _≤_}
 use native.Mathlib.Omega.{arith}
 use Rattle.calculus.specs.Lists.{tabulate}
 use Rattle.calculus.specs.Theory.Tabulate.{tabulate-all}
-use Rattle.buffer.specs.Written.{Wrote, still, same, known-as}
+use Rattle.buffer.specs.Written.{Wrote}
+use Rattle.buffer.specs.Theory.Writes.{still, same, known-as}
 use Rattle.image_layout.specs.Encoded.{expressions}
 use Rattle.image_layout.specs.Theory.Turns.{expression-turn}
 use Rattle.load_image.specs.Starting.{setting}

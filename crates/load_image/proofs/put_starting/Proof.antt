@@ -1,4 +1,4 @@
--- `starting::put_starting` meets its contract.
+-- `load_image::put_starting` meets its contract.
 use mathlib.Core.Path.{ap, _≡_}
 use mathlib.Core.List.{List}
 use Prim.Native.Nat.{_-_, _+_, _*_, _≤_, ℕ}
@@ -6,14 +6,16 @@ use borrow.Author.Needs.{needs}
 use native.Mathlib.Omega.{arith}
 use lib.ListN.{length, take, drop}
 use Rattle.calculus.specs.Bytes.{Bytes, two-bytes}
+use Rattle.calculus.specs.Limits.{first-head, max-image-length}
 use Rattle.calculus.specs.Lists.{tabulate}
 use Rattle.recipe_file.specs.File.{bays, offset-of, first-term}
 use Rattle.recipe_file.specs.FileRule.{FileRule}
-use Rattle.buffer.specs.Written.{Wrote, same, known-as}
-use Rattle.buffer.specs.TwoBytes.{length-two-bytes}
+use Rattle.buffer.specs.Written.{Wrote}
+use Rattle.buffer.specs.Theory.Writes.{same, known-as}
+use Rattle.buffer.specs.Theory.TwoBytes.{length-two-bytes}
 use Rattle.image_layout.specs.Encoded.{expressions, head-offset}
 use Rattle.image_layout.specs.Theory.Turns.{room-kept, heads-end}
-use Rattle.load_image.specs.Starting.{setting, starting-at, starting-names}
+use Rattle.load_image.specs.Starting.{setting, setting-length, starting-at, starting-names}
 use Rattle.load_image.specs.Theory.Parts.{terms-begin-inside}
 use Rattle.load_spec.specs.Theory.Image.{laid, starting-fits}
 use Rattle.load_image.proofs.Names.{few-bays, starting-room, settings-length, starting-length, starting-wrote}
@@ -30,11 +32,11 @@ are-bytes e i = e .before .shared-slice-known .given i .fits
 is-laid : (e : tie.After-slice-known) → FileRule (file e)
 is-laid e = laid (file e) (are-bytes e) (e .before .before .pre .0)
 
-fits-all : (e : tie.After-slice-known) → head-offset (starting-names (file e)) + (3 * bays (file e) + (length (file e) - offset-of (file e) first-term)) ≤ 13826
+fits-all : (e : tie.After-slice-known) → head-offset (starting-names (file e)) + (setting-length * bays (file e) + (length (file e) - offset-of (file e) first-term)) ≤ max-image-length
 fits-all e = starting-length (file e) (are-bytes e) (e .before .before .pre .0)
 
 -- where each write ends
-names-end : (c : tie.After-put-heads-arg) → (c .before .before .before .put-u16 .result ≡ 2) × Wrote (c .before .before .before .before .before .before .before .before .args .out .now) 0 (two-bytes (starting-names (file (c .before .before .before .before .before .before)))) (c .before .before .before .put-u16 .last .0) (c .before .before .before .put-u16 .result)
+names-end : (c : tie.After-put-heads-arg) → (c .before .before .before .put-u16 .result ≡ first-head) × Wrote (c .before .before .before .before .before .before .before .before .args .out .now) 0 (two-bytes (starting-names (file (c .before .before .before .before .before .before)))) (c .before .before .before .put-u16 .last .0) (c .before .before .before .put-u16 .result)
 names-end c =
     let e = c .before .before .before .before .before .bay-count .ensures in
     let w = c .before .before .before .put-u16 .ensures in (

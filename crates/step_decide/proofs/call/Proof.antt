@@ -1,4 +1,4 @@
--- `deciding::call` meets its contract.
+-- `step_decide::call` meets its contract.
 use Rattle.step_decide.proofs.Needed.{call-head}
 use Rattle.step_decide.proofs.Decisions.{call-follows, call-waits, call-goes, call-refuses-used, call-refuses}
 use borrow.Author.Needs.{needs}

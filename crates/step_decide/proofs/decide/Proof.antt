@@ -1,4 +1,4 @@
--- `deciding::decide` meets its contract.
+-- `step_decide::decide` meets its contract.
 use Prim.Native.Nat.{_+_}
 use Rattle.calculus.specs.Bytes.{Bytes}
 use Rattle.step_decide.proofs.Tags.{tag-inside, tag-name, tag-application, tag-plain}

@@ -1,4 +1,4 @@
--- `deciding::exchange` meets its contract.
+-- `step_decide::exchange` meets its contract.
 use Prim.Native.Nat.{_+_}
 use Rattle.step_decide.specs.Decided.{refuses-wrong}
 use Rattle.step_decide.proofs.Tags.{first-inside, first-is-name, first-is-other}

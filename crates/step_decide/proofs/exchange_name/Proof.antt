@@ -1,4 +1,4 @@
--- `deciding::exchange_name` meets its contract.
+-- `step_decide::exchange_name` meets its contract.
 use Rattle.step_decide.proofs.Needed.{exchange-head}
 use Rattle.step_decide.proofs.Decisions.{exchange-follows, exchange-waits, exchange-goes, exchange-refuses}
 use borrow.Author.Needs.{needs}

@@ -1,4 +1,4 @@
--- `deciding::follow` meets its contract.
+-- `step_decide::follow` meets its contract.
 use borrow.Author.Tests.{not-true, not-false}
 use Rattle.step_decide.proofs.Decisions.{follow-good, follow-waits, follow-goes}
 use borrow.Author.Needs.{needs}

@@ -1,4 +1,4 @@
--- `deciding::rule_of` meets its contract.
+-- `step_decide::rule_of` meets its contract.
 use Rattle.step_decide.specs.Rules.{rules}
 use borrow.Author.Needs.{needs}
 use Rattle.step_decide.proofs.rule_of.Statement.{statement}

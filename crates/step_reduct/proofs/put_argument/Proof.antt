@@ -1,4 +1,4 @@
--- `reducts::put_argument` meets its contract.
+-- `step_reduct::put_argument` meets its contract.
 use native.Mathlib.Omega.{arith}
 use Rattle.step_rules.specs.Moves.{bytes-between}
 use Rattle.step_reduct.proofs.Redexes.{argument-length}

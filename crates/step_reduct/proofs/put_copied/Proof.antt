@@ -1,4 +1,4 @@
--- `reducts::put_copied` meets its contract.
+-- `step_reduct::put_copied` meets its contract.
 use native.Mathlib.Omega.{arith}
 use Rattle.step_rules.specs.Moves.{bytes-between}
 use Rattle.step_reduct.proofs.Redexes.{copied-length}

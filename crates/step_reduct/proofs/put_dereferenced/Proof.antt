@@ -1,7 +1,7 @@
--- `reducts::put_dereferenced` meets its contract.
+-- `step_reduct::put_dereferenced` meets its contract.
 use mathlib.Core.Path.{sym}
 use native.Mathlib.Omega.{arith}
-use Rattle.buffer.specs.Written.{same, then, known-as}
+use Rattle.buffer.specs.Theory.Writes.{same, then, known-as}
 use Rattle.step_rules.specs.Moves.{bytes-between}
 use Rattle.step_reduct.proofs.Redexes.{argument-length, copied-length, function-length, redex-3, length-3}
 use borrow.Author.Needs.{needs}

@@ -1,8 +1,8 @@
--- `reducts::put_handler` meets its contract.
+-- `step_reduct::put_handler` meets its contract.
 use mathlib.Core.Path.{ap, sym}
 use Prim.Native.Nat.{_-_, _+_, ℕ}
 use native.Mathlib.Omega.{arith}
-use Rattle.buffer.specs.Written.{same, then, known-as}
+use Rattle.buffer.specs.Theory.Writes.{same, then, known-as}
 use Rattle.step_rules.specs.Moves.{name-bytes}
 use Rattle.step_reduct.proofs.Redexes.{argument-length, redex-4, two-names, length-4}
 use borrow.Author.Needs.{needs}

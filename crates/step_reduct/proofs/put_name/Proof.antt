@@ -1,5 +1,5 @@
--- `reducts::put_name` meets its contract.
-use Rattle.buffer.specs.Written.{then}
+-- `step_reduct::put_name` meets its contract.
+use Rattle.buffer.specs.Theory.Writes.{then}
 use borrow.Author.Needs.{needs}
 use Rattle.step_reduct.proofs.put_name.Statement.{statement}
 use Rattle.step_reduct.proofs.put_name.Tie as tie

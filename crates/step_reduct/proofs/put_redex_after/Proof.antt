@@ -1,8 +1,8 @@
--- `reducts::put_redex_after` meets its contract.
+-- `step_reduct::put_redex_after` meets its contract.
 use mathlib.Core.Path.{ap, sym, _∙_}
 use native.Mathlib.Omega.{arith}
 use lib.ListN.{length}
-use Rattle.buffer.specs.Written.{known-as}
+use Rattle.buffer.specs.Theory.Writes.{known-as}
 use Rattle.step_rules.specs.Moves.{name-bytes}
 use Rattle.step_reduct.proofs.Redexes.{redex-1, redex-5, redex-7, redex-new, one-name, length-5}
 use Rattle.step_reduct.proofs.Outcomes.{body-good, body-few, redex-length}

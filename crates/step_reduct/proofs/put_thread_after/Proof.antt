@@ -1,9 +1,9 @@
--- `reducts::put_thread_after` meets its contract.
+-- `step_reduct::put_thread_after` meets its contract.
 use mathlib.Core.Path.{ap, _≡_, ap₂}
 use Prim.Native.Nat.{_-_, _+_, ℕ}
 use native.Mathlib.Omega.{arith}
 use lib.ListN.{take, drop}
-use Rattle.buffer.specs.Written.{same, then, known-as}
+use Rattle.buffer.specs.Theory.Writes.{same, then, known-as}
 use Rattle.step_rules.specs.Moves.{bytes-between, expression-after}
 use Rattle.step_reduct.proofs.Redexes.{length-between, has-thread, expression-length}
 use borrow.Author.Needs.{needs}

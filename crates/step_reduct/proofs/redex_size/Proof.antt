@@ -1,4 +1,4 @@
--- `reducts::redex_size` meets its contract.
+-- `step_reduct::redex_size` meets its contract.
 use mathlib.Core.Path.{ap}
 use native.Mathlib.Omega.{arith}
 use lib.ListN.{length}

@@ -1,4 +1,4 @@
--- `reducts::substituted_size` meets its contract.
+-- `step_reduct::substituted_size` meets its contract.
 use mathlib.Core.Path.{sym, _∙_}
 use Prim.Native.Nat.{_-_}
 use native.Mathlib.Omega.{arith}

@@ -1,4 +1,4 @@
--- `reducts::thread_size` meets its contract.
+-- `step_reduct::thread_size` meets its contract.
 use native.Mathlib.Omega.{arith}
 use Rattle.step_reduct.proofs.Redexes.{has-thread, expression-length}
 use borrow.Author.Needs.{needs}

@@ -1,4 +1,4 @@
--- `room::has_room` meets its contract.
+-- `step_room::has_room` meets its contract.
 use borrow.Author.Needs.{needs}
 use Rattle.step_room.proofs.Limits.{by-nodes, too-many-names}
 use Rattle.step_room.proofs.has_room.Statement.{statement}

@@ -1,8 +1,9 @@
--- `room::nodes_after` meets its contract, by the number that the table has for the rule.
+-- `step_room::nodes_after` meets its contract, by the number that the table has for the rule.
 use mathlib.Core.Path.{ap, _∙_}
 use Prim.Native.Nat.{_+_, _-_}
 use native.Mathlib.Omega.{arith}
 use borrow.Author.Needs.{needs}
+use Rattle.calculus.specs.Reduction.{BETA, THREAD-NEW, FUTURE-DEREF, HANDLE-NEW, HANDLE-BIND, CELL-NEW, CELL-EXCH, number}
 use Rattle.step_rules.specs.Moves.{node-counts}
 use Rattle.step_room.proofs.Tables.{counted-by, counted-still}
 use Rattle.step_room.proofs.nodes_after.Statement.{statement}
@@ -44,31 +45,31 @@ without-requires-4 c κs = search needs
 
 returns : tie.Need-returns
 unfolding node-counts
-returns c = c .nodes-applied .ensures ∙ counted-by _ _ _ 1 (omega arith)
+returns c = c .nodes-applied .ensures ∙ counted-by _ _ _ (number BETA) (omega arith)
 
 returns-2 : tie.Need-returns-2
 unfolding node-counts
-returns-2 c = counted-by _ _ _ 2 (omega arith)
+returns-2 c = counted-by _ _ _ (number THREAD-NEW) (omega arith)
 
 returns-3 : tie.Need-returns-3
 unfolding node-counts
-returns-3 c = c .without .ensures ∙ ap (λ v. c .before .before .before .before .args .count + v - 1) (c .before .nodes-at .ensures) ∙ counted-by _ _ _ 3 (omega arith)
+returns-3 c = c .without .ensures ∙ ap (λ v. c .before .before .before .before .args .count + v - 1) (c .before .nodes-at .ensures) ∙ counted-by _ _ _ (number FUTURE-DEREF) (omega arith)
 
 returns-4 : tie.Need-returns-4
 unfolding node-counts
-returns-4 c = counted-by _ _ _ 4 (omega arith)
+returns-4 c = counted-by _ _ _ (number HANDLE-NEW) (omega arith)
 
 returns-5 : tie.Need-returns-5
 unfolding node-counts
-returns-5 c = c .without2 .ensures ∙ counted-by _ _ _ 5 (omega arith)
+returns-5 c = c .without2 .ensures ∙ counted-by _ _ _ (number HANDLE-BIND) (omega arith)
 
 returns-6 : tie.Need-returns-6
 unfolding node-counts
-returns-6 c = c .without3 .ensures ∙ counted-by _ _ _ 6 (omega arith)
+returns-6 c = c .without3 .ensures ∙ counted-by _ _ _ (number CELL-NEW) (omega arith)
 
 returns-7 : tie.Need-returns-7
 unfolding node-counts
-returns-7 c = c .without4 .ensures ∙ counted-by _ _ _ 7 (omega arith)
+returns-7 c = c .without4 .ensures ∙ counted-by _ _ _ (number CELL-EXCH) (omega arith)
 
 returns-8 : tie.Need-returns-8
 returns-8 c = counted-still _ _ _ (c .match .rest)

@@ -1,4 +1,4 @@
--- `room::nodes_applied` meets its contract.
+-- `step_room::nodes_applied` meets its contract.
 use mathlib.Core.Path.{ap₂, _∙_}
 use Prim.Native.Nat.{ℕ, _*_, _+_, _-_, _≤_}
 use native.Mathlib.Omega.{arith}

@@ -1,4 +1,4 @@
--- `room::nodes_at` meets its contract.
+-- `step_room::nodes_at` meets its contract.
 use mathlib.Core.Path.{sym, _∙_}
 use borrow.Author.Needs.{needs}
 use Rattle.step_room.proofs.Scanned.{not-refused, scanned-nodes}

@@ -18,7 +18,8 @@ use Rattle.term_redex.specs.Places.{place-of, Searchable}
 use Rattle.step_rules.specs.Meets.{Deciding}
 use Rattle.step_rules.specs.Stepped.{Stepped}
 use Rattle.step_rules.specs.Theory.Found.{found-done, thread-searchable}
-use Rattle.step_room.specs.Room.{few-before, has-room}
+use Rattle.step_room.specs.Room.{has-room}
+use Rattle.step_room.specs.Theory.Room.{few-before}
 use Rattle.step_decide.specs.Decided.{Decided}
 use Rattle.image_check.specs.Theory.Names.{config-parts}
 use Rattle.image_check.specs.Theory.Whole.{whole-sound}

@@ -1,4 +1,4 @@
--- `putting::change_of` meets its contract.
+-- `step_write::change_of` meets its contract.
 use Rattle.step_write.proofs.Names.{it-goes, by-2, future-by-4, handle-by-4, handle-by-5, future-by-5, by-6, by-7, it-stays}
 use borrow.Author.Needs.{needs}
 use Rattle.step_write.proofs.change_of.Statement.{statement}

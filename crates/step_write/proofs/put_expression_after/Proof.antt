@@ -1,12 +1,13 @@
--- `putting::put_expression_after` meets its contract.
+-- `step_write::put_expression_after` meets its contract.
 use mathlib.Core.Path.{ap, sym, _∙_, _≡_}
 use mathlib.Core.List.{List}
 use Prim.Native.Nat.{_-_, _+_, _≤_, _<_, ℕ}
 use native.Mathlib.Omega.{arith}
 use lib.ListN.{length}
-use Rattle.buffer.specs.Written.{still, known-as}
+use Rattle.buffer.specs.Theory.Writes.{still, known-as}
 use Rattle.step_rules.specs.Moves.{component-after}
-use Rattle.image_layout.specs.Slice.{names, encoded-expression}
+use Rattle.image_layout.specs.Slice.{names}
+use Rattle.image_layout.specs.Theory.Slice.{encoded-expression}
 use Rattle.image_layout.specs.Theory.Reading.{has-expression}
 use Rattle.step_write.specs.declared.Change.{Change}
 use Rattle.step_write.specs.declared.Change.the-variants.{Kept, Goes, Starts, Awaited, Opens, Used, Bound, Holds}

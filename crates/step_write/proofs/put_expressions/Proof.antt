@@ -1,11 +1,12 @@
--- `putting::put_expressions` meets its contract.
+-- `step_write::put_expressions` meets its contract.
 use mathlib.Core.Path.{ap}
 use mathlib.Core.List.{List}
 use Prim.Native.Nat.{_-_, _≤_, _<_, ℕ}
 use native.Mathlib.Omega.{arith}
 use Rattle.calculus.specs.Lists.{tabulate}
 use Rattle.calculus.specs.Theory.Tabulate.{tabulate-all}
-use Rattle.buffer.specs.Written.{Wrote, still, same, known-as}
+use Rattle.buffer.specs.Written.{Wrote}
+use Rattle.buffer.specs.Theory.Writes.{still, same, known-as}
 use Rattle.image_layout.specs.Encoded.{expressions}
 use Rattle.image_layout.specs.Theory.Turns.{expression-turn, room-expression}
 use Rattle.step_rules.specs.Moves.{component-after, names-after}

@@ -1,12 +1,14 @@
--- `putting::put_image_after` meets its contract.
+-- `step_write::put_image_after` meets its contract.
 use mathlib.Core.Path.{ap, ap₂, _∙_, _≡_}
 use mathlib.Core.List.{List}
 use Prim.Native.Nat.{_-_, _+_, _≤_, _<_, ℕ}
 use native.Mathlib.Omega.{arith}
 use lib.ListN.{length}
 use Rattle.calculus.specs.Bytes.{two-bytes, two-byte-values}
-use Rattle.buffer.specs.Written.{Wrote, same, known-as}
-use Rattle.buffer.specs.TwoBytes.{length-two-bytes}
+use Rattle.calculus.specs.Limits.{first-head}
+use Rattle.buffer.specs.Written.{Wrote}
+use Rattle.buffer.specs.Theory.Writes.{same, known-as}
+use Rattle.buffer.specs.Theory.TwoBytes.{length-two-bytes}
 use Rattle.image_layout.specs.Theory.Turns.{Room, room-kept, room-names, heads-end, image-turns}
 use Rattle.step_rules.specs.Moves.{component-after, names-after}
 use Rattle.step_write.proofs.Components.{image-room, image-is}
@@ -26,12 +28,12 @@ image-in p = p .before .before .before .before .args .image .now
 
 total : (p : tie.After-new-names) → p .before .names-of .result + p .new-names .result ≡ names-after (image-in p) (p .before .before .before .before .args .step)
 unfolding names-after
-total p = ap₂ _+_ (p .before .names-of .ensures .0) (p .new-names .ensures)
+total p = ap₂ _+_ (p .before .names-of .ensures .0) (p .new-names .ensures .0)
 
 has-room : (p : tie.After-new-names) → Room (names-after (image-in p) (p .before .before .before .before .args .step)) (component-after (image-in p) (p .before .before .before .before .args .step)) (p .before .before .before .before .args .out .now)
 has-room p = image-room (image-in p) (p .before .before .before .before .args .step) (p .before .before .before .before .pre .1 .0) (p .before .before .before .before .pre .1 .1)
 
-few : (p : tie.After-new-names) → (2 ≤ length (p .before .before .before .before .args .out .now)) × (names-after (image-in p) (p .before .before .before .before .args .step) < two-byte-values)
+few : (p : tie.After-new-names) → (first-head ≤ length (p .before .before .before .before .args .out .now)) × (names-after (image-in p) (p .before .before .before .before .args .step) < two-byte-values)
 few p = room-names (names-after (image-in p) (p .before .before .before .before .args .step)) (component-after (image-in p) (p .before .before .before .before .args .step)) (has-room p)
 
 add-names : tie.Need-add-names
@@ -40,7 +42,7 @@ add-names c = omega (arith, total c, few c .1)
 put-u16-requires : tie.Need-put-u16-requires
 put-u16-requires c κs = let p = c .before in omega (arith, total p, few p)
 
-names-wrote : (c : tie.After-put-heads-arg) → (c .before .before .before .put-u16 .result ≡ 2)
+names-wrote : (c : tie.After-put-heads-arg) → (c .before .before .before .put-u16 .result ≡ first-head)
     × Wrote (c .before .before .before .before .before .before .before .before .before .args .out .now) 0 (two-bytes (names-after (image-in (c .before .before .before .before .before)) (c .before .before .before .before .before .before .before .before .before .args .step))) (c .before .before .before .put-u16 .last .0) (c .before .before .before .put-u16 .result)
 names-wrote c =
     let w = c .before .before .before .put-u16 .ensures in

@@ -1,9 +1,8 @@
--- `putting::put_started` meets its contract.
+-- `step_write::put_started` meets its contract.
 use mathlib.Core.Path.{ap}
 use native.Mathlib.Omega.{arith}
-use Rattle.buffer.specs.Written.{same, then, known-as}
+use Rattle.buffer.specs.Theory.Writes.{same, then, known-as}
 use Rattle.step_rules.specs.Moves.{name-bytes}
-use Rattle.image_layout.specs.Slice.{names}
 use Rattle.step_write.proofs.Components.{started-length}
 use Rattle.step_reduct.proofs.Redexes.{argument-length}
 use borrow.Author.Needs.{needs}
@@ -17,7 +16,7 @@ put-argument-requires : tie.Need-put-argument-requires
 put-argument-requires c κs =
     let w = c .before .before .before .before .before .before .before .pre .0 .0 in
     let u = c .before .before .before .put-byte .ensures in
-    (w, omega (arith, started-length w (names (c .before .before .before .before .before .before .before .args .image .now)), argument-length w, u .ends, same u, c .before .before .before .before .before .before .before .pre .1))
+    (w, omega (arith, started-length w, argument-length w, u .ends, same u, c .before .before .before .before .before .before .before .pre .1))
 
 names-of-requires : tie.Need-names-of-requires
 names-of-requires c κs = search needs
@@ -27,7 +26,7 @@ put-name-requires c κs =
     let w = c .before .before .before .before .before .before .before .before .before .before .before .before .pre .0 .0 in
     let u = c .before .before .before .before .before .before .before .before .put-byte .ensures in
     let v = c .before .before .before .before .put-argument .ensures in
-    (omega (arith, c .names-of .ensures .0, c .before .before .before .before .before .before .before .before .before .before .before .before .pre .0 .1), omega (arith, started-length w (names (c .before .before .before .before .before .before .before .before .before .before .before .before .args .image .now)), argument-length w, u .ends, same u, v .ends, same v, c .before .before .before .before .before .before .before .before .before .before .before .before .pre .1))
+    (omega (arith, c .names-of .ensures .0, c .before .before .before .before .before .before .before .before .before .before .before .before .pre .0 .1), omega (arith, started-length w, argument-length w, u .ends, same u, v .ends, same v, c .before .before .before .before .before .before .before .before .before .before .before .before .pre .1))
 
 same-length : tie.Need-same-length
 same-length c = search needs

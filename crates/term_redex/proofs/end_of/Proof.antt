@@ -1,4 +1,4 @@
--- `places::end_of` meets its contract. The loop's invariant: the end is past the terms still to come (proofs/Ends.antt).
+-- `term_redex::end_of` meets its contract. The loop's invariant: the end is past the terms still to come (proofs/Ends.antt).
 use mathlib.Core.Path.{_≡_}
 use Prim.Native.Nat.{_+_, _-_}
 use native.Mathlib.Omega.{arith}

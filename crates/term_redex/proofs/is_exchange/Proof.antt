@@ -1,4 +1,4 @@
--- `places::is_exchange` meets its contract: the function of an application stands one byte on.
+-- `term_redex::is_exchange` meets its contract: the function of an application stands one byte on.
 use mathlib.Core.Path.{_≡_, sym, _∙_}
 use mathlib.Core.Bool.{true}
 use borrow.Author.Needs.{needs}

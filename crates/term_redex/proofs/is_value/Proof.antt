@@ -1,4 +1,4 @@
--- `places::is_value` meets its contract, by what exch is applied to.
+-- `term_redex::is_value` meets its contract, by what exch is applied to.
 use mathlib.Core.Path.{sym, _∙_}
 use borrow.Author.Needs.{needs}
 use Rattle.term_redex.proofs.Exchanges.{value-node, value-not}

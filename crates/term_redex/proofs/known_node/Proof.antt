@@ -1,4 +1,4 @@
--- `places::known_node` meets its contract: a good term has a node at its front.
+-- `term_redex::known_node` meets its contract: a good term has a node at its front.
 use mathlib.Core.Path.{sym, _∙_}
 use borrow.Author.Needs.{needs}
 use Rattle.term.proofs.Views.{not-bad}

@@ -1,4 +1,4 @@
--- `substitution::count_uses` meets its contract. The loop's invariant: the places found and those in the terms still to be read are all. The measure: a
+-- `term_subst::count_uses` meets its contract. The loop's invariant: the places found and those in the terms still to be read are all. The measure: a
 -- node takes a byte, and adds at most one lambda.
 use mathlib.Core.Path.{_≡_, refl, sym, _∙_}
 use mathlib.Core.List.{List}

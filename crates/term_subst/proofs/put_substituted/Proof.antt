@@ -1,4 +1,4 @@
--- `substitution::put_substituted` meets its contract. The loop's invariant: what is written, and then the terms still to be read with the value for the
+-- `term_subst::put_substituted` meets its contract. The loop's invariant: what is written, and then the terms still to be read with the value for the
 -- variable, is the outcome. The measure: a node takes a byte, and adds at most one lambda.
 use mathlib.Core.Path.{_≡_, refl, sym, _∙_}
 use mathlib.Core.Bool.{false}
@@ -12,7 +12,7 @@ use Rattle.term.specs.declared.Front.the-variants.{Is}
 use Rattle.term.specs.declared.Node.{Node}
 use Rattle.term.specs.Reader.{node-at}
 use Rattle.term.specs.Expressions.{leaf-exp}
-use Rattle.buffer.specs.Written.{same}
+use Rattle.buffer.specs.Theory.Writes.{same}
 use Rattle.term_subst.specs.Variable.{is-variable}
 use Rattle.term_subst.proofs.Walked.{walked-deep, walked-good, walked-in, walked-low, walked-not-bad, walked-pending, walked-two-subterms}
 use Rattle.term_subst.proofs.Putting.{Putting, putting-done, putting-head-asks, putting-leaf, putting-one, putting-pop, putting-start, putting-two, putting-value, putting-value-asks}

@@ -1,4 +1,4 @@
--- `substitution::uses_of` meets its contract.
+-- `term_subst::uses_of` meets its contract.
 use borrow.Author.Needs.{needs}
 use Rattle.term_subst.proofs.Leaves.{uses-leaf}
 use Rattle.term_subst.proofs.uses_of.Statement.{statement}

@@ -1,10 +1,10 @@
--- `layout::word_at` meets its contract.
+-- `buffer::word_at` meets its contract.
 use Prim.Native.Nat.{_+_}
 use native.Mathlib.Omega.{arith}
 use borrow.Author.Needs.{needs}
 use Rattle.calculus.specs.Bytes.{word}
-use Rattle.image_layout.proofs.word_at.Statement.{statement}
-use Rattle.image_layout.proofs.word_at.Tie as tie
+use Rattle.buffer.proofs.word_at.Statement.{statement}
+use Rattle.buffer.proofs.word_at.Tie as tie
 
 shared-slice-read-result : tie.Need-shared-slice-read-result
 shared-slice-read-result c = search needs
