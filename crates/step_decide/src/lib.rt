@@ -135,7 +135,12 @@ fn exchange(image: &[u8], thread: usize, meeting: Meeting) -> Decision
 {
     let at = meeting.at;
     if image[at + Move::EXCHANGED] == Node::NAME {
-        return exchange_name(image, thread, meeting, image[at + Move::EXCHANGED_NAME] as usize);
+        return exchange_name(
+            image,
+            thread,
+            meeting,
+            image[at + Move::EXCHANGED_NAME] as usize,
+        );
     }
     Decision::Refuses(Cause::WRONG_KIND)
 }

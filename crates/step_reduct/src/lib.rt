@@ -81,7 +81,14 @@ fn put_redex_after(out: &mut [u8], at: usize, image: &[u8], step: Move) -> usize
 {
     let rule = step.rule;
     if rule == Rule::BETA {
-        return put_substituted(out, at, image, step.at + Move::BODY, step.argument, step.end);
+        return put_substituted(
+            out,
+            at,
+            image,
+            step.at + Move::BODY,
+            step.argument,
+            step.end,
+        );
     }
     if rule == Rule::FUTURE_DEREF {
         return put_dereferenced(out, at, image, step);

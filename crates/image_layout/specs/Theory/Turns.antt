@@ -74,8 +74,7 @@ module _ (m : ℕ) (f : ℕ → Encoded) where
         -- there is room for the next, and what it says fits
         pub room-head : Room old → (next .head + head-length ≤ length out) × ((next .expression < two-byte-values) × (this .size < two-byte-values))
         room-head room =
-            let small = small-head room below in
-            (
+            let small = small-head room below in (
               omega (arith, w .begins, same (w .wrote), w .wrote .ends, length-heads (head-offset m) (tabulate i f), length-tabulate i f, length-tabulated m f, room .fits-in),
               (omega (arith, small, w .due), omega (arith, small, says .sizes)),
             )

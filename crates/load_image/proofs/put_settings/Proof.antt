@@ -28,12 +28,6 @@ put-setting-requires c κs =
     let l = c .before .before .loop in
     omega (arith, l .inv .1 .ends, same (l .inv .1), settings-length (l .k), c .before .before .before .before .pre)
 
-add-k : tie.Need-add-k Inv-loop μ-loop
-add-k c = omega arith
-
-loop-less : tie.Need-loop-less Inv-loop μ-loop
-loop-less c = omega arith
-
 loop-again : tie.Need-loop-again Inv-loop μ-loop
 loop-again c = (omega arith, expression-turn 0 (λ i. setting) (c .before .before .before .before .before .loop .inv .1) (c .before .before .put-setting .ensures))
 
@@ -51,8 +45,8 @@ put-settings-spec =
     μ-loop
     loop-holds
     put-setting-requires
-    add-k
-    loop-less
+    (λ c. omega arith)
+    (λ c. omega arith)
     loop-again
     same-length
     returns)

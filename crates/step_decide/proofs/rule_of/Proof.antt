@@ -4,12 +4,9 @@ use borrow.Author.Needs.{needs}
 use Rattle.step_decide.proofs.rule_of.Statement.{statement}
 use Rattle.step_decide.proofs.rule_of.Tie as tie
 
-array-read-result : tie.Need-array-read-result
-array-read-result c = search needs
-
 returns : tie.Need-returns
 unfolding rules
 returns c = search needs
 
 pub rule-of-spec : {M : Type 1} → statement M
-rule-of-spec = tie.close (tie.spec array-read-result returns)
+rule-of-spec = tie.close (tie.spec (λ c. search needs) returns)

@@ -10,15 +10,9 @@ use Rattle.step_room.proofs.names_after.Tie as tie
 names-of-requires : tie.Need-names-of-requires
 names-of-requires c κs = has-names (c .before .pre)
 
-new-names-requires : tie.Need-new-names-requires
-new-names-requires c κs = search needs
-
-add-result : tie.Need-add-result
-add-result c = search needs
-
 returns : tie.Need-returns
 unfolding names-after
 returns c = ap₂ _+_ (c .before .names-of .ensures .0) (c .new-names .ensures .0)
 
 pub names-after-spec : {M : Type 1} → statement M
-names-after-spec = tie.close (tie.spec names-of-requires new-names-requires add-result returns)
+names-after-spec = tie.close (tie.spec names-of-requires (λ c κs. search needs) (λ c. search needs) returns)

@@ -9,16 +9,10 @@ use Rattle.step_room.proofs.Tables.{counted-by, counted-still}
 use Rattle.step_room.proofs.nodes_after.Statement.{statement}
 use Rattle.step_room.proofs.nodes_after.Tie as tie
 
-add-nodes-applied : tie.Need-add-nodes-applied
-add-nodes-applied c = search needs
-
 nodes-applied-requires : tie.Need-nodes-applied-requires
 nodes-applied-requires c κs =
     let p = c .before .before .before .pre in
     (p .0 .body (omega arith), (p .0 .argument, p .1))
-
-add-result : tie.Need-add-result
-add-result c = search needs
 
 nodes-at-requires : tie.Need-nodes-at-requires
 nodes-at-requires c κs = c .before .before .pre .0 .value (omega arith) .good
@@ -27,21 +21,6 @@ add-without : tie.Need-add-without
 add-without c =
     let p = c .before .before .before .pre in
     omega (arith, p .1, c .nodes-at .ensures, p .0 .value (omega arith) .few)
-
-without-requires : tie.Need-without-requires
-without-requires c κs = search needs
-
-add-result-2 : tie.Need-add-result-2
-add-result-2 c = search needs
-
-without-requires-2 : tie.Need-without-requires-2
-without-requires-2 c κs = search needs
-
-without-requires-3 : tie.Need-without-requires-3
-without-requires-3 c κs = search needs
-
-without-requires-4 : tie.Need-without-requires-4
-without-requires-4 c κs = search needs
 
 returns : tie.Need-returns
 unfolding node-counts
@@ -78,16 +57,16 @@ pub nodes-after-spec : {M : Type 1} → statement M
 nodes-after-spec =
     tie.close
     (tie.spec
-    add-nodes-applied
+    (λ c. search needs)
     nodes-applied-requires
-    add-result
+    (λ c. search needs)
     nodes-at-requires
     add-without
-    without-requires
-    add-result-2
-    without-requires-2
-    without-requires-3
-    without-requires-4
+    (λ c κs. search needs)
+    (λ c. search needs)
+    (λ c κs. search needs)
+    (λ c κs. search needs)
+    (λ c κs. search needs)
     returns
     returns-2
     returns-3

@@ -18,15 +18,6 @@ use borrow.Author.Needs.{needs}
 use Rattle.step_write.proofs.head_after.Statement.{statement}
 use Rattle.step_write.proofs.head_after.Tie as tie
 
-names-of-requires : tie.Need-names-of-requires
-names-of-requires c κs = search needs
-
-change-of-requires : tie.Need-change-of-requires
-change-of-requires c κs = search needs
-
-enum-told : tie.Need-enum-told
-enum-told c = search needs
-
 -- where the change is known
 abbrev start : tie.After-change-of → tie.Start
 start p = p .before .before .before
@@ -58,65 +49,8 @@ companion-at-requires c κs = let p = c .before .before .before in has-head (ima
 length-at-requires : tie.Need-length-at-requires
 length-at-requires c κs = let p = c .before .before .before .before in has-head (image-of p) (start p .pre .0 .stands) _ (there p (c .before .before .enum-told .given .1))
 
-enum-told-2 : tie.Need-enum-told-2
-enum-told-2 c = search needs
-
-thread-size-requires : tie.Need-thread-size-requires
-thread-size-requires c κs = search needs
-
-holding-requires : tie.Need-holding-requires
-holding-requires c κs = search needs
-
-enum-told-3 : tie.Need-enum-told-3
-enum-told-3 c = search needs
-
-sub-holding : tie.Need-sub-holding
-sub-holding c = search needs
-
-add-holding : tie.Need-add-holding
-add-holding c = search needs
-
-holding-requires-2 : tie.Need-holding-requires-2
-holding-requires-2 c κs = search needs
-
-enum-told-4 : tie.Need-enum-told-4
-enum-told-4 c = search needs
-
-bare-requires : tie.Need-bare-requires
-bare-requires c κs = search needs
-
-enum-told-5 : tie.Need-enum-told-5
-enum-told-5 c = search needs
-
 cast-bare : tie.Need-cast-bare
 cast-bare c = let p = c .before .before in omega (arith, p .before .names-of .ensures .0, sure (image-of p) (move-of p) (name-of p) (start p .pre .0) (start p .pre .1) Opens (is p Opens (c .enum-told5 .given .1)))
-
-bare-requires-2 : tie.Need-bare-requires-2
-bare-requires-2 c κs = search needs
-
-enum-told-6 : tie.Need-enum-told-6
-enum-told-6 c = search needs
-
-bare-requires-3 : tie.Need-bare-requires-3
-bare-requires-3 c κs = search needs
-
-enum-told-7 : tie.Need-enum-told-7
-enum-told-7 c = search needs
-
-sub-holding-2 : tie.Need-sub-holding-2
-sub-holding-2 c = search needs
-
-holding-requires-3 : tie.Need-holding-requires-3
-holding-requires-3 c κs = search needs
-
-enum-told-8 : tie.Need-enum-told-8
-enum-told-8 c = search needs
-
-sub-holding-3 : tie.Need-sub-holding-3
-sub-holding-3 c = search needs
-
-holding-requires-4 : tie.Need-holding-requires-4
-holding-requires-4 c κs = search needs
 
 returns : tie.Need-returns
 unfolding changed
@@ -191,32 +125,32 @@ pub head-after-spec : {M : Type 1} → statement M
 head-after-spec =
     tie.close
     (tie.spec
-    names-of-requires
-    change-of-requires
-    enum-told
+    (λ c κs. search needs)
+    (λ c κs. search needs)
+    (λ c. search needs)
     kind-at-requires
     companion-at-requires
     length-at-requires
-    enum-told-2
-    thread-size-requires
-    holding-requires
-    enum-told-3
-    sub-holding
-    add-holding
-    holding-requires-2
-    enum-told-4
-    bare-requires
-    enum-told-5
+    (λ c. search needs)
+    (λ c κs. search needs)
+    (λ c κs. search needs)
+    (λ c. search needs)
+    (λ c. search needs)
+    (λ c. search needs)
+    (λ c κs. search needs)
+    (λ c. search needs)
+    (λ c κs. search needs)
+    (λ c. search needs)
     cast-bare
-    bare-requires-2
-    enum-told-6
-    bare-requires-3
-    enum-told-7
-    sub-holding-2
-    holding-requires-3
-    enum-told-8
-    sub-holding-3
-    holding-requires-4
+    (λ c κs. search needs)
+    (λ c. search needs)
+    (λ c κs. search needs)
+    (λ c. search needs)
+    (λ c. search needs)
+    (λ c κs. search needs)
+    (λ c. search needs)
+    (λ c. search needs)
+    (λ c κs. search needs)
     returns
     returns-2
     returns-3
