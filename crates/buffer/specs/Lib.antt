@@ -2,5 +2,4 @@
 
 -- the buffer after a write, and what every writer promises
 pub mod Written
--- document 01, "two-byte numbers are little-endian"
-pub mod TwoBytes
+pub mod Theory

@@ -10,7 +10,7 @@ use lib.ListN.{length}
 use Rattle.calculus.specs.Syntax.{Const, unit, num, op, Exp, var, name, const, lam, app, Value, Component, thread-of, holds, open-for, used, awaited, Config, at, Allowed, constants, EachAll}
 use Rattle.calculus.specs.Names.{count-in}
 use Rattle.calculus.specs.Step.{Place, settled, meet, loose, place}
-use Rattle.calculus.specs.Limits.{max-num, max-names, max-nodes, byte-values}
+use Rattle.calculus.specs.Limits.{max-num, max-names, max-nodes, byte-values, first-head, head-length}
 
 -- document 01, "variables are bound inside them": every variable of e is bound in e, or by one of `depth` lambdas around it
 pub data Closed : ℕ → Exp → Type 0 where
@@ -72,7 +72,7 @@ nodes-all C = sum-all nodes C
 
 -- document 01, "a two-byte m", "m heads of six bytes", "then the expressions": the length of the image that holds C
 abbrev pub image-length : Config → ℕ
-image-length C = 2 + 6 * length C + sum-all size C
+image-length C = first-head + head-length * length C + sum-all size C
 
 -- document 01, "At most 256 names and 4,096 nodes in all"
 pub record WithinLimits (C : Config) : Type 0 where

@@ -16,6 +16,7 @@ use Rattle.calculus.specs.Theory.Tests.{and-parts, clash}
 use Rattle.calculus.specs.Theory.Lists.{at-bound}
 use Rattle.calculus.specs.Theory.Step.{waiting-iff}
 use Rattle.calculus.specs.Theory.ImageTest.{image-test-iff}
+use Rattle.calculus.specs.Causes.{buffer-cause, image-cause, room-cause}
 use Rattle.image_layout.specs.Layout.{heads-stand}
 use Rattle.image.specs.Configuration.{config-of}
 use Rattle.image.specs.Stands.{image-stands, terms-stand}
@@ -45,7 +46,7 @@ replies-waiting : (a : Answer) {y : ℕ} → reply-of a ≡ waits y → a ≡ wa
 unfolding reply-of
 replies-waiting (rule r C) {y} e = absurd (go (limits-test C) (moved (number r) C) (λ p. clash (cc)) e)
   where
-    go : (t : Bool) (q : Reply) → ¬ (q ≡ waits y) → cond t q (refuses 15) ≡ waits y → ⊥
+    go : (t : Bool) (q : Reply) → ¬ (q ≡ waits y) → cond t q (refuses room-cause) ≡ waits y → ⊥
     go true q n e = n e
     go false q n e = clash (cc)
 replies-waiting (waiting z) e = cc
@@ -58,7 +59,7 @@ pub waiting-small : (s : List ℕ) (x : ℕ) (out : List ℕ) → NameSmall (out
 unfolding outcome-of step-reply
 waiting-small s x out = record { small = λ y e. go (ltb (length out) max-image-length) (image-stands s) refl (waits-for (step-reply s x (length out)) e) }
   where
-    go : {y : ℕ} (b t : Bool) → image-stands s ≡ t → cond b (refuses 12) (cond t (reply-of (step-of (config-of s) x)) (refuses 13)) ≡ waits y → y < 4294967296
+    go : {y : ℕ} (b t : Bool) → image-stands s ≡ t → cond b (refuses buffer-cause) (cond t (reply-of (step-of (config-of s) x)) (refuses image-cause)) ≡ waits y → y < max-names
     go true t p e = absurd (clash (cc))
     go false false p e = absurd (clash (cc))
     go {y} false true p e =

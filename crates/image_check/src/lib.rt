@@ -132,6 +132,7 @@ fn pair_stands(image: &[u8], names: usize, k: usize, count: u16) -> bool
     image_layout::kind_at(image, companion) == Image::FUTURE
 }
 
+// Whether handles and futures stand, name by name.
 fn pairs_stand(image: &[u8]) -> bool
     requires { ⌜ (heads-stand (now image) ≡ true) × (names (now image) ≤ max-names) ⌝ }
     ensures { λ r. ⌜ r ≡ pairs-stand (now (image .entry)) ⌝ }
@@ -152,7 +153,7 @@ fn pairs_stand(image: &[u8]) -> bool
 pub fn check_image(image: &[u8]) -> Checked
     ensures { λ r. ⌜ r ≡ checked (now (image .entry)) ⌝ }
 {
-    if image.len() < 2 {
+    if image.len() < Image::FIRST_HEAD {
         return Checked::Broken;
     }
     if Image::MAX_NAMES < image_layout::names_of(image) {

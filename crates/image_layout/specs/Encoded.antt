@@ -4,6 +4,7 @@ use mathlib.Core.List.{List, [], _∷_, _++_}
 use Prim.Native.Nat.{ℕ, _+_, _*_}
 use lib.ListN.{length}
 use Rattle.calculus.specs.Bytes.{two-bytes}
+use Rattle.calculus.specs.Limits.{first-head, head-length}
 
 -- what the head of a name and its expression say, but for where the expression stands
 pub record Encoded : Type 0 where
@@ -17,7 +18,7 @@ head kind companion offset size = (kind ∷ companion ∷ []) ++ two-bytes offse
 
 -- where the head of name k stands; with m for k, where the heads end
 abbrev pub head-offset : ℕ → ℕ
-head-offset k = 2 + 6 * k
+head-offset k = first-head + head-length * k
 
 -- the heads of the components, the first expression being due at `offset`: "each next begins where the former ends"
 unfoldable pub heads : ℕ → List Encoded → List ℕ

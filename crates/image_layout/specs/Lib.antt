@@ -8,4 +8,6 @@ pub mod Slice
 pub mod Layout
 -- what a slice must have for a part of it to be read
 pub mod Readable
+-- what a head that is to be written says
+pub mod Heads
 pub mod Theory

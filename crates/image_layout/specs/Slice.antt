@@ -1,16 +1,10 @@
 -- A slice read as an image: m, and the heads and expressions of its names. These compute for any slice; what they say of it is `Layout`'s.
-use mathlib.Core.Path.{_≡_, refl}
-use mathlib.Core.Bool.{cond}
-use mathlib.Core.Option.{some}
 use mathlib.Core.List.{List}
-use Prim.Native.Nat.{ℕ, _+_, _<_}
-use lib.Dec.{eqb}
-use lib.ListN.{length, getD, take, drop, set}
+use Prim.Native.Nat.{ℕ, _+_}
+use lib.ListN.{getD, take, drop}
 use Rattle.calculus.specs.Bytes.{word}
-use Rattle.calculus.specs.Syntax.{at}
-use Rattle.image_layout.specs.Encoded.{Encoded, head-offset}
 use Rattle.calculus.specs.Lists.{tabulate}
-use Rattle.calculus.specs.Theory.Tabulate.{length-tabulate, tabulate-at, set-tabulate}
+use Rattle.image_layout.specs.Encoded.{Encoded, head-offset}
 
 -- document 01, "It starts with a two-byte m, the number of names"
 unfoldable pub names : List ℕ → ℕ
@@ -29,6 +23,7 @@ offset-at s k = word s (head-offset k + 2)
 unfoldable pub length-at : List ℕ → ℕ → ℕ
 length-at s k = word s (head-offset k + 4)
 
+-- the expression of name k: so many bytes from its offset on
 unfoldable pub expression-at : List ℕ → ℕ → List ℕ
 expression-at s k = take (length-at s k) (drop (offset-at s k) s)
 
@@ -39,32 +34,3 @@ encoded-at s k = record { kind = kind-at s k; companion = companion-at s k; expr
 -- the components of all names
 unfoldable pub encoded-all : List ℕ → List Encoded
 encoded-all s = tabulate (names s) (encoded-at s)
-
--- ---- laws: what a component that is read says
-
-pub encoded-kind : (s : List ℕ) (k : ℕ) → encoded-at s k .kind ≡ kind-at s k
-unfolding encoded-at
-encoded-kind s k = refl
-
-pub encoded-companion : (s : List ℕ) (k : ℕ) → encoded-at s k .companion ≡ companion-at s k
-unfolding encoded-at
-encoded-companion s k = refl
-
-pub encoded-expression : (s : List ℕ) (k : ℕ) → encoded-at s k .expression ≡ expression-at s k
-unfolding encoded-at
-encoded-expression s k = refl
-
--- there are m of them
-pub length-encoded : (s : List ℕ) → length (encoded-all s) ≡ names s
-unfolding encoded-all
-length-encoded s = length-tabulate (names s) (encoded-at s)
-
--- and that of name k stands at k
-pub encoded-there : (s : List ℕ) (k : ℕ) → k < names s → at (encoded-all s) k ≡ some (encoded-at s k)
-unfolding encoded-all
-encoded-there s k h = tabulate-at (names s) (encoded-at s) k h
-
--- one component changed, name by name
-pub encoded-changed : (s : List ℕ) (x : ℕ) (e : Encoded) → set (encoded-all s) x e ≡ tabulate (names s) (λ i. cond (eqb i x) e (encoded-at s i))
-unfolding encoded-all
-encoded-changed s x e = set-tabulate (names s) x (encoded-at s) e

@@ -1,5 +1,7 @@
 -- What is proved of the layout; nobody needs to read it in order to believe the definitions.
 
+-- a component that is read
+pub mod Slice
 -- lists of components: their heads, expressions and lengths
 pub mod Components
 -- the test of the layout decides it

@@ -1,28 +1,35 @@
 // Document 01, "The image": its limits and kinds, and its heads and expressions read and written in bytes.
 use buffer::put_byte;
 use buffer::put_u16;
+use buffer::word_at;
 use numbers::Image;
 ghost use mathlib.Core.Path.{_≡_};
 ghost use Prim.Native.Nat.{_+_, _<_, _≤_};
 ghost use lib.ListN.{length};
-ghost use Rattle.calculus.specs.Bytes.{two-byte-values, word};
+ghost use Rattle.calculus.specs.Bytes.{two-byte-values};
+ghost use Rattle.calculus.specs.Limits.{first-head, head-length};
 ghost use Rattle.buffer.specs.Written.{Wrote};
 ghost use Rattle.image_layout.specs.Encoded.{head};
 ghost use Rattle.image_layout.specs.Slice.{names, kind-at, companion-at, offset-at, length-at, expression-at};
 ghost use Rattle.image_layout.specs.Layout.{head-agrees, head-stands, heads-stand};
 ghost use Rattle.image_layout.specs.Readable.{HasHead, HasExpression};
 
-// The two-byte number at `at`.
-fn word_at(image: &[u8], at: usize) -> usize
-    requires { ⌜ at + 2 ≤ length (now image) ⌝ }
-    ensures { λ r. ⌜ (r ≡ word (now (image .entry)) at) × (r < two-byte-values) ⌝ }
-{
-    (image[at] as usize) + 256 * (image[at + 1] as usize)
+// What the head of a name says, but for where its expression stands.
+pub struct Head {
+    pub kind: u8,
+    pub companion: u8,
+    pub size: usize,
+}
+
+// Where the next head and the next expression go.
+pub struct Next {
+    pub head: usize,
+    pub expression: usize,
 }
 
 // The number of names.
 pub fn names_of(image: &[u8]) -> usize
-    requires { ⌜ 2 ≤ length (now image) ⌝ }
+    requires { ⌜ first-head ≤ length (now image) ⌝ }
     ensures { λ r. ⌜ (r ≡ names (now (image .entry))) × (r < two-byte-values) ⌝ }
 {
     word_at(image, 0)
@@ -70,22 +77,20 @@ pub fn expression_at(image: &[u8], k: usize) -> &[u8]
     &image[begin..begin + size]
 }
 
-// Writes the six bytes of a head. The companion byte is written by no other function.
-pub fn put_head(
-    out: &mut [u8],
-    at: usize,
-    kind: u8,
-    companion: u8,
-    offset: usize,
-    size: usize,
-) -> usize
-    requires { ⌜ (at + 6 ≤ length (now out)) × ((offset < two-byte-values) × (size < two-byte-values)) ⌝ }
-    ensures { λ r. ⌜ Wrote (now (out .entry)) at (head kind companion offset size) (now (out .exit)) r ⌝ }
+// Writes the six bytes of the next head. The companion byte is written by no other function.
+pub fn put_head(out: &mut [u8], next: Next, this: Head) -> Next
+    requires { ⌜ (next .head + head-length ≤ length (now out)) × ((next .expression < two-byte-values) × (this .size < two-byte-values)) ⌝ }
+    ensures { λ r. ⌜ Wrote (now (out .entry)) (next .head) (head (this .kind) (this .companion) (next .expression) (this .size)) (now (out .exit)) (r .head) ⌝ }
+    ensures { λ r. ⌜ r .expression ≡ next .expression + this .size ⌝ }
 {
-    let after_kind = put_byte(out, at, kind);
-    let after_companion = put_byte(out, after_kind, companion);
-    let after_offset = put_u16(out, after_companion, offset);
-    put_u16(out, after_offset, size)
+    let after_kind = put_byte(out, next.head, this.kind);
+    let after_companion = put_byte(out, after_kind, this.companion);
+    let after_offset = put_u16(out, after_companion, next.expression);
+    let after_size = put_u16(out, after_offset, this.size);
+    Next {
+        head: after_size,
+        expression: next.expression + this.size,
+    }
 }
 
 // Whether kind, companion and length of a head agree.

@@ -1,10 +1,8 @@
 -- The names of a starting image one by one: what the loops read and write of them.
 use mathlib.Core.Path.{_≡_, refl, sym, ap, _∙_}
-use mathlib.Core.Bool.{Bool, cond, true, false}
 use mathlib.Core.List.{List, _++_}
 use Prim.Native.Nat.{ℕ, zero, suc, _+_, _*_, _-_, _<_, _≤_}
 use native.Mathlib.Omega.{arith}
-use lib.Dec.{ltb}
 use lib.ListN.{length, length-append, drop, take, length-drop}
 use lib.Seq.{take-all}
 use Rattle.calculus.specs.Bytes.{Bytes, two-bytes}
@@ -15,13 +13,15 @@ use Rattle.recipe_file.specs.File.{first-term, bays, pair-offset, offset-of, te
 use Rattle.recipe_file.specs.FileRule.{FileRule}
 use Rattle.recipe_file.proofs.Inside.{bays-between, length-table-bytes}
 use Rattle.check_spec.specs.Verdict.{refusal}
-use Rattle.buffer.specs.Written.{Wrote, then, known-as}
+use Rattle.buffer.specs.Written.{Wrote}
+use Rattle.buffer.specs.Theory.Writes.{then, known-as}
 use Rattle.calculus.specs.Kinds.{thread-kind, cell-kind}
 use Rattle.image_layout.specs.Encoded.{Encoded, heads, head-offset, expressions}
+use Rattle.image_layout.specs.Heads.{Says}
 use Rattle.image_layout.specs.Theory.Components.{expressions-append, so-far, so-far-none, so-far-next, length-tabulated}
 use Rattle.image_layout.specs.Theory.Turns.{Room, image-turns}
 use Rattle.load_spec.specs.Starting.{starting-image}
-use Rattle.load_image.specs.Starting.{setting, bay-thread, starting-at, starting-names}
+use Rattle.load_image.specs.Starting.{setting, setting-length, bay-thread, starting-at, starting-names}
 use Rattle.load_image.specs.Theory.Parts.{starting-parts, terms-are-end}
 use Rattle.load_spec.specs.Theory.Image.{laid, starting-fits}
 use Rattle.load_image.specs.Theory.Image.{starting-tabulated}
@@ -36,32 +36,16 @@ unfolding bays
 first-begins {s} l = omega (arith, l .first, l .next 0 (omega (arith, l .has-parts .low)), length-table-bytes l, l .has-parts .low)
 
 -- what the head of name k says
-choose-kind : (b : Bool) (x y : Encoded) → cond b x y .kind ≡ cond b (x .kind) (y .kind)
-choose-kind true x y = refl
-choose-kind false x y = refl
-
-pub kind-is : (s : List ℕ) (k : ℕ) → cond (ltb k (bays s)) cell-kind thread-kind ≡ starting-at s k .kind
-unfolding starting-at bay-thread
-kind-is s k = sym (choose-kind (ltb k (bays s)) setting (bay-thread s (k - bays s)))
-
-pub companion-is : (s : List ℕ) (k : ℕ) → 0 ≡ starting-at s k .companion
-unfolding starting-at bay-thread
-companion-is s k = go (ltb k (bays s))
-  where
-    go : (b : Bool) → 0 ≡ cond b setting (bay-thread s (k - bays s)) .companion
-    go true = refl
-    go false = refl
-
-pub setting-size : (s : List ℕ) (k : ℕ) → k < bays s → 3 ≡ length (starting-at s k .expression)
+pub says-setting : (s : List ℕ) (k : ℕ) → k < bays s → Says (record { kind = cell-kind; companion = 0; size = setting-length }) (starting-at s k)
 unfolding starting-at
-setting-size s k l = rw (ltb-complete k (bays s) l) refl
+says-setting s k l = rw (ltb-complete k (bays s) l) (record { kinds = refl; companions = refl; sizes = refl })
 
-pub thread-size : (s : List ℕ) (k : ℕ) → bays s ≤ k → length (term-bytes s (k - bays s)) ≡ length (starting-at s k .expression)
+pub says-thread : (s : List ℕ) (k : ℕ) {n size : ℕ} → n ≡ bays s → n ≤ k → size ≡ length (term-bytes s (k - n)) → Says (record { kind = thread-kind; companion = 0; size = size }) (starting-at s k)
 unfolding starting-at bay-thread
-thread-size s k l = rw (ltb-not k (bays s) l) refl
+says-thread s k e l p = rw (ltb-not k (bays s) (omega arith)) (record { kinds = refl; companions = refl; sizes = p ∙ ap (λ (n : ℕ). length (term-bytes s (k - n))) e })
 
 -- three bytes for each setting
-pub settings-length : (n : ℕ) → so-far (λ k. setting) n ≡ 3 * n
+pub settings-length : (n : ℕ) → so-far (λ k. setting) n ≡ setting-length * n
 settings-length zero = so-far-none (λ k. setting)
 settings-length (suc n) = omega (arith, so-far-next (λ k. setting) n, settings-length n)
 
@@ -74,7 +58,7 @@ module _ (s : List ℕ) (b : Bytes s) (accepted : refusal s ≡ 0) where
       record { fits-in = omega arith; small = omega arith }
 
   -- where the expressions of all names end
-  pub expressions-length : so-far (starting-at s) (starting-names s) ≡ 3 * bays s + (length s - offset-of s first-term)
+  pub expressions-length : so-far (starting-at s) (starting-names s) ≡ setting-length * bays s + (length s - offset-of s first-term)
   expressions-length =
       let l = laid s b accepted in
       ap (λ (E : List Encoded). length (expressions E)) (starting-parts s)
@@ -82,7 +66,7 @@ module _ (s : List ℕ) (b : Bytes s) (accepted : refusal s ≡ 0) where
       (omega (arith, settings-length (bays s), ap length (terms-are-end s l), length-drop (offset-of s first-term) s))
 
   -- the whole length, in its three parts
-  pub starting-length : head-offset (starting-names s) + (3 * bays s + (length s - offset-of s first-term)) ≤ max-image-length
+  pub starting-length : head-offset (starting-names s) + (setting-length * bays s + (length s - offset-of s first-term)) ≤ max-image-length
   starting-length =
       omega (arith, expressions-length, length-tabulated (starting-names s) (starting-at s), ap length (starting-tabulated s b accepted), starting-fits s b accepted)
 

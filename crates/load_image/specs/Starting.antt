@@ -12,6 +12,10 @@ use Rattle.image_layout.specs.Encoded.{Encoded}
 abbrev pub setting : Encoded
 setting = record { kind = cell-kind; companion = 0; expression = 4 ∷ 0 ∷ 0 ∷ [] }
 
+-- how many bytes it holds
+abbrev pub setting-length : ℕ
+setting-length = 3
+
 -- a bay's thread, which holds the bytes of its part
 unfoldable pub bay-thread : List ℕ → ℕ → Encoded
 bay-thread s bay = record { kind = thread-kind; companion = 0; expression = term-bytes s bay }

@@ -2,6 +2,8 @@
 use buffer::put_byte;
 use buffer::put_part;
 use buffer::put_u16;
+use image_layout::Head;
+use image_layout::Next;
 use image_layout::put_head;
 use numbers::Image;
 use recipe_file::bay_count;
@@ -10,22 +12,23 @@ use recipe_file::table_bytes;
 use recipe_file::term_bytes;
 use term::Node;
 ghost use mathlib.Core.Path.{_≡_};
-ghost use mathlib.Core.Bool.{cond};
 ghost use Prim.Native.Nat.{_+_, _*_, _<_, _≤_};
-ghost use lib.Dec.{ltb};
 ghost use lib.ListN.{length};
 ghost use Rattle.calculus.specs.Bytes.{two-byte-values};
-ghost use Rattle.calculus.specs.Limits.{max-image-length};
+ghost use Rattle.calculus.specs.Limits.{first-head, max-image-length};
 ghost use Rattle.calculus.specs.Lists.{tabulate};
 ghost use Rattle.recipe_file.specs.File.{bays, offset-of, first-term};
 ghost use Rattle.recipe_file.specs.FileRule.{FileRule};
 ghost use Rattle.check_spec.specs.Verdict.{refusal};
 ghost use Rattle.buffer.specs.Written.{Wrote};
-ghost use Rattle.calculus.specs.Kinds.{thread-kind, cell-kind};
 ghost use Rattle.image_layout.specs.Encoded.{heads, head-offset, expressions};
+ghost use Rattle.image_layout.specs.Heads.{Says};
 ghost use Rattle.image_layout.specs.Theory.Turns.{Room};
 ghost use Rattle.load_spec.specs.Starting.{starting-image};
-ghost use Rattle.load_image.specs.Starting.{setting, starting-at, starting-names};
+ghost use Rattle.load_image.specs.Starting.{setting, setting-length, starting-at, starting-names};
+
+// The bytes of what a setting holds first, num 0.
+const SETTING_LENGTH: usize = 3;
 
 // Where the first bay's term begins: behind the pairs and the type table.
 fn first_term(recipe: &[u8]) -> usize
@@ -35,50 +38,48 @@ fn first_term(recipe: &[u8]) -> usize
     pair_offset(bay_count(recipe) + 1) + table_bytes(recipe).len()
 }
 
-// The kind of name k, of a recipe with so many bays.
-fn kind_of(bays: usize, k: usize) -> u8
-    ensures { λ r. ⌜ r ≡ cond (ltb k bays) cell-kind thread-kind ⌝ }
-{
-    if k < bays {
-        return Image::CELL;
-    }
-    Image::THREAD
-}
-
-// How many bytes the expression of name k has.
-fn size_of(recipe: &[u8], k: usize) -> usize
+// The head of name k.
+fn head_of(recipe: &[u8], k: usize) -> Head
     requires { ⌜ FileRule (now recipe) × (k < starting-names (now recipe)) ⌝ }
-    ensures { λ r. ⌜ r ≡ length (starting-at (now (recipe .entry)) k .expression) ⌝ }
+    ensures { λ r. ⌜ Says r (starting-at (now (recipe .entry)) k) ⌝ }
 {
     let bays = bay_count(recipe);
     if k < bays {
-        return 3;
+        return Head {
+            kind: Image::CELL,
+            companion: 0,
+            size: SETTING_LENGTH,
+        };
     }
-    term_bytes(recipe, k - bays).len()
+    Head {
+        kind: Image::THREAD,
+        companion: 0,
+        size: term_bytes(recipe, k - bays).len(),
+    }
 }
 
 // Writes the heads of all names.
 fn put_heads(out: &mut [u8], at: usize, recipe: &[u8]) -> usize
-    requires { ⌜ FileRule (now recipe) × (Room (starting-names (now recipe)) (starting-at (now recipe)) (now out) × (at ≡ 2)) ⌝ }
+    requires { ⌜ FileRule (now recipe) × (Room (starting-names (now recipe)) (starting-at (now recipe)) (now out) × (at ≡ first-head)) ⌝ }
     ensures { λ r. ⌜ Wrote (now (out .entry)) at (heads (head-offset (starting-names (now (recipe .entry)))) (tabulate (starting-names (now (recipe .entry))) (starting-at (now (recipe .entry))))) (now (out .exit)) r ⌝ }
 {
     let bays = bay_count(recipe);
     let names = bays + bays;
-    let mut next = at;
-    let mut offset = 2 + 6 * names;
+    let mut next = Next {
+        head: at,
+        expression: Image::FIRST_HEAD + Image::HEAD_LENGTH * names,
+    };
     let mut k = 0;
     while k < names {
-        let size = size_of(recipe, k);
-        next = put_head(out, next, kind_of(bays, k), 0, offset, size);
-        offset += size;
+        next = put_head(out, next, head_of(recipe, k));
         k += 1;
     }
-    next
+    next.head
 }
 
 // Writes what a setting holds first: num 0.
 fn put_setting(out: &mut [u8], at: usize) -> usize
-    requires { ⌜ at + 3 ≤ length (now out) ⌝ }
+    requires { ⌜ at + setting-length ≤ length (now out) ⌝ }
     ensures { λ r. ⌜ Wrote (now (out .entry)) at (setting .expression) (now (out .exit)) r ⌝ }
 {
     let next = put_byte(out, at, Node::NUM);
@@ -87,7 +88,7 @@ fn put_setting(out: &mut [u8], at: usize) -> usize
 
 // Writes that for so many settings.
 fn put_settings(out: &mut [u8], at: usize, bays: usize) -> usize
-    requires { ⌜ (bays < two-byte-values) × (at + 3 * bays ≤ length (now out)) ⌝ }
+    requires { ⌜ (bays < two-byte-values) × (at + setting-length * bays ≤ length (now out)) ⌝ }
     ensures { λ r. ⌜ Wrote (now (out .entry)) at (expressions (tabulate bays (λ k. setting))) (now (out .exit)) r ⌝ }
 {
     let mut next = at;

@@ -8,9 +8,11 @@ use lib.Dec.{eqb}
 use lib.ListN.{length}
 use Rattle.calculus.specs.Limits.{max-image-length}
 use Rattle.calculus.specs.Theory.Tests.{eqb-complete, eqb-differ, eqb-sound, ltb-complete, ltb-not}
+use Rattle.calculus.specs.Causes.{buffer-cause}
 use Rattle.check_spec.specs.declared.Verdict.{Verdict}
 use Rattle.check_spec.specs.Verdict.{accepted, refusal, refused, verdict-of}
-use Rattle.buffer.specs.Written.{Wrote, beyond}
+use Rattle.buffer.specs.Written.{Wrote}
+use Rattle.buffer.specs.Theory.Writes.{beyond}
 use Rattle.load_spec.specs.Starting.{starting-image}
 use Rattle.load_spec.specs.declared.Loaded.{Loaded}
 use Rattle.load_spec.specs.Loading.{loaded-of, load-refusal, not-loaded, out-after-load}
@@ -37,9 +39,9 @@ module _ (s out : List ℕ) where
   unfolding loaded-of out-after-load
   refuses number e n = (rw (e, eqb-differ number 0 n) refl, rw (e, eqb-differ number 0 n) refl)
 
-  pub too-short : length out < max-image-length → Leaves s out (not-loaded 12) out
+  pub too-short : length out < max-image-length → Leaves s out (not-loaded buffer-cause) out
   unfolding load-refusal
-  too-short l = refuses 12 (rw (ltb-complete (length out) max-image-length l) refl) (omega arith)
+  too-short l = refuses buffer-cause (rw (ltb-complete (length out) max-image-length l) refl) (omega arith)
 
   module _ (long : max-image-length ≤ length out) (v : Verdict) (is : v ≡ verdict-of s) where
     number : load-refusal s (length out) ≡ v .refusal

@@ -1,11 +1,13 @@
 // Loading a recipe: the out buffer's length, then the check, and only then the starting image is written.
 use load_spec::Loaded;
+use numbers::Cause;
 use numbers::Image;
 use numbers::Recipe;
 ghost use mathlib.Core.Path.{_≡_};
 ghost use lib.ListN.{length};
 ghost use Rattle.load_spec.specs.Loading.{loaded-of, out-after-load, not-loaded};
 
+// A refusal and nothing else.
 fn refused(number: u32) -> Loaded
     ensures { λ r. ⌜ r ≡ not-loaded number ⌝ }
 {
@@ -23,7 +25,7 @@ pub fn load(recipe: &[u8], out: &mut [u8]) -> Loaded
     ensures { λ r. ⌜ now (out .exit) ≡ out-after-load (now (recipe .entry)) (now (out .entry)) ⌝ }
 {
     if out.len() < Image::MAX_LENGTH {
-        return refused(12);
+        return refused(Cause::BUFFER as u32);
     }
     let verdict = check_recipe::check(recipe);
     let refusal = verdict.refusal;

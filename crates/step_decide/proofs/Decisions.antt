@@ -5,6 +5,9 @@ use mathlib.Core.List.{List}
 use Prim.Native.Nat.{ℕ, _+_}
 use Rattle.calculus.specs.Step.{place}
 use Rattle.calculus.specs.Image.{is-settled}
+use Rattle.calculus.specs.Causes.{used-handle-cause, wrong-kind-cause}
+use Rattle.calculus.specs.Reduction.{FUTURE-DEREF, HANDLE-BIND, CELL-EXCH, number}
+use Rattle.calculus.specs.Kinds.{thread-kind, cell-kind, open-handle-kind, used-handle-kind, future-kind}
 use Rattle.term.specs.Reader.{GoodAt}
 use Rattle.term.specs.Expressions.{term-at}
 use Rattle.image_layout.specs.Slice.{kind-at, companion-at, offset-at, length-at}
@@ -37,41 +40,41 @@ module _ {s : List ℕ} {x : ℕ} {m : Meeting} {y from : ℕ} (d : Follows s x 
     pub follow-waits : value ≡ false → Decided s x (Waits y)
     follow-waits v = waits (d .not-done (sym settled ∙ v))
 
-    pub follow-goes : {size : ℕ} {move : Move} → value ≡ true → size ≡ length-at s y → move ≡ move-of 3 x m y from (from + size) 0 → Decided s x (Goes move)
-    follow-goes v size-is made = goes-as (made ∙ copying 3 x m y from-is size-is) (d .done (sym settled ∙ v))
+    pub follow-goes : {size : ℕ} {move : Move} → value ≡ true → size ≡ length-at s y → move ≡ move-of (number FUTURE-DEREF) x m y from (from + size) 0 → Decided s x (Goes move)
+    follow-goes v size-is made = goes-as (made ∙ copying (number FUTURE-DEREF) x m y from-is size-is) (d .done (sym settled ∙ v))
 
 module _ {s : List ℕ} {x : ℕ} {m : Meeting} {y kind : ℕ} (c : Calls s x m y) (kind-is : kind ≡ kind-at s y) where
-  pub call-follows : kind ≡ 1 → Follows s x m y
+  pub call-follows : kind ≡ thread-kind → Follows s x m y
   call-follows k = call-thread c (sym kind-is ∙ k)
 
-  pub call-waits : kind ≡ 5 → Decided s x (Waits y)
+  pub call-waits : kind ≡ future-kind → Decided s x (Waits y)
   call-waits k = waits (call-future c (sym kind-is ∙ k))
 
-  pub call-goes : {future : ℕ} {move : Move} → kind ≡ 3 → future ≡ companion-at s y → move ≡ move-of 5 x m y 0 0 future → Decided s x (Goes move)
-  call-goes k future-is made = goes-as (made ∙ ap (move-of 5 x m y 0 0) future-is) (call-open c (sym kind-is ∙ k))
+  pub call-goes : {future : ℕ} {move : Move} → kind ≡ open-handle-kind → future ≡ companion-at s y → move ≡ move-of (number HANDLE-BIND) x m y 0 0 future → Decided s x (Goes move)
+  call-goes k future-is made = goes-as (made ∙ ap (move-of (number HANDLE-BIND) x m y 0 0) future-is) (call-open c (sym kind-is ∙ k))
 
-  pub call-refuses-used : kind ≡ 4 → Decided s x (Refuses 16)
+  pub call-refuses-used : kind ≡ used-handle-kind → Decided s x (Refuses used-handle-cause)
   call-refuses-used k = refuses-used (call-used c (sym kind-is ∙ k))
 
-  pub call-refuses : ¬ (kind ≡ 1) → ¬ (kind ≡ 5) → ¬ (kind ≡ 3) → ¬ (kind ≡ 4) → Decided s x (Refuses 17)
+  pub call-refuses : ¬ (kind ≡ thread-kind) → ¬ (kind ≡ future-kind) → ¬ (kind ≡ open-handle-kind) → ¬ (kind ≡ used-handle-kind) → Decided s x (Refuses wrong-kind-cause)
   call-refuses n₁ n₅ n₃ n₄ = refuses-wrong (call-cell c (λ k. n₁ (kind-is ∙ k)) (λ k. n₅ (kind-is ∙ k)) (λ k. n₃ (kind-is ∙ k)) (λ k. n₄ (kind-is ∙ k)))
 
 module _ {s : List ℕ} {x : ℕ} {m : Meeting} {y kind : ℕ} (c : ExchangesName s x m y) (kind-is : kind ≡ kind-at s y) where
-  pub exchange-follows : kind ≡ 1 → Follows s x m y
+  pub exchange-follows : kind ≡ thread-kind → Follows s x m y
   exchange-follows k = exchange-thread c (sym kind-is ∙ k)
 
-  pub exchange-waits : kind ≡ 5 → Decided s x (Waits y)
+  pub exchange-waits : kind ≡ future-kind → Decided s x (Waits y)
   exchange-waits k = waits (exchange-future c (sym kind-is ∙ k))
 
-  pub exchange-goes : {from size : ℕ} {move : Move} → kind ≡ 2 → from ≡ offset-at s y → size ≡ length-at s y → move ≡ move-of 7 x m y from (from + size) 0 → Decided s x (Goes move)
-  exchange-goes k from-is size-is made = goes-as (made ∙ copying 7 x m y from-is size-is) (exchange-cell c (sym kind-is ∙ k))
+  pub exchange-goes : {from size : ℕ} {move : Move} → kind ≡ cell-kind → from ≡ offset-at s y → size ≡ length-at s y → move ≡ move-of (number CELL-EXCH) x m y from (from + size) 0 → Decided s x (Goes move)
+  exchange-goes k from-is size-is made = goes-as (made ∙ copying (number CELL-EXCH) x m y from-is size-is) (exchange-cell c (sym kind-is ∙ k))
 
-  pub exchange-refuses : ¬ (kind ≡ 1) → ¬ (kind ≡ 5) → ¬ (kind ≡ 2) → Decided s x (Refuses 17)
+  pub exchange-refuses : ¬ (kind ≡ thread-kind) → ¬ (kind ≡ future-kind) → ¬ (kind ≡ cell-kind) → Decided s x (Refuses wrong-kind-cause)
   exchange-refuses n₁ n₅ n₂ = refuses-wrong (exchange-handle c (λ k. n₁ (kind-is ∙ k)) (λ k. n₅ (kind-is ∙ k)) (λ k. n₂ (kind-is ∙ k)))
 
 -- a lambda or a constant
 module _ {s : List ℕ} {x : ℕ} {m : Meeting} {rule n : ℕ} (p : Plain s x m n) (rule-is : rule ≡ n) where
-  pub plain-refuses : rule ≡ 0 → Decided s x (Refuses 17)
+  pub plain-refuses : rule ≡ 0 → Decided s x (Refuses wrong-kind-cause)
   plain-refuses z = refuses-wrong (p .no-rule (sym rule-is ∙ z))
 
   pub plain-goes : {move : Move} → ¬ (rule ≡ 0) → move ≡ move-of rule x m 0 0 0 0 → Decided s x (Goes move)

@@ -8,8 +8,10 @@ use native.Mathlib.Omega.{arith}
 use Rattle.calculus.specs.Bytes.{Bytes}
 use Rattle.calculus.specs.Syntax.{Exp, Component, thread-of, holds, open-for, used, awaited, at}
 use Rattle.calculus.specs.Theory.Lists.{at-below}
+use Rattle.calculus.specs.Kinds.{thread-kind, cell-kind, open-handle-kind, used-handle-kind, future-kind}
 use Rattle.image_layout.specs.Encoded.{Encoded}
-use Rattle.image_layout.specs.Slice.{names, kind-at, companion-at, encoded-kind, encoded-companion}
+use Rattle.image_layout.specs.Slice.{names, kind-at, companion-at}
+use Rattle.image_layout.specs.Theory.Slice.{encoded-kind, encoded-companion}
 use Rattle.image_layout.specs.Readable.{HasHead}
 use Rattle.image_layout.specs.Theory.Reading.{has-head}
 use Rattle.image.specs.Configuration.{encode, config-of}
@@ -18,11 +20,11 @@ use Rattle.step_rules.specs.Theory.Reading.{encoded-is, heads-do, length-config
 
 -- what a name's head says, and its component
 pub data Kind (s : List ℕ) (y : ℕ) : ℕ → Type 0 where
-  thread-kind : (e : Exp) → at (config-of s) y ≡ some (thread-of e) → Kind s y 1
-  cell-kind : (e : Exp) → at (config-of s) y ≡ some (holds e) → Kind s y 2
-  open-kind : at (config-of s) y ≡ some (open-for (companion-at s y)) → Kind s y 3
-  used-kind : at (config-of s) y ≡ some used → Kind s y 4
-  future-kind : at (config-of s) y ≡ some awaited → Kind s y 5
+  a-thread : (e : Exp) → at (config-of s) y ≡ some (thread-of e) → Kind s y thread-kind
+  a-cell : (e : Exp) → at (config-of s) y ≡ some (holds e) → Kind s y cell-kind
+  an-open-handle : at (config-of s) y ≡ some (open-for (companion-at s y)) → Kind s y open-handle-kind
+  a-used-handle : at (config-of s) y ≡ some used → Kind s y used-handle-kind
+  a-future : at (config-of s) y ≡ some awaited → Kind s y future-kind
 
 module _ (s : List ℕ) (b : Bytes s) (stands : image-stands s ≡ true) (y : ℕ) (below : y < names s) where
   pub head-there : HasHead s y
@@ -30,11 +32,11 @@ module _ (s : List ℕ) (b : Bytes s) (stands : image-stands s ≡ true) (y : �
 
   kind-of : (c : Component) → at (config-of s) y ≡ some c → kind-at s y ≡ encode c .kind → companion-at s y ≡ encode c .companion → Kind s y (kind-at s y)
   unfolding encode
-  kind-of (thread-of e) h k n = rw k (thread-kind e h)
-  kind-of (holds e) h k n = rw k (cell-kind e h)
-  kind-of (open-for z) h k n = rw k (open-kind (h ∙ ap (λ j. some (open-for j)) (sym n)))
-  kind-of used h k n = rw k (used-kind h)
-  kind-of awaited h k n = rw k (future-kind h)
+  kind-of (thread-of e) h k n = rw k (a-thread e h)
+  kind-of (holds e) h k n = rw k (a-cell e h)
+  kind-of (open-for z) h k n = rw k (an-open-handle (h ∙ ap (λ j. some (open-for j)) (sym n)))
+  kind-of used h k n = rw k (a-used-handle h)
+  kind-of awaited h k n = rw k (a-future h)
 
   pub kind-there : Kind s y (kind-at s y)
   kind-there =
@@ -44,45 +46,45 @@ module _ (s : List ℕ) (b : Bytes s) (stands : image-stands s ≡ true) (y : �
 
 -- by the number of its kind
 module _ {s : List ℕ} {y : ℕ} where
-  pub as-thread : {k : ℕ} → Kind s y k → k ≡ 1 → (e : Exp) × (at (config-of s) y ≡ some (thread-of e))
-  as-thread (thread-kind e h) p = (e, h)
-  as-thread (cell-kind e h) p = absurd (omega arith)
-  as-thread (open-kind h) p = absurd (omega arith)
-  as-thread (used-kind h) p = absurd (omega arith)
-  as-thread (future-kind h) p = absurd (omega arith)
+  pub as-thread : {k : ℕ} → Kind s y k → k ≡ thread-kind → (e : Exp) × (at (config-of s) y ≡ some (thread-of e))
+  as-thread (a-thread e h) p = (e, h)
+  as-thread (a-cell e h) p = absurd (omega arith)
+  as-thread (an-open-handle h) p = absurd (omega arith)
+  as-thread (a-used-handle h) p = absurd (omega arith)
+  as-thread (a-future h) p = absurd (omega arith)
 
-  pub as-cell : {k : ℕ} → Kind s y k → k ≡ 2 → (e : Exp) × (at (config-of s) y ≡ some (holds e))
-  as-cell (thread-kind e h) p = absurd (omega arith)
-  as-cell (cell-kind e h) p = (e, h)
-  as-cell (open-kind h) p = absurd (omega arith)
-  as-cell (used-kind h) p = absurd (omega arith)
-  as-cell (future-kind h) p = absurd (omega arith)
+  pub as-cell : {k : ℕ} → Kind s y k → k ≡ cell-kind → (e : Exp) × (at (config-of s) y ≡ some (holds e))
+  as-cell (a-thread e h) p = absurd (omega arith)
+  as-cell (a-cell e h) p = (e, h)
+  as-cell (an-open-handle h) p = absurd (omega arith)
+  as-cell (a-used-handle h) p = absurd (omega arith)
+  as-cell (a-future h) p = absurd (omega arith)
 
-  pub as-open : {k : ℕ} → Kind s y k → k ≡ 3 → at (config-of s) y ≡ some (open-for (companion-at s y))
-  as-open (thread-kind e h) p = absurd (omega arith)
-  as-open (cell-kind e h) p = absurd (omega arith)
-  as-open (open-kind h) p = h
-  as-open (used-kind h) p = absurd (omega arith)
-  as-open (future-kind h) p = absurd (omega arith)
+  pub as-open : {k : ℕ} → Kind s y k → k ≡ open-handle-kind → at (config-of s) y ≡ some (open-for (companion-at s y))
+  as-open (a-thread e h) p = absurd (omega arith)
+  as-open (a-cell e h) p = absurd (omega arith)
+  as-open (an-open-handle h) p = h
+  as-open (a-used-handle h) p = absurd (omega arith)
+  as-open (a-future h) p = absurd (omega arith)
 
-  pub as-used : {k : ℕ} → Kind s y k → k ≡ 4 → at (config-of s) y ≡ some used
-  as-used (thread-kind e h) p = absurd (omega arith)
-  as-used (cell-kind e h) p = absurd (omega arith)
-  as-used (open-kind h) p = absurd (omega arith)
-  as-used (used-kind h) p = h
-  as-used (future-kind h) p = absurd (omega arith)
+  pub as-used : {k : ℕ} → Kind s y k → k ≡ used-handle-kind → at (config-of s) y ≡ some used
+  as-used (a-thread e h) p = absurd (omega arith)
+  as-used (a-cell e h) p = absurd (omega arith)
+  as-used (an-open-handle h) p = absurd (omega arith)
+  as-used (a-used-handle h) p = h
+  as-used (a-future h) p = absurd (omega arith)
 
-  pub as-future : {k : ℕ} → Kind s y k → k ≡ 5 → at (config-of s) y ≡ some awaited
-  as-future (thread-kind e h) p = absurd (omega arith)
-  as-future (cell-kind e h) p = absurd (omega arith)
-  as-future (open-kind h) p = absurd (omega arith)
-  as-future (used-kind h) p = absurd (omega arith)
-  as-future (future-kind h) p = h
+  pub as-future : {k : ℕ} → Kind s y k → k ≡ future-kind → at (config-of s) y ≡ some awaited
+  as-future (a-thread e h) p = absurd (omega arith)
+  as-future (a-cell e h) p = absurd (omega arith)
+  as-future (an-open-handle h) p = absurd (omega arith)
+  as-future (a-used-handle h) p = absurd (omega arith)
+  as-future (a-future h) p = h
 
   -- a number of a kind
-  pub few-kinds : {k : ℕ} → Kind s y k → (1 ≤ k) × (k ≤ 5)
-  few-kinds (thread-kind e h) = (omega arith, omega arith)
-  few-kinds (cell-kind e h) = (omega arith, omega arith)
-  few-kinds (open-kind h) = (omega arith, omega arith)
-  few-kinds (used-kind h) = (omega arith, omega arith)
-  few-kinds (future-kind h) = (omega arith, omega arith)
+  pub few-kinds : {k : ℕ} → Kind s y k → (thread-kind ≤ k) × (k ≤ future-kind)
+  few-kinds (a-thread e h) = (omega arith, omega arith)
+  few-kinds (a-cell e h) = (omega arith, omega arith)
+  few-kinds (an-open-handle h) = (omega arith, omega arith)
+  few-kinds (a-used-handle h) = (omega arith, omega arith)
+  few-kinds (a-future h) = (omega arith, omega arith)

@@ -1,23 +1,24 @@
 -- A name that is applied, or first argument of a full exch, by its kind.
 use mathlib.Core.Path.{_∙_, _≡_, ap, refl, sym}
-use mathlib.Core.Bool.{false, true, false≢true}
+use mathlib.Core.Bool.{false, false≢true}
 use mathlib.Core.Option.{Option, some}
 use mathlib.Core.List.{List}
 use Prim.Native.Nat.{ℕ, _+_, _≤_}
 use native.Mathlib.Decide.{decLt}
 use native.Mathlib.Omega.{arith}
 use Rattle.calculus.specs.Syntax.{Const, Exp, name, const, app, op, exch, Value, is-name, is-exch, Component, thread-of, at}
-use Rattle.calculus.specs.Reduction.{Context}
+use Rattle.calculus.specs.Reduction.{Context, FUTURE-DEREF, HANDLE-BIND, CELL-EXCH, number}
 use Rattle.calculus.specs.Names.{count}
 use Rattle.calculus.specs.Step.{Answer, Place, settled, meet, loose, waiting, used-handle, wrong-kind, when-done, step-of, step-meeting, step-call, step-exchange, place}
 use Rattle.calculus.specs.Image.{is-settled}
-use Rattle.calculus.specs.Theory.Places.{Placed, place-sound}
 use Rattle.calculus.specs.Theory.Tests.{eqb-complete}
+use Rattle.calculus.specs.Kinds.{thread-kind, cell-kind, open-handle-kind, used-handle-kind, future-kind}
 use Rattle.term.proofs.Expressions.{found-at}
 use Rattle.image_layout.specs.Slice.{kind-at, companion-at, offset-at, length-at}
 use Rattle.image_layout.specs.Readable.{HasHead}
 use Rattle.image.specs.Configuration.{config-of}
 use Rattle.term_redex.specs.declared.Meeting.{Meeting}
+use Rattle.term_redex.proofs.Applications.{settled-value}
 use Rattle.step_rules.specs.Meets.{MeetsAt, move-of}
 use Rattle.step_rules.specs.Stepped.{Stepped}
 use Rattle.step_rules.specs.Theory.Reading.{below, thread-stands}
@@ -26,16 +27,7 @@ use Rattle.step_rules.specs.Theory.Found.{name-there}
 use Rattle.step_decide.specs.Asked.{Calls, ExchangesName, Follows}
 use Rattle.step_decide.proofs.Names.{Kind, head-there, kind-there, as-thread, as-cell, as-open, as-used, as-future, few-kinds}
 
--- a thread that is done, or not
-settled-value : (e : Exp) → is-settled (place e) ≡ true → Value e
-unfolding is-settled
-settled-value e h = go (place e) (place-sound e) h
-  where
-    go : (p : Place) → Placed e p → is-settled p ≡ true → Value e
-    go (settled v w) s h = rw s w
-    go (meet F f v wf wv) s h = absurd (false≢true h)
-    go loose s h = absurd (false≢true h)
-
+-- a thread that is not done
 not-settled : (y : ℕ) (p : Place) (answer : Answer) → is-settled p ≡ false → when-done y p answer ≡ waiting y
 unfolding is-settled when-done
 not-settled y (settled v w) answer h = absurd (false≢true (sym h))
@@ -45,7 +37,7 @@ not-settled y loose answer h = refl
 -- the value of a thread is needed
 follows : {s : List ℕ} {x : ℕ} {m : Meeting} {F : Context} {f : Exp} {w : Value f} {v : Exp} → MeetsAt s x m F w v → (y : ℕ) (e : Exp) (answer : Answer)
     → at (config-of s) y ≡ some (thread-of e) → step-of (config-of s) x ≡ when-done y (place e) answer
-    → (Value e → Stepped s x (move-of 3 x m y (offset-at s y) (offset-at s y + length-at s y) 0)) → Follows s x m y
+    → (Value e → Stepped s x (move-of (number FUTURE-DEREF) x m y (offset-at s y) (offset-at s y + length-at s y) 0)) → Follows s x m y
 follows {s} M y e answer h step done =
     let q = found-at (thread-stands s (M .in-bytes) (M .stands) y e h .term) in
     let p = ap (λ g. is-settled (place g)) (q .term) in
@@ -87,22 +79,22 @@ module _ {s : List ℕ} {x : ℕ} {m : Meeting} {y : ℕ} (c : Calls s x m y) wh
   unfolding step-meeting
   call-steps h = called .steps ∙ ap (step-call (config-of s) x (c .context) y (c .argument)) h
 
-  pub call-thread : kind-at s y ≡ 1 → Follows s x m y
+  pub call-thread : kind-at s y ≡ thread-kind → Follows s x m y
   unfolding step-call
   call-thread k = let (e, h) = as-thread call-kind k in follows called y e _ h (call-steps h) (deref-moves called e h)
 
-  pub call-future : kind-at s y ≡ 5 → step-of (config-of s) x ≡ waiting y
+  pub call-future : kind-at s y ≡ future-kind → step-of (config-of s) x ≡ waiting y
   unfolding step-call
   call-future k = call-steps (as-future call-kind k)
 
-  pub call-open : kind-at s y ≡ 3 → Stepped s x (move-of 5 x m y 0 0 (companion-at s y))
+  pub call-open : kind-at s y ≡ open-handle-kind → Stepped s x (move-of (number HANDLE-BIND) x m y 0 0 (companion-at s y))
   call-open k = bind-moves called (companion-at s y) (as-open call-kind k)
 
-  pub call-used : kind-at s y ≡ 4 → step-of (config-of s) x ≡ used-handle
+  pub call-used : kind-at s y ≡ used-handle-kind → step-of (config-of s) x ≡ used-handle
   unfolding step-call
   call-used k = call-steps (as-used call-kind k)
 
-  pub call-cell : ¬ (kind-at s y ≡ 1) → ¬ (kind-at s y ≡ 5) → ¬ (kind-at s y ≡ 3) → ¬ (kind-at s y ≡ 4) → step-of (config-of s) x ≡ wrong-kind
+  pub call-cell : ¬ (kind-at s y ≡ thread-kind) → ¬ (kind-at s y ≡ future-kind) → ¬ (kind-at s y ≡ open-handle-kind) → ¬ (kind-at s y ≡ used-handle-kind) → step-of (config-of s) x ≡ wrong-kind
   unfolding step-call
   call-cell n₁ n₅ n₃ n₄ = let (e, h) = as-cell call-kind (omega (arith, few-kinds call-kind)) in call-steps h
 
@@ -122,20 +114,20 @@ module _ {s : List ℕ} {x : ℕ} {m : Meeting} {y : ℕ} (c : ExchangesName s x
   unfolding step-meeting
   exchange-steps h = exchanged .steps ∙ ap (step-exchange (config-of s) x (c .context) (c .constant) y (c .argument)) h
 
-  pub exchange-thread : kind-at s y ≡ 1 → Follows s x m y
+  pub exchange-thread : kind-at s y ≡ thread-kind → Follows s x m y
   unfolding step-exchange
   exchange-thread k = let (e, h) = as-thread exchange-kind k in follows exchanged y e _ h (exchange-steps h) (deref-exch-moves exchanged e h)
 
-  pub exchange-future : kind-at s y ≡ 5 → step-of (config-of s) x ≡ waiting y
+  pub exchange-future : kind-at s y ≡ future-kind → step-of (config-of s) x ≡ waiting y
   unfolding step-exchange
   exchange-future k = exchange-steps (as-future exchange-kind k)
 
-  pub exchange-cell : kind-at s y ≡ 2 → Stepped s x (move-of 7 x m y (offset-at s y) (offset-at s y + length-at s y) 0)
+  pub exchange-cell : kind-at s y ≡ cell-kind → Stepped s x (move-of (number CELL-EXCH) x m y (offset-at s y) (offset-at s y + length-at s y) 0)
   exchange-cell k = let (e, h) = as-cell exchange-kind k in exchange-moves exchanged e h
 
-  pub exchange-handle : ¬ (kind-at s y ≡ 1) → ¬ (kind-at s y ≡ 5) → ¬ (kind-at s y ≡ 2) → step-of (config-of s) x ≡ wrong-kind
+  pub exchange-handle : ¬ (kind-at s y ≡ thread-kind) → ¬ (kind-at s y ≡ future-kind) → ¬ (kind-at s y ≡ cell-kind) → step-of (config-of s) x ≡ wrong-kind
   unfolding step-exchange
-  exchange-handle n₁ n₅ n₂ = elim (decLt (kind-at s y) 4) [
+  exchange-handle n₁ n₅ n₂ = elim (decLt (kind-at s y) used-handle-kind) [
     | yes k ↦ exchange-steps (as-open exchange-kind (omega (arith, few-kinds exchange-kind)))
     | no k ↦ exchange-steps (as-used exchange-kind (omega (arith, few-kinds exchange-kind)))
   ]

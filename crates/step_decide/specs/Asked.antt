@@ -4,7 +4,7 @@ use mathlib.Core.Bool.{false, true}
 use mathlib.Core.List.{List}
 use Prim.Native.Nat.{ℕ, _+_}
 use Rattle.calculus.specs.Syntax.{Exp, Value, is-name, is-exch}
-use Rattle.calculus.specs.Reduction.{Context}
+use Rattle.calculus.specs.Reduction.{Context, FUTURE-DEREF, number}
 use Rattle.calculus.specs.Step.{waiting, step-of, place}
 use Rattle.calculus.specs.Image.{is-settled}
 use Rattle.term.specs.Reader.{GoodAt}
@@ -43,4 +43,4 @@ pub record Follows (s : List ℕ) (x : ℕ) (m : Meeting) (y : ℕ) : Type 0 whe
   pub head : HasHead s y
   pub good : GoodAt s (offset-at s y)
   pub not-done : is-settled (place (term-at s (offset-at s y))) ≡ false → step-of (config-of s) x ≡ waiting y
-  pub done : is-settled (place (term-at s (offset-at s y))) ≡ true → Stepped s x (move-of 3 x m y (offset-at s y) (offset-at s y + length-at s y) 0)
+  pub done : is-settled (place (term-at s (offset-at s y))) ≡ true → Stepped s x (move-of (number FUTURE-DEREF) x m y (offset-at s y) (offset-at s y + length-at s y) 0)

@@ -3,6 +3,7 @@ use mathlib.Core.Path.{_≡_}
 use mathlib.Core.List.{List}
 use Prim.Native.Nat.{ℕ}
 use Rattle.calculus.specs.Step.{waiting, used-handle, wrong-kind, step-of}
+use Rattle.calculus.specs.Causes.{used-handle-cause, wrong-kind-cause}
 use Rattle.image.specs.Configuration.{config-of}
 use Rattle.step_rules.specs.declared.Move.{Move}
 use Rattle.step_rules.specs.Stepped.{Stepped}
@@ -13,5 +14,5 @@ use Rattle.step_decide.specs.declared.Decision.the-variants.{Goes, Waits
 pub data Decided (s : List ℕ) (x : ℕ) : Decision → Type 0 where
   goes : {move : Move} → Stepped s x move → Decided s x (Goes move)
   waits : {y : ℕ} → step-of (config-of s) x ≡ waiting y → Decided s x (Waits y)
-  refuses-used : step-of (config-of s) x ≡ used-handle → Decided s x (Refuses 16)
-  refuses-wrong : step-of (config-of s) x ≡ wrong-kind → Decided s x (Refuses 17)
+  refuses-used : step-of (config-of s) x ≡ used-handle → Decided s x (Refuses used-handle-cause)
+  refuses-wrong : step-of (config-of s) x ≡ wrong-kind → Decided s x (Refuses wrong-kind-cause)

@@ -128,14 +128,19 @@ fn exchange_name(image: &[u8], thread: usize, meeting: Meeting, y: usize) -> Dec
     Decision::Refuses(Cause::WRONG_KIND)
 }
 
-// A full exch: its first argument stands 4 bytes on, past two applications and the constant.
+// A full exch.
 fn exchange(image: &[u8], thread: usize, meeting: Meeting) -> Decision
     requires { ⌜ Exchanges (now image) thread meeting ⌝ }
     ensures { λ r. ⌜ Decided (now (image .entry)) thread r ⌝ }
 {
     let at = meeting.at;
-    if image[at + 4] == Node::NAME {
-        return exchange_name(image, thread, meeting, image[at + 5] as usize);
+    if image[at + Move::EXCHANGED] == Node::NAME {
+        return exchange_name(
+            image,
+            thread,
+            meeting,
+            image[at + Move::EXCHANGED_NAME] as usize,
+        );
     }
     Decision::Refuses(Cause::WRONG_KIND)
 }
@@ -146,9 +151,9 @@ pub fn decide(image: &[u8], thread: usize, meeting: Meeting) -> Decision
     ensures { λ r. ⌜ Decided (now (image .entry)) thread r ⌝ }
 {
     let at = meeting.at;
-    let tag = image[at + 1];
+    let tag = image[at + Move::APPLICATION];
     if tag == Node::NAME {
-        return call(image, thread, meeting, image[at + 2] as usize);
+        return call(image, thread, meeting, image[at + Move::CALLED] as usize);
     }
     if tag == Node::APPLICATION {
         return exchange(image, thread, meeting);

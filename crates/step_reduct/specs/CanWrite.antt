@@ -2,15 +2,17 @@
 use mathlib.Core.Path.{_≡_}
 use mathlib.Core.Bool.{true}
 use mathlib.Core.List.{List}
-use Prim.Native.Nat.{ℕ, _<_, _≤_}
+use Prim.Native.Nat.{ℕ, _+_, _*_, _<_, _≤_}
 use lib.ListN.{length}
 use Rattle.calculus.specs.Bytes.{two-byte-values}
-use Rattle.calculus.specs.Limits.{max-names}
+use Rattle.calculus.specs.Limits.{max-names, max-nodes}
+use Rattle.calculus.specs.Reduction.{BETA, CELL-EXCH, number}
 use Rattle.image_layout.specs.Layout.{heads-stand}
 use Rattle.step_rules.specs.declared.Move.{Move}
 use Rattle.step_rules.specs.Moves.{names-after}
 use Rattle.step_rules.specs.Stepped.{Movable}
 
+-- the image before and the move
 pub record CanWrite (s : List ℕ) (move : Move) : Type 0 where
   -- the places that the move names are inside the image
   pub movable : Movable s move
@@ -18,7 +20,11 @@ pub record CanWrite (s : List ℕ) (move : Move) : Type 0 where
   pub stands : heads-stand s ≡ true
   pub short : length s < two-byte-values
   -- "Rules in Fig. 5's order are numbered 1 to 7"
-  pub first : 1 ≤ move .rule
-  pub last : move .rule ≤ 7
+  pub first : number BETA ≤ move .rule
+  pub last : move .rule ≤ number CELL-EXCH
   -- "At most 256 names"
   pub few : names-after s move ≤ max-names
+
+-- what stands in place of an application is shorter: a body, with a value in place of each of its nodes
+abbrev pub max-redex-length : ℕ
+max-redex-length = two-byte-values + max-nodes * two-byte-values

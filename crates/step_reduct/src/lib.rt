@@ -6,6 +6,7 @@ use image_layout::length_at;
 use image_layout::names_of;
 use image_layout::offset_at;
 use numbers::Image;
+use numbers::Rule;
 use step_rules::Move;
 use term::Node;
 use term_scan::Extent;
@@ -16,13 +17,18 @@ ghost use mathlib.Core.Path.{_≡_};
 ghost use Prim.Native.Nat.{_+_, _<_, _≤_};
 ghost use lib.ListN.{length};
 ghost use Rattle.calculus.specs.Limits.{byte-values};
+ghost use Rattle.calculus.specs.Reduction.{BETA, FUTURE-DEREF, HANDLE-NEW, number};
 ghost use Rattle.buffer.specs.Written.{Wrote};
 ghost use Rattle.step_rules.specs.Moves.{argument-bytes, copied-bytes, name-bytes, redex-after, expression-after};
-ghost use Rattle.step_reduct.specs.CanWrite.{CanWrite};
+ghost use Rattle.step_rules.specs.Positions.{name-length};
+ghost use Rattle.step_reduct.specs.CanWrite.{CanWrite, max-redex-length};
+
+// What HANDLE.NEW writes besides its argument: two applications and two names.
+const HANDLED: usize = 2 * (Move::APPLICATION + Move::NAME);
 
 // Writes a name.
 pub fn put_name(out: &mut [u8], at: usize, k: usize) -> usize
-    requires { ⌜ (k < byte-values) × (at + 2 ≤ length (now out)) ⌝ }
+    requires { ⌜ (k < byte-values) × (at + name-length ≤ length (now out)) ⌝ }
     ensures { λ r. ⌜ Wrote (now (out .entry)) at (name-bytes k) (now (out .exit)) r ⌝ }
 {
     let next = put_byte(out, at, Node::NAME);
@@ -45,19 +51,19 @@ fn put_copied(out: &mut [u8], at: usize, image: &[u8], step: Move) -> usize
     put_part(out, at, image, step.from, step.to)
 }
 
-// Rule 3, FUT.DEREF: the value in place of the name, which has two bytes and stands right before the argument.
+// Rule 3, FUT.DEREF: the value in place of the name, which stands right before the argument.
 fn put_dereferenced(out: &mut [u8], at: usize, image: &[u8], step: Move) -> usize
-    requires { ⌜ CanWrite (now image) step × ((step .rule ≡ 3) × (at + length (redex-after (now image) step) ≤ length (now out))) ⌝ }
+    requires { ⌜ CanWrite (now image) step × ((step .rule ≡ number FUTURE-DEREF) × (at + length (redex-after (now image) step) ≤ length (now out))) ⌝ }
     ensures { λ r. ⌜ Wrote (now (out .entry)) at (redex-after (now (image .entry)) step) (now (out .exit)) r ⌝ }
 {
-    let function = put_part(out, at, image, step.at, step.argument - 2);
+    let function = put_part(out, at, image, step.at, step.argument - Move::NAME);
     let value = put_copied(out, function, image, step);
     put_argument(out, value, image, step)
 }
 
 // Rule 4, HANDLE.NEW: the argument applied to the new future and then to the new handle.
 fn put_handler(out: &mut [u8], at: usize, image: &[u8], step: Move) -> usize
-    requires { ⌜ CanWrite (now image) step × ((step .rule ≡ 4) × (at + length (redex-after (now image) step) ≤ length (now out))) ⌝ }
+    requires { ⌜ CanWrite (now image) step × ((step .rule ≡ number HANDLE-NEW) × (at + length (redex-after (now image) step) ≤ length (now out))) ⌝ }
     ensures { λ r. ⌜ Wrote (now (out .entry)) at (redex-after (now (image .entry)) step) (now (out .exit)) r ⌝ }
 {
     let names = names_of(image);
@@ -74,19 +80,26 @@ fn put_redex_after(out: &mut [u8], at: usize, image: &[u8], step: Move) -> usize
     ensures { λ r. ⌜ Wrote (now (out .entry)) at (redex-after (now (image .entry)) step) (now (out .exit)) r ⌝ }
 {
     let rule = step.rule;
-    if rule == 1 {
-        return put_substituted(out, at, image, step.at + 3, step.argument, step.end);
+    if rule == Rule::BETA {
+        return put_substituted(
+            out,
+            at,
+            image,
+            step.at + Move::BODY,
+            step.argument,
+            step.end,
+        );
     }
-    if rule == 3 {
+    if rule == Rule::FUTURE_DEREF {
         return put_dereferenced(out, at, image, step);
     }
-    if rule == 4 {
+    if rule == Rule::HANDLE_NEW {
         return put_handler(out, at, image, step);
     }
-    if rule == 5 {
+    if rule == Rule::HANDLE_BIND {
         return put_byte(out, at, Node::UNIT);
     }
-    if rule == 7 {
+    if rule == Rule::CELL_EXCH {
         return put_copied(out, at, image, step);
     }
     put_name(out, at, names_of(image))
@@ -104,41 +117,41 @@ pub fn put_thread_after(out: &mut [u8], at: usize, image: &[u8], step: Move) -> 
     put_part(out, rest, image, step.end, end)
 }
 
-// How many bytes the outcome of rule 1 has: for each place of the variable, which takes two bytes, there is a value.
+// How many bytes the outcome of rule 1 has: for each place of the variable there is a value.
 fn substituted_size(image: &[u8], step: Move) -> usize
-    requires { ⌜ CanWrite (now image) step × (step .rule ≡ 1) ⌝ }
-    ensures { λ r. ⌜ (r ≡ length (redex-after (now (image .entry)) step)) × (r < 4294967296) ⌝ }
+    requires { ⌜ CanWrite (now image) step × (step .rule ≡ number BETA) ⌝ }
+    ensures { λ r. ⌜ (r ≡ length (redex-after (now (image .entry)) step)) × (r < max-redex-length) ⌝ }
 {
-    let body = step.at + 3;
+    let body = step.at + Move::BODY;
     let Extent::Ends(end, _) = scan_small(image, body, Image::MAX_NODES) else {
         return 0;
     };
     let places = count_uses(image, body);
-    end - body + places * (step.end - step.argument) - 2 * places
+    end - body + places * (step.end - step.argument) - Move::VARIABLE * places
 }
 
 // How many bytes there are in place of the application.
 fn redex_size(image: &[u8], step: Move) -> usize
     requires { ⌜ CanWrite (now image) step ⌝ }
-    ensures { λ r. ⌜ (r ≡ length (redex-after (now (image .entry)) step)) × (r < 4294967296) ⌝ }
+    ensures { λ r. ⌜ (r ≡ length (redex-after (now (image .entry)) step)) × (r < max-redex-length) ⌝ }
 {
     let rule = step.rule;
-    if rule == 1 {
+    if rule == Rule::BETA {
         return substituted_size(image, step);
     }
-    if rule == 3 {
-        return step.end - step.at - 2 + (step.to - step.from);
+    if rule == Rule::FUTURE_DEREF {
+        return step.end - step.at - Move::NAME + (step.to - step.from);
     }
-    if rule == 4 {
-        return step.end - step.argument + 6;
+    if rule == Rule::HANDLE_NEW {
+        return step.end - step.argument + HANDLED;
     }
-    if rule == 5 {
-        return 1;
+    if rule == Rule::HANDLE_BIND {
+        return Move::UNIT;
     }
-    if rule == 7 {
+    if rule == Rule::CELL_EXCH {
         return step.to - step.from;
     }
-    2
+    Move::NAME
 }
 
 // How many bytes the expression of the thread that goes has.

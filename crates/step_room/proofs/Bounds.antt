@@ -5,7 +5,7 @@ use mathlib.Core.List.{List}
 use native.Mathlib.Omega.{arith}
 use lib.ListN.{length}
 use Rattle.calculus.specs.Names.{uses}
-use Rattle.calculus.specs.Limits.{max-nodes}
+use Rattle.calculus.specs.Limits.{first-head, max-nodes}
 use Rattle.term.specs.Expressions.{term-at}
 use Rattle.term_subst.specs.Outcome.{uses-nodes}
 use Rattle.step_rules.specs.declared.Move.{Move}
@@ -19,5 +19,5 @@ pub few-copied : (u v : ℕ) → u ≤ max-nodes → v ≤ max-nodes → u * v �
 few-copied u v p q = mul-le-mul p q
 
 -- an image that goes has its two bytes m
-pub has-names : {s : List ℕ} {move : Move} → Movable s move → 2 ≤ length s
+pub has-names : {s : List ℕ} {move : Move} → Movable s move → first-head ≤ length s
 has-names m = omega (arith, m .second, m .argument .good .inside)

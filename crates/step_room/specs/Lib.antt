@@ -2,3 +2,4 @@
 
 -- the outcome of a step is within the limits of an image
 pub mod Room
+pub mod Theory

@@ -1,34 +1,12 @@
 -- Document 01, refusal 15, "a rule applies, outcome above 256 names or 4,096 nodes", decided on the image before the step.
-use mathlib.Core.Path.{_∙_, _≡_, sym}
-use mathlib.Core.Bool.{Bool, _&&_, true}
+use mathlib.Core.Bool.{Bool, _&&_}
 use mathlib.Core.List.{List}
-use Prim.Native.Nat.{ℕ, suc, _≤_}
+use Prim.Native.Nat.{ℕ, suc}
 use lib.Dec.{ltb}
-use Rattle.calculus.specs.Bytes.{Bytes}
-use Rattle.calculus.specs.Image.{limits-test, nodes-all, WithinLimits}
 use Rattle.calculus.specs.Limits.{max-names, max-nodes}
-use Rattle.calculus.specs.Theory.ImageTest.{limits-test-iff}
-use Rattle.image.specs.Configuration.{config-of}
-use Rattle.image.specs.Stands.{image-stands}
 use Rattle.step_rules.specs.declared.Move.{Move}
 use Rattle.step_rules.specs.Moves.{names-after, nodes-after}
-use Rattle.step_rules.specs.Stepped.{Stepped}
-use Rattle.step_rules.specs.Theory.Reading.{rules}
 
 -- 15 does not fit: the outcome of the move on the image s, of n nodes, is within both limits
 unfoldable pub has-room : List ℕ → ℕ → Move → Bool
 has-room s n move = ltb (names-after s move) (suc max-names) && ltb (nodes-after n s move) (suc max-nodes)
-
--- ---- laws
-
--- it is the calculus's test of what the step makes
-pub room-is : {s : List ℕ} {x : ℕ} {move : Move} (S : Stepped s x move) → has-room s (nodes-all (config-of s)) move ≡ limits-test (S .outcome)
-unfolding has-room limits-test
-room-is S = rw (S .named, S .counted)
-
-pub room-within : {s : List ℕ} {x : ℕ} {move : Move} (S : Stepped s x move) → has-room s (nodes-all (config-of s)) move ≡ true → WithinLimits (S .outcome)
-room-within S h = limits-test-iff (S .outcome) .0 (sym (room-is S) ∙ h)
-
--- an image that stands has few enough nodes to count on
-pub few-before : (s : List ℕ) → Bytes s → image-stands s ≡ true → nodes-all (config-of s) ≤ max-nodes
-few-before s b stands = rules s b stands .limits .few-nodes

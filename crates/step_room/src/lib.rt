@@ -1,6 +1,8 @@
 // Document 01, refusal 15: whether the outcome of a rule is within the limits of an image. It is decided by counting, before a byte is written.
 use numbers::Image;
+use numbers::Rule;
 use step_rules::Move;
+use step_rules::new_names;
 use term_scan::Extent;
 ghost use mathlib.Core.Path.{_≡_};
 ghost use Prim.Native.Nat.{_*_, _+_, _-_, _≤_};
@@ -9,7 +11,7 @@ ghost use Rattle.calculus.specs.Image.{nodes};
 ghost use Rattle.calculus.specs.Names.{uses};
 ghost use Rattle.term.specs.Reader.{GoodAt};
 ghost use Rattle.term.specs.Expressions.{term-at};
-ghost use Rattle.step_rules.specs.Moves.{names-after, news, nodes-after};
+ghost use Rattle.step_rules.specs.Moves.{names-after, nodes-after};
 ghost use Rattle.step_rules.specs.Stepped.{Counted, Movable};
 ghost use Rattle.step_room.specs.Room.{has-room};
 
@@ -51,26 +53,14 @@ pub fn nodes_after(image: &[u8], count: usize, step: Move) -> usize
 {
     let rule = step.rule;
     match rule {
-        1 => nodes_applied(image, count, step.at + 3, step.argument),
-        2 => count + 1,
-        3 => without(count + nodes_at(image, step.from), 1), // a value for a name
-        4 => count + 2,
-        5 => without(count, 1),
-        6 => without(count, 1),
-        7 => without(count, 4),
+        Rule::BETA => nodes_applied(image, count, step.at + Move::BODY, step.argument),
+        Rule::THREAD_NEW => count + 1,
+        Rule::FUTURE_DEREF => without(count + nodes_at(image, step.from), 1), // a value for a name
+        Rule::HANDLE_NEW => count + 2,
+        Rule::HANDLE_BIND => without(count, 1),
+        Rule::CELL_NEW => without(count, 1),
+        Rule::CELL_EXCH => without(count, 4),
         _ => count,
-    }
-}
-
-// How many names come.
-fn news(rule: u8) -> usize
-    ensures { λ r. ⌜ (r ≡ news rule) × (r ≤ 2) ⌝ }
-{
-    match rule {
-        2 => 1, // a thread
-        4 => 2, // a future and its handle
-        6 => 1, // a cell
-        _ => 0,
     }
 }
 
@@ -79,7 +69,7 @@ pub fn names_after(image: &[u8], step: Move) -> usize
     requires { ⌜ Movable (now image) step ⌝ }
     ensures { λ r. ⌜ r ≡ names-after (now (image .entry)) step ⌝ }
 {
-    image_layout::names_of(image) + news(step.rule)
+    image_layout::names_of(image) + new_names(step.rule)
 }
 
 // Whether the image after a step is within both limits, where there are `count` nodes before it.

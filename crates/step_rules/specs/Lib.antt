@@ -1,5 +1,7 @@
 -- Document 01, "A step", in bytes: what each rule of Fig. 5 makes of an image.
 
+-- places in an application, by the table of node forms
+pub mod Positions
 -- the components of the image after a step by a rule
 pub mod Moves
 -- what a writer of the image after a step needs, and that the step is the calculus's

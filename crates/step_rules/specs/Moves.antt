@@ -13,6 +13,7 @@ use Rattle.calculus.specs.Kinds.{thread-kind, cell-kind, open-handle-kind, used
 use Rattle.image_layout.specs.Encoded.{Encoded, image-bytes}
 use Rattle.image_layout.specs.Slice.{names, offset-at, length-at, encoded-at}
 use Rattle.step_rules.specs.declared.Move.{Move}
+use Rattle.step_rules.specs.Positions.{name-length, to-body}
 
 -- the bytes of a slice from a to b
 unfoldable pub bytes-between : List ℕ → ℕ → ℕ → List ℕ
@@ -42,22 +43,28 @@ argument-bytes s move = bytes-between s (move .argument) (move .end)
 abbrev pub copied-bytes : List ℕ → Move → List ℕ
 copied-bytes s move = bytes-between s (move .from) (move .to)
 
+-- a name
 abbrev pub name-bytes : ℕ → List ℕ
 name-bytes k = 9 ∷ k ∷ []
 
--- what stands in place of the application, by rule. The lambda of rule 1 has its body 2 bytes on. The name of rule 3 has 2 bytes, right before the argument.
+-- the new thread of rule 2: the argument applied to the thread's own name
+abbrev pub started-bytes : List ℕ → Move → List ℕ
+started-bytes s move = 2 ∷ (argument-bytes s move ++ name-bytes (names s))
+
+-- what stands in place of the application, by rule. The name of rule 3 stands right before the argument.
 unfoldable pub redexes : List ℕ → Move → List (List ℕ)
 redexes s move =
     []
-    ∷ bytes (substitute 0 (term-at s (move .argument)) (term-at s (move .at + 3)))
+    ∷ bytes (substitute 0 (term-at s (move .argument)) (term-at s (move .at + to-body)))
     ∷ name-bytes (names s)
-    ∷ (bytes-between s (move .at) (move .argument - 2) ++ copied-bytes s move ++ argument-bytes s move)
+    ∷ (bytes-between s (move .at) (move .argument - name-length) ++ copied-bytes s move ++ argument-bytes s move)
     ∷ (2 ∷ 2 ∷ (argument-bytes s move ++ name-bytes (names s) ++ name-bytes (names s + 1)))
     ∷ (3 ∷ [])
     ∷ name-bytes (names s)
     ∷ copied-bytes s move
     ∷ []
 
+-- what stands there by the rule of the move
 unfoldable pub redex-after : List ℕ → Move → List ℕ
 redex-after s move = getD (redexes s move) (move .rule) []
 
@@ -73,7 +80,7 @@ unfoldable pub others : List ℕ → Move → ℕ → List Encoded
 others s move k =
     encoded-at s k
     ∷ encoded-at s k
-    ∷ cond (eqb k (names s)) (thread-holding (2 ∷ (argument-bytes s move ++ name-bytes (names s)))) (encoded-at s k)
+    ∷ cond (eqb k (names s)) (thread-holding (started-bytes s move)) (encoded-at s k)
     ∷ encoded-at s k
     ∷ cond (eqb k (names s)) future-awaited (cond (eqb k (names s + 1)) (handle-open (names s)) (encoded-at s k))
     ∷ cond (eqb k (move .name)) handle-used (cond (eqb k (move .future)) (thread-holding (argument-bytes s move)) (encoded-at s k))
@@ -81,6 +88,7 @@ others s move k =
     ∷ cond (eqb k (move .name)) (cell-holding (argument-bytes s move)) (encoded-at s k)
     ∷ []
 
+-- the other component of name k by the rule of the move
 unfoldable pub other-after : List ℕ → Move → ℕ → Encoded
 other-after s move k = getD (others s move k) (move .rule) (encoded-at s k)
 
@@ -89,16 +97,18 @@ unfoldable pub component-after : List ℕ → Move → ℕ → Encoded
 component-after s move k = cond (eqb k (move .thread)) (thread-holding (expression-after s move)) (other-after s move k)
 
 -- how many names come, by rule
-unfoldable pub news : ℕ → ℕ
-news rule = getD (0 ∷ 0 ∷ 1 ∷ 0 ∷ 2 ∷ 0 ∷ 1 ∷ 0 ∷ []) rule 0
+unfoldable pub new-names : ℕ → ℕ
+new-names rule = getD (0 ∷ 0 ∷ 1 ∷ 0 ∷ 2 ∷ 0 ∷ 1 ∷ 0 ∷ []) rule 0
 
+-- the names after the step
 unfoldable pub names-after : List ℕ → Move → ℕ
-names-after s move = names s + news (move .rule)
+names-after s move = names s + new-names (move .rule)
 
--- the image after the step
+-- the components after the step
 unfoldable pub components-after : List ℕ → Move → List Encoded
 components-after s move = tabulate (names-after s move) (component-after s move)
 
+-- the image after the step
 unfoldable pub image-after : List ℕ → Move → List ℕ
 image-after s move = image-bytes (components-after s move)
 
@@ -106,7 +116,7 @@ image-after s move = image-bytes (components-after s move)
 unfoldable pub node-counts : ℕ → List ℕ → Move → List ℕ
 node-counts n s move =
     n
-    ∷ (n + uses 0 (term-at s (move .at + 3)) * nodes (term-at s (move .argument)) - (uses 0 (term-at s (move .at + 3)) + nodes (term-at s (move .argument)) + 2))
+    ∷ (n + uses 0 (term-at s (move .at + to-body)) * nodes (term-at s (move .argument)) - (uses 0 (term-at s (move .at + to-body)) + nodes (term-at s (move .argument)) + 2))
     ∷ (n + 1)
     ∷ (n + nodes (term-at s (move .from)) - 1)
     ∷ (n + 2)
@@ -115,5 +125,6 @@ node-counts n s move =
     ∷ (n - 4)
     ∷ []
 
+-- the same by the rule of the move
 unfoldable pub nodes-after : ℕ → List ℕ → Move → ℕ
 nodes-after n s move = getD (node-counts n s move) (move .rule) n

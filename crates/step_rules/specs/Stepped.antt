@@ -4,7 +4,7 @@ use mathlib.Core.List.{List, map}
 use Prim.Native.Nat.{ℕ, _+_, _≤_, _<_}
 use lib.ListN.{length}
 use Rattle.calculus.specs.Syntax.{Config}
-use Rattle.calculus.specs.Reduction.{Rule, number}
+use Rattle.calculus.specs.Reduction.{Rule, BETA, FUTURE-DEREF, number}
 use Rattle.calculus.specs.Step.{rule, step-of}
 use Rattle.calculus.specs.Image.{nodes, nodes-all}
 use Rattle.calculus.specs.Limits.{max-nodes}
@@ -13,6 +13,7 @@ use Rattle.term.specs.Expressions.{term-at}
 use Rattle.image_layout.specs.Slice.{names, offset-at, length-at}
 use Rattle.image.specs.Configuration.{config-of, encode, image-of}
 use Rattle.step_rules.specs.declared.Move.{Move}
+use Rattle.step_rules.specs.Positions.{to-body}
 use Rattle.step_rules.specs.Moves.{components-after, image-after, names-after, nodes-after}
 
 -- a term that is counted: it is whole, and no larger than an image may be
@@ -37,8 +38,8 @@ pub record Movable (s : List ℕ) (move : Move) : Type 0 where
   -- the argument, the body of the lambda of rule 1, the value that rule 3 copies
   pub argument : Counted s (move .argument)
   pub argument-ends : move .end ≡ end-at s (move .argument)
-  pub body : move .rule ≡ 1 → Counted s (move .at + 3)
-  pub value : move .rule ≡ 3 → Counted s (move .from)
+  pub body : move .rule ≡ number BETA → Counted s (move .at + to-body)
+  pub value : move .rule ≡ number FUTURE-DEREF → Counted s (move .from)
 
 -- thread x of the image s goes by this move: the calculus's step is by that rule, and what it makes of the configuration is what the move makes of the image
 pub record Stepped (s : List ℕ) (x : ℕ) (move : Move) : Type 0 where

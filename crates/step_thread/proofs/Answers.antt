@@ -1,7 +1,7 @@
 -- What a step answers and leaves, by what leads to each answer.
-use mathlib.Core.Path.{_∙_, _≡_, ap, refl, subst, sym}
+use mathlib.Core.Path.{_∙_, _≡_, refl, subst, sym}
 use mathlib.Core.Logic.{inl, inr}
-use mathlib.Core.Bool.{Bool, _&&_, false, false≢true, true}
+use mathlib.Core.Bool.{false, false≢true, true}
 use mathlib.Core.Option.{some}
 use mathlib.Core.List.{List, [], _∷_}
 use Prim.Native.Nat.{_<_, _≤_, ℕ}
@@ -12,29 +12,31 @@ use denote.Enum.Declared.{tagOf}
 use types.Run.{OneOf}
 use Rattle.step_decide.proofs.Decision.{the-type}
 use Rattle.calculus.specs.Bytes.{Bytes}
-use Rattle.calculus.specs.Syntax.{Exp, Config, at, thread-of}
+use Rattle.calculus.specs.Syntax.{at, thread-of}
 use Rattle.calculus.specs.Reduction.{Rule, BETA, THREAD-NEW, FUTURE-DEREF, HANDLE-NEW, HANDLE-BIND, CELL-NEW, CELL-EXCH, number}
-use Rattle.calculus.specs.Step.{done, no-thread, place, step-of}
+use Rattle.calculus.specs.Step.{done, no-thread, step-of}
 use Rattle.calculus.specs.Limits.{max-image-length}
 use Rattle.calculus.specs.Image.{nodes-all}
-use Rattle.calculus.specs.Reply.{refuses, reply-of}
-use Rattle.calculus.specs.Theory.Tests.{and-parts, and-true, eqb-complete, eqb-sound, false-of, ltb-complete, ltb-not, ltb-sound, of-true}
+use Rattle.calculus.specs.Reply.{reply-of}
+use Rattle.calculus.specs.Theory.Tests.{and-parts, and-true, eqb-complete, eqb-sound, ltb-complete, ltb-not, ltb-sound}
 use Rattle.calculus.specs.Theory.Step.{no-thread-iff}
 use Rattle.term.specs.Expressions.{term-at}
-use Rattle.buffer.specs.Written.{Wrote, beyond}
+use Rattle.buffer.specs.Written.{Wrote}
+use Rattle.buffer.specs.Theory.Writes.{beyond}
 use Rattle.calculus.specs.Kinds.{thread-kind}
+use Rattle.calculus.specs.Causes.{buffer-cause, image-cause, no-thread-cause, room-cause}
 use Rattle.image_layout.specs.Slice.{kind-at, names, offset-at}
 use Rattle.image.specs.Configuration.{config-of, image-of}
 use Rattle.image.specs.Stands.{image-stands}
 use Rattle.image.specs.Theory.Lengths.{stands-length, within-length}
-use Rattle.term_redex.specs.declared.Place.the-variants.{Done as SearchDone, Meet}
 use Rattle.step_rules.specs.declared.Move.{Move}
 use Rattle.step_rules.specs.Moves.{image-after}
 use Rattle.step_rules.specs.Stepped.{Stepped}
 use Rattle.step_reduct.specs.CanWrite.{CanWrite}
-use Rattle.step_room.specs.Room.{has-room, room-is, room-within}
+use Rattle.step_room.specs.Room.{has-room}
+use Rattle.step_room.specs.Theory.Room.{room-is, room-within}
 use Rattle.step_decide.specs.declared.Decision.{Decision}
-use Rattle.step_decide.specs.declared.Decision.the-variants.{Goes, Waits, Refuses}
+use Rattle.step_decide.specs.declared.Decision.the-variants.{Goes}
 use Rattle.step_decide.specs.Decided.{Decided, goes, refuses-used, refuses-wrong, waits}
 use Rattle.image_check.specs.Theory.Standing.{thread-kind-is, thread-there}
 use Rattle.image_check.specs.Theory.Names.{config-parts}
@@ -49,7 +51,7 @@ abbrev pub Answers : List ℕ → ℕ → List ℕ → Outcome → List ℕ → 
 Answers s x out r out′ = (r ≡ outcome-of-reply (reply-of (step-of (config-of s) x))) × (out′ ≡ out-after-reply (reply-of (step-of (config-of s) x)) out)
 
 module _ (s : List ℕ) (x : ℕ) (out : List ℕ) where
-  pub by-no-thread : step-of (config-of s) x ≡ no-thread → Answers s x out (Refused 14) out
+  pub by-no-thread : step-of (config-of s) x ≡ no-thread → Answers s x out (Refused no-thread-cause) out
   unfolding outcome-of-reply reply-of out-after-reply
   by-no-thread e = (rw e refl, rw e refl)
 
@@ -65,7 +67,7 @@ module _ (s : List ℕ) (x : ℕ) (out : List ℕ) where
   by-decision (refuses-wrong e) n = (rw e refl, rw e refl)
 
   module _ {step : Move} (S : Stepped s x step) where
-    pub by-no-room : has-room s (nodes-all (config-of s)) step ≡ false → Answers s x out (Refused 15) out
+    pub by-no-room : has-room s (nodes-all (config-of s)) step ≡ false → Answers s x out (Refused room-cause) out
     unfolding outcome-of-reply reply-of out-after-reply
     by-no-room h = let e = S .steps in let l = sym (room-is S) ∙ h in (rw (e, l) refl, rw (e, l) refl)
 
@@ -95,7 +97,7 @@ module _ (s : List ℕ) (b : Bytes s) (stands : image-stands s ≡ true) (x : �
       thread-there s b stands x (ltb-sound x (names s) p) (eqb-sound (kind-at s x) thread-kind q)
 
 -- a rule's number
-rule-between : (r : Rule) → (1 ≤ number r) × (number r ≤ 7)
+rule-between : (r : Rule) → (number BETA ≤ number r) × (number r ≤ number CELL-EXCH)
 rule-between BETA = (omega arith, omega arith)
 rule-between THREAD-NEW = (omega arith, omega arith)
 rule-between FUTURE-DEREF = (omega arith, omega arith)
@@ -124,12 +126,12 @@ after-fits S h = rw (S .written) (within-length (S .outcome) (room-within S h))
 
 -- the whole step
 module _ (s : List ℕ) (x : ℕ) (out : List ℕ) where
-  pub too-short : length out < max-image-length → (Refused 12 ≡ outcome-of s x out) × (out ≡ out-after-step s x out)
+  pub too-short : length out < max-image-length → (Refused buffer-cause ≡ outcome-of s x out) × (out ≡ out-after-step s x out)
   unfolding outcome-of out-after-step step-reply outcome-of-reply out-after-reply
   too-short l = (rw (ltb-complete (length out) max-image-length l) refl, rw (ltb-complete (length out) max-image-length l) refl)
 
   module _ (long : max-image-length ≤ length out) where
-    pub broken : image-stands s ≡ false → (Refused 13 ≡ outcome-of s x out) × (out ≡ out-after-step s x out)
+    pub broken : image-stands s ≡ false → (Refused image-cause ≡ outcome-of s x out) × (out ≡ out-after-step s x out)
     unfolding outcome-of out-after-step step-reply outcome-of-reply out-after-reply
     broken f = (rw (ltb-not (length out) max-image-length long, f) refl, rw (ltb-not (length out) max-image-length long, f) refl)
 

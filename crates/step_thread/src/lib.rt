@@ -1,5 +1,6 @@
 // A step of one thread: 12, 13 and 14 first; then the place where two values meet, what comes of it, room, and only then the new image is written.
 use image_check::Checked;
+use numbers::Cause;
 use numbers::Image;
 use step_decide::Decision;
 use step_spec::Outcome;
@@ -43,7 +44,7 @@ fn step_checked(image: &[u8], nodes: usize, thread: usize, out: &mut [u8]) -> Ou
     ensures { λ r. ⌜ now (out .exit) ≡ out-after-reply (reply-of (step-of (config-of (now (image .entry))) thread)) (now (out .entry)) ⌝ }
 {
     if !is_thread(image, thread) {
-        return Outcome::Refused(14);
+        return Outcome::Refused(Cause::NO_THREAD);
     }
     let Place::Meet(meeting) = term_redex::find_place(image, image_layout::offset_at(image, thread))
     else {
@@ -54,7 +55,7 @@ fn step_checked(image: &[u8], nodes: usize, thread: usize, out: &mut [u8]) -> Ou
         return answer_of(decision);
     };
     if !step_room::has_room(image, nodes, step) {
-        return Outcome::Refused(15);
+        return Outcome::Refused(Cause::ROOM);
     }
     let rule = step.rule;
     let length = step_write::put_image_after(image, step, out);
@@ -67,10 +68,10 @@ pub fn step(image: &[u8], thread: usize, out: &mut [u8]) -> Outcome
     ensures { λ r. ⌜ now (out .exit) ≡ out-after-step (now (image .entry)) thread (now (out .entry)) ⌝ }
 {
     if out.len() < Image::MAX_LENGTH {
-        return Outcome::Refused(12);
+        return Outcome::Refused(Cause::BUFFER);
     }
     let Checked::Nodes(nodes) = image_check::check_image(image) else {
-        return Outcome::Refused(13);
+        return Outcome::Refused(Cause::IMAGE);
     };
     step_checked(image, nodes, thread, out)
 }

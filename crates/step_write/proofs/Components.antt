@@ -1,7 +1,7 @@
 -- The component that comes of a step for a name, by what the step makes of it.
 use mathlib.Core.Path.{_≡_, refl, sym, ap, _∙_}
 use mathlib.Core.Bool.{Bool, cond, true, false}
-use mathlib.Core.List.{List, _∷_, _++_, map}
+use mathlib.Core.List.{List, map}
 use Prim.Native.Nat.{ℕ, zero, suc, _+_, _-_, _<_, _≤_}
 use native.Mathlib.Omega.{arith}
 use borrow.Author.Tests.{eqb-false}
@@ -11,10 +11,13 @@ use Rattle.calculus.specs.Bytes.{two-byte-values}
 use Rattle.calculus.specs.Limits.{byte-values}
 use Rattle.calculus.specs.Lists.{tabulate}
 use Rattle.image_layout.specs.Encoded.{Encoded, image-bytes}
+use Rattle.image_layout.specs.declared.Head.{Head}
+use Rattle.image_layout.specs.Heads.{Says}
 use Rattle.image_layout.specs.Slice.{names, encoded-at}
 use Rattle.image_layout.specs.Theory.Turns.{Room}
 use Rattle.step_rules.specs.declared.Move.{Move}
-use Rattle.step_rules.specs.Moves.{argument-bytes, name-bytes, others, other-after, component-after, news, names-after, components-after, image-after}
+use Rattle.step_rules.specs.Positions.{application-length, name-length}
+use Rattle.step_rules.specs.Moves.{started-bytes, others, other-after, component-after, new-names, names-after, components-after, image-after}
 use Rattle.step_reduct.specs.CanWrite.{CanWrite}
 use Rattle.step_reduct.proofs.Redexes.{argument-length}
 use Rattle.step_write.specs.declared.Change.{Change}
@@ -51,8 +54,8 @@ module _ (s : List ℕ) (move : Move) (k : ℕ) where
   Sure Bound = Unit {0}
   Sure Holds = Unit {0}
 
-  sure-by : (r : ℕ) → names s + news r ≤ byte-values → k < names s + news r → Sure (getD (changes move (names s) k) r Kept)
-  unfolding news changes
+  sure-by : (r : ℕ) → names s + new-names r ≤ byte-values → k < names s + new-names r → Sure (getD (changes move (names s) k) r Kept)
+  unfolding new-names changes
   sure-by zero f l = omega arith
   sure-by (suc zero) f l = omega arith
   sure-by (suc (suc zero)) f l = go (eqb k (names s)) refl
@@ -94,18 +97,16 @@ module _ (s : List ℕ) (move : Move) (k : ℕ) where
       go false = sure-by (move .rule) (w .few) l
 
 -- the head of a component that is known
-pub as-head : {x y : Encoded} {kind companion size : ℕ} → x ≡ y
-    → (kind ≡ y .kind) × ((companion ≡ y .companion) × (size ≡ length (y .expression)))
-    → (kind ≡ x .kind) × ((companion ≡ x .companion) × (size ≡ length (x .expression)))
+pub as-head : {x y : Encoded} {h : Head} → x ≡ y → Says h y → Says h x
 as-head e h = rw e h
 
 -- its expression
 pub same-expression : {x y : Encoded} → x ≡ y → y .expression ≡ x .expression
 same-expression e = ap (λ (z : Encoded). z .expression) (sym e)
 
--- the new thread of rule 2 has three bytes more than its function
-pub started-length : {s : List ℕ} {move : Move} → CanWrite s move → (m : ℕ) → length (2 ∷ (argument-bytes s move ++ name-bytes m)) ≡ move .end - move .argument + 3
-started-length w m = simp (length-append, argument-length w) (omega arith)
+-- the new thread of rule 2
+pub started-length : {s : List ℕ} {move : Move} → CanWrite s move → length (started-bytes s move) ≡ move .end - move .argument + (application-length + name-length)
+started-length w = simp (length-append, argument-length w) (omega arith)
 
 -- room for the image, and its three writes
 pub image-room : (s : List ℕ) (move : Move) {out : List ℕ} → length (image-after s move) ≤ length out → length (image-after s move) < two-byte-values → Room (names-after s move) (component-after s move) out

@@ -1,13 +1,13 @@
 -- What a step by a rule makes of a name: the same components as in moves, found by number first (proofs.Components, `after-is`).
 use mathlib.Core.Bool.{cond}
-use mathlib.Core.List.{List, [], _∷_, _++_}
+use mathlib.Core.List.{List, [], _∷_}
 use Prim.Native.Nat.{ℕ, _+_}
 use lib.Dec.{eqb}
 use lib.ListN.{getD}
 use Rattle.image_layout.specs.Encoded.{Encoded}
 use Rattle.image_layout.specs.Slice.{names, encoded-at}
 use Rattle.step_rules.specs.declared.Move.{Move}
-use Rattle.step_rules.specs.Moves.{thread-holding, cell-holding, handle-open, handle-used, future-awaited, argument-bytes, name-bytes, expression-after}
+use Rattle.step_rules.specs.Moves.{thread-holding, cell-holding, handle-open, handle-used, future-awaited, argument-bytes, started-bytes, expression-after}
 use Rattle.step_write.specs.declared.Change.{Change}
 use Rattle.step_write.specs.declared.Change.the-variants.{Kept, Goes, Starts, Awaited, Opens, Used, Bound, Holds}
 
@@ -24,6 +24,7 @@ changes move m k =
     ∷ cond (eqb k (move .name)) Holds Kept
     ∷ []
 
+-- what a step makes of name k
 unfoldable pub change-of : Move → ℕ → ℕ → Change
 change-of move m k = cond (eqb k (move .thread)) Goes (getD (changes move m k) (move .rule) Kept)
 
@@ -31,7 +32,7 @@ change-of move m k = cond (eqb k (move .thread)) Goes (getD (changes move m k) (
 unfoldable pub changed : List ℕ → Move → ℕ → Change → Encoded
 changed s move k Kept = encoded-at s k
 changed s move k Goes = thread-holding (expression-after s move)
-changed s move k Starts = thread-holding (2 ∷ (argument-bytes s move ++ name-bytes (names s)))
+changed s move k Starts = thread-holding (started-bytes s move)
 changed s move k Awaited = future-awaited
 changed s move k Opens = handle-open (names s)
 changed s move k Used = handle-used

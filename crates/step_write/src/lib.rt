@@ -2,6 +2,8 @@
 use buffer::put_byte;
 use buffer::put_bytes;
 use buffer::put_u16;
+use image_layout::Head;
+use image_layout::Next;
 use image_layout::companion_at;
 use image_layout::expression_at;
 use image_layout::kind_at;
@@ -9,28 +11,33 @@ use image_layout::length_at;
 use image_layout::names_of;
 use image_layout::put_head;
 use numbers::Image;
+use numbers::Rule;
 use step_reduct::put_argument;
 use step_reduct::put_name;
 use step_reduct::put_thread_after;
 use step_reduct::thread_size;
 use step_rules::Move;
+use step_rules::new_names;
 use term::Node;
 ghost use mathlib.Core.Path.{_≡_};
 ghost use mathlib.Core.Bool.{cond};
-ghost use mathlib.Core.List.{_∷_, _++_};
 ghost use Prim.Native.Nat.{_+_, _<_, _≤_};
 ghost use lib.ListN.{length};
 ghost use Rattle.calculus.specs.Bytes.{two-byte-values};
-ghost use Rattle.calculus.specs.Limits.{byte-values};
+ghost use Rattle.calculus.specs.Limits.{byte-values, first-head};
 ghost use Rattle.calculus.specs.Lists.{tabulate};
 ghost use Rattle.buffer.specs.Written.{Wrote};
 ghost use Rattle.image_layout.specs.Encoded.{heads, head-offset, expressions};
 ghost use Rattle.image_layout.specs.Slice.{names};
+ghost use Rattle.image_layout.specs.Heads.{Says};
 ghost use Rattle.image_layout.specs.Theory.Turns.{Room};
-ghost use Rattle.step_rules.specs.Moves.{argument-bytes, name-bytes, component-after, news, names-after, image-after};
+ghost use Rattle.step_rules.specs.Moves.{started-bytes, component-after, names-after, image-after};
 ghost use Rattle.step_reduct.specs.CanWrite.{CanWrite};
 ghost use Rattle.step_write.specs.declared.Change.the-variants.{Kept};
 ghost use Rattle.step_write.specs.Changes.{change-of};
+
+// What THREAD.NEW writes besides its argument: an application and a name.
+const STARTED: usize = Move::APPLICATION + Move::NAME;
 
 // What a step makes of a name: it stays, it is the thread that goes, a new thread (rule 2), a new future and its handle (rule 4), the handle that is used and
 // the future that is bound (rule 5), a cell that holds the argument (rules 6 and 7).
@@ -43,13 +50,6 @@ pub enum Change {
     Used,
     Bound,
     Holds,
-}
-
-// What the head of a name says, but for where its expression stands.
-pub struct Head {
-    pub kind: u8,
-    pub companion: u8,
-    pub size: usize,
 }
 
 // This change, or none.
@@ -71,51 +71,35 @@ fn change_of(step: Move, names: usize, k: usize) -> Change
         return Change::Goes;
     }
     let rule = step.rule;
-    if rule == 2 {
+    if rule == Rule::THREAD_NEW {
         return when(k == names, Change::Starts);
     }
-    if rule == 4 {
+    if rule == Rule::HANDLE_NEW {
         if k == names {
             return Change::Awaited;
         }
         return when(k == names + 1, Change::Opens);
     }
-    if rule == 5 {
+    if rule == Rule::HANDLE_BIND {
         if k == step.name {
             return Change::Used;
         }
         return when(k == step.future, Change::Bound);
     }
-    if rule == 6 {
+    if rule == Rule::CELL_NEW {
         return when(k == names, Change::Holds);
     }
-    if rule == 7 {
+    if rule == Rule::CELL_EXCH {
         return when(k == step.name, Change::Holds);
     }
     Change::Kept
 }
 
-// How many names come with a rule.
-fn new_names(rule: u8) -> usize
-    ensures { λ r. ⌜ r ≡ news rule ⌝ }
-{
-    if rule == 2 {
-        return 1;
-    }
-    if rule == 4 {
-        return 2;
-    }
-    if rule == 6 {
-        return 1;
-    }
-    0
-}
-
 // Writes the new thread of rule 2: the argument applied to the thread's own name.
 fn put_started(out: &mut [u8], at: usize, image: &[u8], step: Move) -> usize
     requires { ⌜ CanWrite (now image) step × (names (now image) < byte-values) ⌝ }
-    requires { ⌜ at + length (2 ∷ (argument-bytes (now image) step ++ name-bytes (names (now image)))) ≤ length (now out) ⌝ }
-    ensures { λ r. ⌜ Wrote (now (out .entry)) at (2 ∷ (argument-bytes (now (image .entry)) step ++ name-bytes (names (now (image .entry))))) (now (out .exit)) r ⌝ }
+    requires { ⌜ at + length (started-bytes (now image) step) ≤ length (now out) ⌝ }
+    ensures { λ r. ⌜ Wrote (now (out .entry)) at (started-bytes (now (image .entry)) step) (now (out .exit)) r ⌝ }
 {
     let function = put_byte(out, at, Node::APPLICATION);
     let name = put_argument(out, function, image, step);
@@ -166,7 +150,7 @@ fn holding(kind: u8, size: usize) -> Head
 // The head of name k.
 fn head_after(image: &[u8], step: Move, k: usize) -> Head
     requires { ⌜ CanWrite (now image) step × (k < names-after (now image) step) ⌝ }
-    ensures { λ r. ⌜ (r .kind ≡ component-after (now (image .entry)) step k .kind) × ((r .companion ≡ component-after (now (image .entry)) step k .companion) × (r .size ≡ length (component-after (now (image .entry)) step k .expression))) ⌝ }
+    ensures { λ r. ⌜ Says r (component-after (now (image .entry)) step k) ⌝ }
 {
     let names = names_of(image);
     let change = change_of(step, names, k);
@@ -177,7 +161,7 @@ fn head_after(image: &[u8], step: Move, k: usize) -> Head
             size: length_at(image, k),
         },
         Change::Goes => holding(Image::THREAD, thread_size(image, step)),
-        Change::Starts => holding(Image::THREAD, step.end - step.argument + 3),
+        Change::Starts => holding(Image::THREAD, step.end - step.argument + STARTED),
         Change::Awaited => bare(Image::FUTURE, 0),
         Change::Opens => bare(Image::OPEN_HANDLE, names as u8),
         Change::Used => bare(Image::USED_HANDLE, 0),
@@ -188,20 +172,20 @@ fn head_after(image: &[u8], step: Move, k: usize) -> Head
 
 // Writes the heads of so many names.
 fn put_heads(out: &mut [u8], at: usize, image: &[u8], step: Move, names: usize) -> usize
-    requires { ⌜ CanWrite (now image) step × ((names ≡ names-after (now image) step) × (at ≡ 2)) ⌝ }
+    requires { ⌜ CanWrite (now image) step × ((names ≡ names-after (now image) step) × (at ≡ first-head)) ⌝ }
     requires { ⌜ Room (names-after (now image) step) (component-after (now image) step) (now out) ⌝ }
     ensures { λ r. ⌜ Wrote (now (out .entry)) at (heads (head-offset (names-after (now (image .entry)) step)) (tabulate (names-after (now (image .entry)) step) (component-after (now (image .entry)) step))) (now (out .exit)) r ⌝ }
 {
-    let mut next = at;
-    let mut offset = 2 + 6 * names;
+    let mut next = Next {
+        head: at,
+        expression: Image::FIRST_HEAD + Image::HEAD_LENGTH * names,
+    };
     let mut k = 0;
     while k < names {
-        let head = head_after(image, step, k);
-        next = put_head(out, next, head.kind, head.companion, offset, head.size);
-        offset += head.size;
+        next = put_head(out, next, head_after(image, step, k));
         k += 1;
     }
-    next
+    next.head
 }
 
 // Writes their expressions.

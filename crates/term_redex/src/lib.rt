@@ -13,7 +13,7 @@ ghost use Rattle.term_redex.specs.Shapes.{is-application, is-exchange};
 ghost use Rattle.term_redex.specs.Places.{place-of, Searchable};
 ghost use Rattle.term_redex.specs.Exchanges.{Inner};
 
-// Where two values meet: the application, whose function is at `at` + 1, its argument, and where it ends.
+// Where two values meet: the application, its argument, and where it ends.
 pub struct Meeting {
     pub at: usize,
     pub argument: usize,
@@ -25,6 +25,11 @@ pub enum Place {
     Done,
     Meet(Meeting),
 }
+
+// From an application to its function; to what exch is applied to, past the application and the constant.
+const FUNCTION: usize = 1;
+
+const EXCHANGED: usize = 3;
 
 // The node at the front of a term.
 fn known_node(s: &[u8], at: usize) -> Node
@@ -59,6 +64,7 @@ fn end_of(s: &[u8], at: usize) -> usize
     here
 }
 
+// Whether a term is an application.
 fn is_application(s: &[u8], at: usize) -> bool
     requires { ⌜ GoodAt (now s) at ⌝ }
     ensures { λ r. ⌜ r ≡ is-application (term-at (now (s .entry)) at) ⌝ }
@@ -75,11 +81,11 @@ fn is_exchange(s: &[u8], at: usize) -> bool
     if !is_application(s, at) {
         return false;
     }
-    let node = known_node(s, at + 1);
+    let node = known_node(s, at + FUNCTION);
     node.tag == Node::EXCH
 }
 
-// The term that exch, exch of exch and so on are applied to in the term at a position; the term itself, if none is. The constant takes 2 bytes.
+// The term that exch, exch of exch and so on are applied to in the term at a position; the term itself, if none is.
 fn past_exchanges(s: &[u8], at: usize) -> usize
     requires { ⌜ GoodAt (now s) at ⌝ }
     ensures { λ r. ⌜ Inner (now (s .entry)) at r ⌝ }
@@ -87,7 +93,7 @@ fn past_exchanges(s: &[u8], at: usize) -> usize
 {
     let mut here = at;
     while is_exchange(s, here) {
-        here += 3;
+        here += EXCHANGED;
     }
     here
 }
@@ -115,7 +121,7 @@ pub fn find_place(s: &[u8], at: usize) -> Place
         return Place::Done;
     }
     loop {
-        let function = past_exchanges(s, node + 1);
+        let function = past_exchanges(s, node + FUNCTION);
         if is_application(s, function) {
             node = function;
             continue;

@@ -16,7 +16,8 @@ use Rattle.term.specs.Reader.{end-at, GoodAt, node-at}
 use Rattle.term.specs.Expressions.{bytes, leaf-exp, term-at}
 use Rattle.term.proofs.Views.{end-inside, end-onward}
 use Rattle.term.proofs.Sizes.{length-bytes}
-use Rattle.buffer.specs.Written.{known-as, same, still, then, Wrote}
+use Rattle.buffer.specs.Written.{Wrote}
+use Rattle.buffer.specs.Theory.Writes.{known-as, same, still, then}
 use Rattle.term_subst.specs.Variable.{is-variable}
 use Rattle.term_subst.proofs.Ahead.{Due, due}
 use Rattle.term_subst.proofs.Leaves.{substitute-leaf, variable-leaf}

@@ -1,9 +1,10 @@
--- `writing::put_bytes` meets its contract. The loop's invariant: `out` has `src`'s first copied bytes written at `at`, and `next` is the place after them.
+-- `buffer::put_bytes` meets its contract. The loop's invariant: `out` has `src`'s first copied bytes written at `at`, and `next` is the place after them.
 -- The measure is what is left of `src`.
 use Prim.Native.Nat.{_≤_, _-_}
 use native.Mathlib.Omega.{arith}
 use lib.ListN.{length, take}
-use Rattle.buffer.specs.Written.{Wrote, still, same, copied-one, copied-next, copied-all}
+use Rattle.buffer.specs.Written.{Wrote}
+use Rattle.buffer.specs.Theory.Writes.{still, same, copied-one, copied-next, copied-all}
 use Rattle.buffer.proofs.put_bytes.Statement.{statement}
 use Rattle.buffer.proofs.put_bytes.Tie as tie
 
@@ -16,9 +17,6 @@ abbrev μ-loop : tie.MeasureT-loop
 loop-holds : tie.Need-loop-holds Inv-loop μ-loop
 loop-holds c = (omega arith, still)
 
-shared-slice-read-out : tie.Need-shared-slice-read-out Inv-loop μ-loop
-shared-slice-read-out c = omega arith
-
 slice-write-out : tie.Need-slice-write-out Inv-loop μ-loop
 slice-write-out c =
     let inv = c .before .before .loop .inv in
@@ -28,12 +26,6 @@ add-next : tie.Need-add-next Inv-loop μ-loop
 add-next c =
     let inv = c .before .before .loop .inv in
     omega (arith, copied-next _ _ _ _ _ _ (inv .0) (inv .1))
-
-add-copied : tie.Need-add-copied Inv-loop μ-loop
-add-copied c = omega arith
-
-loop-less : tie.Need-loop-less Inv-loop μ-loop
-loop-less c = omega arith
 
 loop-again : tie.Need-loop-again Inv-loop μ-loop
 loop-again c =
@@ -53,11 +45,11 @@ put-bytes-spec =
     Inv-loop
     μ-loop
     loop-holds
-    shared-slice-read-out
+    (λ c. omega arith)
     slice-write-out
     add-next
-    add-copied
-    loop-less
+    (λ c. omega arith)
+    (λ c. omega arith)
     loop-again
     same-length
     returns)

@@ -1,24 +1,21 @@
 -- A slice of bytes stands exactly when it is the image of a configuration that keeps every rule and limit, and of one only.
 use mathlib.Core.Path.{_∙_, _≡_, ap, refl, sym}
 use mathlib.Core.Logic.{_↔_}
-use mathlib.Core.Bool.{Bool, _&&_, _||_, false, true}
+use mathlib.Core.Bool.{Bool, _||_, false, true}
 use mathlib.Core.Option.{some}
 use mathlib.Core.List.{List, [], _∷_, map}
-use Prim.Native.Nat.{_<_, _≤_, suc, zero, ℕ}
-use native.Mathlib.Decide.{decLt}
+use Prim.Native.Nat.{suc, zero, ℕ}
 use native.Mathlib.Omega.{arith}
 use lib.Dec.{leb}
-use lib.ListN.{drop, length, length-map}
+use lib.ListN.{drop, length-map}
 use Rattle.calculus.specs.Bytes.{Bytes}
-use Rattle.calculus.specs.Lists.{each-below}
 use Rattle.calculus.specs.Syntax.{Component, thread-of, holds, open-for, used, awaited, Config, at, EachAll}
 use Rattle.calculus.specs.Image.{ImageRule, image-test, Writable}
-use Rattle.calculus.specs.Theory.Tests.{and-true, and-parts, leb-sound, leb-complete, clash}
-use Rattle.calculus.specs.Theory.Lists.{at-bound, at-below, same-at}
+use Rattle.calculus.specs.Theory.Tests.{and-true, and-parts, leb-sound, clash}
+use Rattle.calculus.specs.Theory.Lists.{at-below}
 use Rattle.calculus.specs.Theory.Tabulate.{each-below-sound, each-below-complete}
 use Rattle.calculus.specs.Theory.ImageTest.{image-test-iff}
 use Rattle.term.specs.Reader.{one-term, read-term}
-use Rattle.term.specs.Expressions.{bytes, FitsBytes, term-at}
 use Rattle.term.proofs.Terms.{bytes-drop, bytes-take}
 use Rattle.term.proofs.Expressions.{one-term-sound, one-term-complete}
 use Rattle.calculus.specs.Kinds.{open-handle-kind}

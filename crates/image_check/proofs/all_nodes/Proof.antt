@@ -1,4 +1,4 @@
--- `sound::all_nodes` meets its contract. The loop's invariant: the names passed have taken their nodes off the budget (proofs/Budgets.antt), and the array
+-- `image_check::all_nodes` meets its contract. The loop's invariant: the names passed have taken their nodes off the budget (proofs/Budgets.antt), and the array
 -- that is lent has its length. The measure is how many names are still to come.
 use mathlib.Core.Path.{_≡_, refl, sym, _∙_}
 use Prim.Native.Nat.{_-_}
@@ -23,19 +23,10 @@ names-of-requires c κs = has-names _ (c .before .pre)
 loop-holds : tie.Need-loop-holds Inv-loop μ-loop
 loop-holds c = (spent-none _ _ (c .names-of .ensures .0) (c .before .before .pre), refl)
 
-slice-aggregate-component-nodes : tie.Need-slice-aggregate-component-nodes Inv-loop μ-loop
-slice-aggregate-component-nodes c = search needs
-
 component-nodes-requires : tie.Need-component-nodes-requires Inv-loop μ-loop
 component-nodes-requires c κs =
     let p = c .before .before .loop .inv in
     (next-named (p .0) (c .before .loop-test .taken), (within (p .0), p .1))
-
-enum-known-nodes : tie.Need-enum-known-nodes Inv-loop μ-loop
-enum-known-nodes c = search needs
-
-enum-told : tie.Need-enum-told Inv-loop μ-loop
-enum-told c = search needs
 
 returns : tie.Need-returns Inv-loop μ-loop
 returns c =
@@ -48,12 +39,6 @@ sub-left c =
     let n = c .before .before .before .before in
     let t = n .before .before in
     enough (t .before .loop .inv .0) (t .loop-test .taken) _ (sym (c .before .nodes .given .1) ∙ n .component-nodes .ensures)
-
-add-k : tie.Need-add-k Inv-loop μ-loop
-add-k c = omega arith
-
-loop-less : tie.Need-loop-less Inv-loop μ-loop
-loop-less c = omega arith
 
 loop-again : tie.Need-loop-again Inv-loop μ-loop
 loop-again c =
@@ -75,14 +60,14 @@ all-nodes-spec =
     μ-loop
     names-of-requires
     loop-holds
-    slice-aggregate-component-nodes
+    (λ c. search needs)
     component-nodes-requires
-    enum-known-nodes
-    enum-told
+    (λ c. search needs)
+    (λ c. search needs)
     returns
     sub-left
-    add-k
-    loop-less
+    (λ c. omega arith)
+    (λ c. omega arith)
     loop-again
     sub-t11
     returns-2)

@@ -1,4 +1,4 @@
--- `sound::check_image` meets its contract: a law for each return.
+-- `image_check::check_image` meets its contract: a law for each return.
 use mathlib.Core.Path.{sym, _∙_}
 use native.Mathlib.Omega.{arith}
 use borrow.Author.Needs.{needs}
@@ -10,26 +10,14 @@ use Rattle.image_check.proofs.check_image.Tie as tie
 returns : tie.Need-returns
 returns c = too-short _ (c .if1 .taken)
 
-names-of-requires : tie.Need-names-of-requires
-names-of-requires c κs = search needs
-
 returns-2 : tie.Need-returns-2
 returns-2 c = too-many _ (c .before .names-of .ensures .0) (c .if2 .taken)
-
-heads-stand-requires : tie.Need-heads-stand-requires
-heads-stand-requires c κs = search needs
 
 returns-3 : tie.Need-returns-3
 returns-3 c = no-layout _ (sym (c .before .heads-stand .ensures) ∙ not-true _ (c .if3 .taken))
 
 all-nodes-requires : tie.Need-all-nodes-requires
 all-nodes-requires c κs = sym (c .before .heads-stand .ensures) ∙ not-false _ (c .if3 .left)
-
-enum-known-nodes : tie.Need-enum-known-nodes
-enum-known-nodes c = search needs
-
-enum-told : tie.Need-enum-told
-enum-told c = search needs
 
 returns-4 : tie.Need-returns-4
 returns-4 c = no-expressions _ (sym (c .enum-told .given .1) ∙ c .before .before .all-nodes .ensures)
@@ -55,13 +43,13 @@ check-image-spec =
     tie.close
     (tie.spec
     returns
-    names-of-requires
+    (λ c κs. search needs)
     returns-2
-    heads-stand-requires
+    (λ c κs. search needs)
     returns-3
     all-nodes-requires
-    enum-known-nodes
-    enum-told
+    (λ c. search needs)
+    (λ c. search needs)
     returns-4
     pairs-stand-requires
     returns-5

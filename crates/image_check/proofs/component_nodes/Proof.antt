@@ -1,4 +1,4 @@
--- `sound::component_nodes` meets its contract: a law for each return.
+-- `image_check::component_nodes` meets its contract: a law for each return.
 use mathlib.Core.Path.{sym, _∙_}
 use borrow.Author.Needs.{needs}
 use borrow.Author.Tests.{not-true, not-false}
@@ -18,15 +18,6 @@ expression-at-requires c κs = named-expression (c .before .before .before .befo
 expression-nodes-requires : tie.Need-expression-nodes-requires
 expression-nodes-requires c κs = c .before .before .before .before .before .before .pre .1
 
-enum-known-nodes : tie.Need-enum-known-nodes
-enum-known-nodes c = search needs
-
-enum-told : tie.Need-enum-told
-enum-told c = search needs
-
-same-length : tie.Need-same-length
-same-length c = search needs
-
 returns-2 : tie.Need-returns-2
 returns-2 c =
     let n = c .before .before .before .before in
@@ -34,9 +25,6 @@ returns-2 c =
     let a = x .before in
     part-broken _ _ _ _ (a .before .before .before .before .pre .0) (a .before .kind-at .ensures) (a .if1 .left) (x .expression-at .ensures)
     (sym (c .enum-told .given .1) ∙ n .expression-nodes .ensures)
-
-same-length-2 : tie.Need-same-length-2
-same-length-2 c = search needs
 
 returns-3 : tie.Need-returns-3
 returns-3 c =
@@ -53,9 +41,6 @@ is-value-requires c κs =
     let n = e .before .before .before .before in
     part-good _ _ _ _ (sym (e .nodes .given .1) ∙ n .expression-nodes .ensures)
 
-same-length-3 : tie.Need-same-length-3
-same-length-3 c = search needs
-
 returns-4 : tie.Need-returns-4
 returns-4 c =
     let e = c .before .before .before .before in
@@ -65,9 +50,6 @@ returns-4 c =
     part-valueless _ _ _ _ (a .before .before .before .before .pre .0) (a .before .kind-at .ensures) (a .if1 .left) (x .expression-at .ensures)
     _ (sym (e .nodes .given .1) ∙ n .expression-nodes .ensures) (c .before .before .if2 .left)
     (sym (c .before .is-value .ensures) ∙ not-true _ (c .if3 .taken))
-
-same-length-4 : tie.Need-same-length-4
-same-length-4 c = search needs
 
 returns-5 : tie.Need-returns-5
 returns-5 c =
@@ -87,14 +69,14 @@ component-nodes-spec =
     returns
     expression-at-requires
     expression-nodes-requires
-    enum-known-nodes
-    enum-told
-    same-length
+    (λ c. search needs)
+    (λ c. search needs)
+    (λ c. search needs)
     returns-2
-    same-length-2
+    (λ c. search needs)
     returns-3
     is-value-requires
-    same-length-3
+    (λ c. search needs)
     returns-4
-    same-length-4
+    (λ c. search needs)
     returns-5)

@@ -1,4 +1,4 @@
--- `sound::expression_nodes` meets its contract: a law for each return.
+-- `image_check::expression_nodes` meets its contract: a law for each return.
 use mathlib.Core.Path.{sym, _∙_}
 use Prim.Native.Nat.{zero-le}
 use borrow.Author.Needs.{needs}
@@ -9,31 +9,16 @@ use Rattle.image_check.proofs.expression_nodes.Tie as tie
 scan-scoped-requires : tie.Need-scan-scoped-requires
 scan-scoped-requires c κs = (zero-le, c .before .before .before .pre)
 
-enum-known-end : tie.Need-enum-known-end
-enum-known-end c = search needs
-
-enum-told : tie.Need-enum-told
-enum-told c = search needs
-
-same-length : tie.Need-same-length
-same-length c = search needs
-
 returns : tie.Need-returns
 returns c =
     let a = c .before .before .before .before in
     refused _ _ _ (λ i. a .before .before .before .shared-slice-known .given i .fits) (sym (c .enum-told .given .1) ∙ a .scan-scoped .ensures)
-
-same-length-2 : tie.Need-same-length-2
-same-length-2 c = search needs
 
 returns-2 : tie.Need-returns-2
 returns-2 c =
     let e = c .before .before in
     let a = e .before .before .before .before in
     bytes-over _ _ _ (λ i. a .before .before .before .shared-slice-known .given i .fits) _ _ (sym (e .end .given .1) ∙ a .scan-scoped .ensures) (c .if1 .taken)
-
-same-length-3 : tie.Need-same-length-3
-same-length-3 c = search needs
 
 returns-3 : tie.Need-returns-3
 returns-3 c =
@@ -46,11 +31,11 @@ expression-nodes-spec =
     tie.close
     (tie.spec
     scan-scoped-requires
-    enum-known-end
-    enum-told
-    same-length
+    (λ c. search needs)
+    (λ c. search needs)
+    (λ c. search needs)
     returns
-    same-length-2
+    (λ c. search needs)
     returns-2
-    same-length-3
+    (λ c. search needs)
     returns-3)

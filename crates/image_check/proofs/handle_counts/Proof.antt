@@ -1,4 +1,4 @@
--- `sound::handle_counts` meets its contract. The loop's invariant: the names passed are counted (proofs/Handles.antt). The measure is how many names are
+-- `image_check::handle_counts` meets its contract. The loop's invariant: the names passed are counted (proofs/Handles.antt). The measure is how many names are
 -- still to come.
 use Prim.Native.Nat.{_-_}
 use native.Mathlib.Omega.{arith}
@@ -27,36 +27,15 @@ kind-at-requires c κs = named-head (next-named (c .before .loop .inv) (c .loop-
 companion-at-requires : tie.Need-companion-at-requires Inv-loop μ-loop
 companion-at-requires c κs = let t = c .before in named-head (next-named (t .before .loop .inv) (t .loop-test .taken))
 
-cast-companion : tie.Need-cast-companion Inv-loop μ-loop
-cast-companion c = search needs
-
-add-k : tie.Need-add-k Inv-loop μ-loop
-add-k c = omega arith
-
-loop-less : tie.Need-loop-less Inv-loop μ-loop
-loop-less c = omega arith
-
 loop-again : tie.Need-loop-again Inv-loop μ-loop
 loop-again c =
     let t = c .before .before .before in
     tallied-skip (t .before .loop .inv) (t .loop-test .taken) (c .before .before .kind-at .ensures) (c .if1 .taken)
 
-mul-counts : tie.Need-mul-counts Inv-loop μ-loop
-mul-counts c = search needs
-
-array-read-counts : tie.Need-array-read-counts Inv-loop μ-loop
-array-read-counts c = search needs
-
 add-counts : tie.Need-add-counts Inv-loop μ-loop
 add-counts c =
     let t = c .before .before .before in
     omega (arith, small (t .before .loop .inv) (c .before .companion-at .result) (search needs), t .before .before .names-of .ensures .1)
-
-array-write-counts : tie.Need-array-write-counts Inv-loop μ-loop
-array-write-counts c = search needs
-
-loop-less-2 : tie.Need-loop-less-2 Inv-loop μ-loop
-loop-less-2 c = omega arith
 
 loop-again-2 : tie.Need-loop-again-2 Inv-loop μ-loop
 loop-again-2 c =
@@ -76,14 +55,14 @@ handle-counts-spec =
     loop-holds
     kind-at-requires
     companion-at-requires
-    cast-companion
-    add-k
-    loop-less
+    (λ c. search needs)
+    (λ c. omega arith)
+    (λ c. omega arith)
     loop-again
-    mul-counts
-    array-read-counts
+    (λ c. search needs)
+    (λ c. search needs)
     add-counts
-    array-write-counts
-    loop-less-2
+    (λ c. search needs)
+    (λ c. omega arith)
     loop-again-2
     returns)

@@ -1,4 +1,4 @@
--- `sound::pair_stands` meets its contract: a law for each return.
+-- `image_check::pair_stands` meets its contract: a law for each return.
 use borrow.Author.Needs.{needs}
 use Rattle.image_check.proofs.Components.{named-head}
 use Rattle.image_check.proofs.Pairs.{companion-head, companion-pair, future-pair, other-pair, outside-pair}
@@ -16,9 +16,6 @@ returns-2 c = let a = c .before in other-pair (a .before .before .before .pre) (
 
 companion-at-requires : tie.Need-companion-at-requires
 companion-at-requires c κs = named-head (c .before .before .before .before .pre .named)
-
-cast-companion : tie.Need-cast-companion
-cast-companion c = search needs
 
 returns-3 : tie.Need-returns-3
 returns-3 c =
@@ -43,7 +40,7 @@ pair-stands-spec =
     returns
     returns-2
     companion-at-requires
-    cast-companion
+    (λ c. search needs)
     returns-3
     kind-at-requires-2
     returns-4)

@@ -1,4 +1,4 @@
--- `sound::pairs_stand` meets its contract. The loop's invariant: the names passed keep what handles and futures must (proofs/Pairs.antt). The measure is
+-- `image_check::pairs_stand` meets its contract. The loop's invariant: the names passed keep what handles and futures must (proofs/Pairs.antt). The measure is
 -- how many names are still to come.
 use mathlib.Core.Path.{sym, _∙_}
 use Prim.Native.Nat.{_-_}
@@ -38,12 +38,6 @@ returns c =
     let t = c .before .before in
     paired-fault (t .before .loop .inv) (t .loop-test .taken) (sym (c .before .pair-stands .ensures) ∙ not-true _ (c .if1 .taken))
 
-add-k : tie.Need-add-k Inv-loop μ-loop
-add-k c = omega arith
-
-loop-less : tie.Need-loop-less Inv-loop μ-loop
-loop-less c = omega arith
-
 loop-again : tie.Need-loop-again Inv-loop μ-loop
 loop-again c =
     let t = c .before .before in
@@ -65,7 +59,7 @@ pairs-stand-spec =
     array-read-pair-stands
     pair-stands-requires
     returns
-    add-k
-    loop-less
+    (λ c. omega arith)
+    (λ c. omega arith)
     loop-again
     returns-2)

@@ -19,7 +19,8 @@ use Rattle.term.proofs.Expressions.{found-at}
 use Rattle.term_redex.specs.Places.{Searchable}
 use Rattle.calculus.specs.Kinds.{thread-kind, cell-kind, open-handle-kind, used-handle-kind, future-kind}
 use Rattle.image_layout.specs.Encoded.{Encoded}
-use Rattle.image_layout.specs.Slice.{names, kind-at, companion-at, offset-at, length-at, expression-at, encoded-at, encoded-there}
+use Rattle.image_layout.specs.Slice.{names, kind-at, companion-at, offset-at, length-at, expression-at, encoded-at}
+use Rattle.image_layout.specs.Theory.Slice.{encoded-there}
 use Rattle.image_layout.specs.Readable.{HasExpression}
 use Rattle.image_layout.specs.Theory.Reading.{expression-length, has-expression}
 use Rattle.image.specs.Configuration.{config-of, encode}

@@ -1,4 +1,4 @@
--- `layout::head_agrees` meets its contract: a law for each return.
+-- `image_layout::head_agrees` meets its contract: a law for each return.
 use Rattle.image_layout.proofs.Heads.{kind-below, kind-above, with-expression, with-companion, companion-over, with-neither}
 use Rattle.image_layout.proofs.head_agrees.Statement.{statement}
 use Rattle.image_layout.proofs.head_agrees.Tie as tie

@@ -1,4 +1,4 @@
--- `layout::head_stands` meets its contract: a law for each return.
+-- `image_layout::head_stands` meets its contract: a law for each return.
 use mathlib.Core.Path.{sym, _∙_}
 use borrow.Author.Needs.{needs}
 use borrow.Author.Tests.{not-true, not-false}
@@ -6,26 +6,11 @@ use Rattle.image_layout.proofs.Heads.{head-fault, offset-fault, head-in
 use Rattle.image_layout.proofs.head_stands.Statement.{statement}
 use Rattle.image_layout.proofs.head_stands.Tie as tie
 
-length-at-requires : tie.Need-length-at-requires
-length-at-requires c κs = search needs
-
-kind-at-requires : tie.Need-kind-at-requires
-kind-at-requires c κs = search needs
-
-companion-at-requires : tie.Need-companion-at-requires
-companion-at-requires c κs = search needs
-
-head-agrees-requires : tie.Need-head-agrees-requires
-head-agrees-requires c κs = search needs
-
 returns : tie.Need-returns
 returns c =
     let a = c .before in
     head-fault _ _ _ (a .before .before .kind-at .ensures) (a .before .companion-at .ensures) (a .before .before .before .length-at .ensures .0)
     (sym (a .head-agrees .ensures) ∙ not-true _ (c .if1 .taken))
-
-offset-at-requires : tie.Need-offset-at-requires
-offset-at-requires c κs = search needs
 
 returns-2 : tie.Need-returns-2
 returns-2 c =
@@ -35,9 +20,6 @@ returns-2 c =
     (sym (a .head-agrees .ensures) ∙ not-false _ (o .before .if1 .left))
     (o .offset-at .ensures .0)
     (c .if2 .taken)
-
-sub-result : tie.Need-sub-result
-sub-result c = search needs
 
 returns-3 : tie.Need-returns-3
 returns-3 c =
@@ -53,12 +35,12 @@ pub head-stands-spec : {M : Type 1} → statement M
 head-stands-spec =
     tie.close
     (tie.spec
-    length-at-requires
-    kind-at-requires
-    companion-at-requires
-    head-agrees-requires
+    (λ c κs. search needs)
+    (λ c κs. search needs)
+    (λ c κs. search needs)
+    (λ c κs. search needs)
     returns
-    offset-at-requires
+    (λ c κs. search needs)
     returns-2
-    sub-result
+    (λ c. search needs)
     returns-3)

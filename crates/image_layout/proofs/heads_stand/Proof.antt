@@ -1,4 +1,4 @@
--- `layout::heads_stand` meets its contract. The loop's invariant: k names have stood, and what is left of the test is the test of the others. The measure is
+-- `image_layout::heads_stand` meets its contract. The loop's invariant: k names have stood, and what is left of the test is the test of the others. The measure is
 -- their number.
 use mathlib.Core.Path.{sym, _∙_}
 use Prim.Native.Nat.{_-_}
@@ -16,15 +16,6 @@ abbrev μ-loop : tie.MeasureT-loop
 
 returns : tie.Need-returns Inv-loop μ-loop
 returns c = no-room (c .before .before .args .image .now) (omega arith)
-
-names-of-requires : tie.Need-names-of-requires Inv-loop μ-loop
-names-of-requires c κs = omega arith
-
-mul-end : tie.Need-mul-end Inv-loop μ-loop
-mul-end c = omega arith
-
-add-end : tie.Need-add-end Inv-loop μ-loop
-add-end c = omega arith
 
 returns-2 : tie.Need-returns-2 Inv-loop μ-loop
 returns-2 c = no-room (c .before .before .before .before .args .image .now) (omega (arith, c .before .names-of .ensures .0))
@@ -48,12 +39,6 @@ add-end-2 c =
     let t = c .before .before .before in
     omega (arith, t .before .loop .inv .inside, c .length-at .ensures .1, t .before .before .before .before .before .before .good .0 .1)
 
-add-k : tie.Need-add-k Inv-loop μ-loop
-add-k c = omega arith
-
-loop-less : tie.Need-loop-less Inv-loop μ-loop
-loop-less c = omega arith
-
 loop-again : tie.Need-loop-again Inv-loop μ-loop
 loop-again c =
     let t = c .before .before .before in
@@ -69,16 +54,16 @@ heads-stand-spec =
     Inv-loop
     μ-loop
     returns
-    names-of-requires
-    mul-end
-    add-end
+    (λ c κs. omega arith)
+    (λ c. omega arith)
+    (λ c. omega arith)
     returns-2
     loop-holds
     head-stands-requires
     returns-3
     length-at-requires
     add-end-2
-    add-k
-    loop-less
+    (λ c. omega arith)
+    (λ c. omega arith)
     loop-again
     returns-4)

@@ -1,20 +1,8 @@
--- `layout::length_at` meets its contract.
+-- `image_layout::length_at` meets its contract.
 use borrow.Author.Needs.{needs}
 use Rattle.image_layout.specs.Slice.{length-at}
 use Rattle.image_layout.proofs.length_at.Statement.{statement}
 use Rattle.image_layout.proofs.length_at.Tie as tie
-
-mul-word-at : tie.Need-mul-word-at
-mul-word-at c = search needs
-
-add-word-at : tie.Need-add-word-at
-add-word-at c = search needs
-
-add-word-at-2 : tie.Need-add-word-at-2
-add-word-at-2 c = search needs
-
-word-at-requires : tie.Need-word-at-requires
-word-at-requires c κs = search needs
 
 returns : tie.Need-returns
 unfolding length-at
@@ -22,4 +10,4 @@ returns c = c .word-at .ensures
 
 pub length-at-spec : {M : Type 1} → statement M
 length-at-spec =
-    tie.close (tie.spec mul-word-at add-word-at add-word-at-2 word-at-requires returns)
+    tie.close (tie.spec (λ c. search needs) (λ c. search needs) (λ c. search needs) (λ c κs. search needs) returns)

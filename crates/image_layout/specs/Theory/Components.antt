@@ -7,6 +7,7 @@ use native.Mathlib.Nat.{add-zero, add-assoc, eq-or-lt-of-le, le-of-suc-le-suc}
 use native.Mathlib.Numerals.{add-one}
 use native.Mathlib.Omega.{arith}
 use lib.ListN.{length, length-append}
+use Rattle.calculus.specs.Limits.{head-length}
 use Rattle.calculus.specs.Bytes.{two-bytes}
 use Rattle.image_layout.specs.Encoded.{Encoded, head, heads, head-offset, expressions, image-bytes}
 use Rattle.calculus.specs.Lists.{tabulate}
@@ -22,7 +23,7 @@ unfolding heads expressions
 heads-append offset [] B = rw add-zero
 heads-append offset (e ∷ A) B = rw (heads-append (offset + length (e .expression)) A B, length-append, append-assoc, add-assoc)
 
-pub length-heads : (offset : ℕ) (E : List Encoded) → length (heads offset E) ≡ 6 * length E
+pub length-heads : (offset : ℕ) (E : List Encoded) → length (heads offset E) ≡ head-length * length E
 unfolding heads head two-bytes
 length-heads offset [] = refl
 length-heads offset (e ∷ E) = omega (arith, length-heads (offset + length (e .expression)) E)

@@ -9,14 +9,16 @@ use native.Mathlib.Numerals.{add-one}
 use native.Mathlib.Omega.{arith}
 use lib.ListN.{length, take, drop, length-drop}
 use lib.Seq.{length-take-le, take-length, take-add, drop-drop}
+use Rattle.calculus.specs.Limits.{head-length}
 use Rattle.calculus.specs.Bytes.{Bytes, two-bytes}
-use Rattle.buffer.specs.TwoBytes.{two-there, word-bytes}
+use Rattle.buffer.specs.Theory.TwoBytes.{two-there, word-bytes}
 use Rattle.calculus.specs.Syntax.{at}
 use Rattle.calculus.specs.Theory.Lists.{at-below}
 use Rattle.image_layout.specs.Encoded.{Encoded, head, heads, head-offset, expressions, image-bytes}
 use Rattle.calculus.specs.Lists.{tabulate}
 use Rattle.calculus.specs.Theory.Tabulate.{tabulate-parts}
-use Rattle.image_layout.specs.Slice.{names, kind-at, companion-at, offset-at, length-at, expression-at, encoded-at, encoded-all, encoded-kind, encoded-companion}
+use Rattle.image_layout.specs.Slice.{names, kind-at, companion-at, offset-at, length-at, expression-at, encoded-at, encoded-all}
+use Rattle.image_layout.specs.Theory.Slice.{encoded-kind, encoded-companion}
 use Rattle.image_layout.specs.Layout.{end-below, LayoutRule, heads-stand, HeadRule, EachHead}
 use Rattle.image_layout.specs.Theory.Components.{heads-one, expressions-one, so-far, so-far-none, so-far-next, length-image, image-tabulated}
 use Rattle.image_layout.specs.Theory.Test.{end-first, end-next, laid-heads, heads-stand-iff}
@@ -91,7 +93,7 @@ module _ (s : List ℕ) (L : LayoutRule s) where
     head-bytes : (k : ℕ) → k < names s → head (kind-at s k) (companion-at s k) (offset-at s k) (length-at s k) ≡ take 6 (drop (head-offset k) s)
     unfolding head kind-at companion-at offset-at length-at
     head-bytes k h =
-        let room : head-offset k + 6 ≤ length s = omega (arith, L .heads-inside) in
+        let room : head-offset k + head-length ≤ length s = omega (arith, L .heads-inside) in
         ap₂ (λ (a b : List ℕ). a ++ b)
         (ap₂ (λ (a b : List ℕ). a ++ b) (sym (two-there s (head-offset k) (omega arith))) (word-bytes s (head-offset k + 2) bytes (omega arith)) ∙ part-add s (head-offset k) 2 2)
         (word-bytes s (head-offset k + 4) bytes (omega arith))
@@ -119,7 +121,7 @@ module _ (s : List ℕ) (L : LayoutRule s) where
     heads-bytes : (k : ℕ) → k ≤ names s → two-bytes (names s) ++ heads-of k ≡ take (head-offset k) s
     heads-bytes zero h = no-heads
     heads-bytes (suc k) h =
-        let place : head-offset k + 6 ≡ head-offset (suc k) = omega arith in
+        let place : head-offset k + head-length ≡ head-offset (suc k) = omega arith in
         ap (λ (l : List ℕ). two-bytes (names s) ++ l) (next-head k (omega arith))
         ∙ sym (append-assoc (two-bytes (names s)) (heads-of k) (take 6 (drop (head-offset k) s)))
         ∙ ap (λ (l : List ℕ). l ++ take 6 (drop (head-offset k) s)) (heads-bytes k (omega arith))

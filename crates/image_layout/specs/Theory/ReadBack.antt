@@ -8,7 +8,7 @@ use native.Mathlib.Omega.{arith}
 use lib.ListN.{length, getD, take, drop, length-append}
 use lib.Seq.{getD-append-add, take-at, drop-at}
 use Rattle.calculus.specs.Bytes.{two-bytes, word}
-use Rattle.buffer.specs.TwoBytes.{number-of-bytes}
+use Rattle.buffer.specs.Theory.TwoBytes.{number-of-bytes}
 use Rattle.calculus.specs.Syntax.{at}
 use Rattle.calculus.specs.Theory.Tests.{clash}
 use Rattle.calculus.specs.Theory.Lists.{append-left}

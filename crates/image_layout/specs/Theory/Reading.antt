@@ -5,6 +5,7 @@ use mathlib.Core.List.{List}
 use Prim.Native.Nat.{ℕ, _≤_, _<_}
 use native.Mathlib.Omega.{arith}
 use lib.ListN.{length}
+use Rattle.calculus.specs.Limits.{first-head}
 use Rattle.image_layout.specs.Slice.{names, expression-at, length-at, encoded-at}
 use Rattle.image_layout.specs.Layout.{LayoutRule, heads-stand}
 use Rattle.image_layout.specs.Readable.{HasHead, HasExpression}
@@ -16,7 +17,7 @@ module _ (s : List ℕ) (stands : heads-stand s ≡ true) where
   laid = heads-stand-iff s .0 stands
 
   -- m is there
-  pub has-names : 2 ≤ length s
+  pub has-names : first-head ≤ length s
   has-names = omega (arith, laid .heads-inside)
 
   module _ (k : ℕ) (below : k < names s) where

@@ -1,4 +1,4 @@
--- `starting::first_term` meets its contract.
+-- `load_image::first_term` meets its contract.
 use mathlib.Core.Path.{ap}
 use borrow.Author.Needs.{needs}
 use native.Mathlib.Omega.{arith}
@@ -7,17 +7,11 @@ use Rattle.load_image.proofs.Names.{few-bays, first-begins}
 use Rattle.load_image.proofs.first_term.Statement.{statement}
 use Rattle.load_image.proofs.first_term.Tie as tie
 
-bay-count-requires : tie.Need-bay-count-requires
-bay-count-requires c κs = search needs
-
 add-pair-offset : tie.Need-add-pair-offset
 add-pair-offset c = omega (arith, c .bay-count .ensures, few-bays (c .before .before .pre))
 
 pair-offset-requires : tie.Need-pair-offset-requires
 pair-offset-requires c κs = omega (arith, c .bay-count .ensures, few-bays (c .before .before .pre))
-
-table-bytes-requires : tie.Need-table-bytes-requires
-table-bytes-requires c κs = search needs
 
 add-result : tie.Need-add-result
 add-result c =
@@ -31,9 +25,9 @@ pub first-term-spec : {M : Type 1} → statement M
 first-term-spec =
     tie.close
     (tie.spec
-    bay-count-requires
+    (λ c κs. search needs)
     add-pair-offset
     pair-offset-requires
-    table-bytes-requires
+    (λ c κs. search needs)
     add-result
     returns)

@@ -1,10 +1,11 @@
--- `starting::put_settings` meets its contract.
+-- `load_image::put_settings` meets its contract.
 use mathlib.Core.Path.{ap, refl}
 use Prim.Native.Nat.{_-_, _≤_}
 use native.Mathlib.Omega.{arith}
 use Rattle.calculus.specs.Lists.{tabulate}
 use Rattle.calculus.specs.Theory.Tabulate.{tabulate-all}
-use Rattle.buffer.specs.Written.{Wrote, still, same, known-as}
+use Rattle.buffer.specs.Written.{Wrote}
+use Rattle.buffer.specs.Theory.Writes.{still, same, known-as}
 use Rattle.image_layout.specs.Encoded.{expressions}
 use Rattle.image_layout.specs.Theory.Turns.{expression-turn}
 use Rattle.load_image.specs.Starting.{setting}
@@ -27,12 +28,6 @@ put-setting-requires c κs =
     let l = c .before .before .loop in
     omega (arith, l .inv .1 .ends, same (l .inv .1), settings-length (l .k), c .before .before .before .before .pre)
 
-add-k : tie.Need-add-k Inv-loop μ-loop
-add-k c = omega arith
-
-loop-less : tie.Need-loop-less Inv-loop μ-loop
-loop-less c = omega arith
-
 loop-again : tie.Need-loop-again Inv-loop μ-loop
 loop-again c = (omega arith, expression-turn 0 (λ i. setting) (c .before .before .before .before .before .loop .inv .1) (c .before .before .put-setting .ensures))
 
@@ -50,8 +45,8 @@ put-settings-spec =
     μ-loop
     loop-holds
     put-setting-requires
-    add-k
-    loop-less
+    (λ c. omega arith)
+    (λ c. omega arith)
     loop-again
     same-length
     returns)

@@ -1,4 +1,4 @@
--- `deciding::call` meets its contract.
+-- `step_decide::call` meets its contract.
 use Rattle.step_decide.proofs.Needed.{call-head}
 use Rattle.step_decide.proofs.Decisions.{call-follows, call-waits, call-goes, call-refuses-used, call-refuses}
 use borrow.Author.Needs.{needs}
@@ -11,9 +11,6 @@ kind-at-requires c κs = call-head (c .before .pre)
 follow-requires : tie.Need-follow-requires
 follow-requires c κs = call-follows (c .before .before .before .pre) (c .before .kind-at .ensures) (c .if1 .taken)
 
-returns : tie.Need-returns
-returns c = search needs
-
 returns-2 : tie.Need-returns-2
 returns-2 c =
     let k = c .before .before in
@@ -21,12 +18,6 @@ returns-2 c =
 
 companion-at-requires : tie.Need-companion-at-requires
 companion-at-requires c κs = call-head (c .before .before .before .before .before .pre)
-
-cast-future : tie.Need-cast-future
-cast-future c = search needs
-
-move-at-requires : tie.Need-move-at-requires
-move-at-requires c κs = search needs
 
 returns-3 : tie.Need-returns-3
 returns-3 c =
@@ -53,11 +44,11 @@ call-spec =
     (tie.spec
     kind-at-requires
     follow-requires
-    returns
+    (λ c. search needs)
     returns-2
     companion-at-requires
-    cast-future
-    move-at-requires
+    (λ c. search needs)
+    (λ c κs. search needs)
     returns-3
     returns-4
     returns-5)

@@ -1,4 +1,4 @@
--- `deciding::decide` meets its contract.
+-- `step_decide::decide` meets its contract.
 use Prim.Native.Nat.{_+_}
 use Rattle.calculus.specs.Bytes.{Bytes}
 use Rattle.step_decide.proofs.Tags.{tag-inside, tag-name, tag-application, tag-plain}
@@ -29,14 +29,8 @@ cast-call c = omega (arith, c .shared-slice-known3 .given (c .before .before .be
 call-requires : tie.Need-call-requires
 call-requires c κs = let k = c .before .before .before in tag-name (are-bytes k) (k .before .pre) (c .before .if1 .taken) .1
 
-returns : tie.Need-returns
-returns c = search needs
-
 exchange-requires : tie.Need-exchange-requires
 exchange-requires c κs = let k = c .before .before .before in tag-application (are-bytes k) (k .before .pre) (c .if2 .taken)
-
-returns-2 : tie.Need-returns-2
-returns-2 c = search needs
 
 rule-of-requires : tie.Need-rule-of-requires
 rule-of-requires c κs = let k = c .before .before .before in tag-plain (are-bytes k) (k .before .pre) (c .before .if1 .left) (c .if2 .left) .0
@@ -47,9 +41,6 @@ returns-3 c =
     let l = r .before in
     let k = l .before .before .before in
     plain-refuses (tag-plain (are-bytes k) (k .before .pre) (l .before .if1 .left) (l .if2 .left) .1) (r .rule-of .ensures) (c .if3 .taken)
-
-move-at-requires : tie.Need-move-at-requires
-move-at-requires c κs = search needs
 
 returns-4 : tie.Need-returns-4
 returns-4 c =
@@ -68,10 +59,10 @@ decide-spec =
     shared-slice-read-call
     cast-call
     call-requires
-    returns
+    (λ c. search needs)
     exchange-requires
-    returns-2
+    (λ c. search needs)
     rule-of-requires
     returns-3
-    move-at-requires
+    (λ c κs. search needs)
     returns-4)

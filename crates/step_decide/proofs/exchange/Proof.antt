@@ -1,4 +1,4 @@
--- `deciding::exchange` meets its contract.
+-- `step_decide::exchange` meets its contract.
 use Prim.Native.Nat.{_+_}
 use Rattle.step_decide.specs.Decided.{refuses-wrong}
 use Rattle.step_decide.proofs.Tags.{first-inside, first-is-name, first-is-other}
@@ -25,9 +25,6 @@ cast-exchange-name c = omega (arith, c .shared-slice-known3 .given (c .before .b
 exchange-name-requires : tie.Need-exchange-name-requires
 exchange-name-requires c κs = first-is-name (c .before .before .before .before .pre) (c .before .if1 .taken) .1
 
-returns : tie.Need-returns
-returns c = search needs
-
 returns-2 : tie.Need-returns-2
 returns-2 c = refuses-wrong (first-is-other (c .before .before .before .pre) (c .if1 .left))
 
@@ -41,5 +38,5 @@ exchange-spec =
     shared-slice-read-exchange-name
     cast-exchange-name
     exchange-name-requires
-    returns
+    (λ c. search needs)
     returns-2)

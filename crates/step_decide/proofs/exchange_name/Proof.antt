@@ -1,4 +1,4 @@
--- `deciding::exchange_name` meets its contract.
+-- `step_decide::exchange_name` meets its contract.
 use Rattle.step_decide.proofs.Needed.{exchange-head}
 use Rattle.step_decide.proofs.Decisions.{exchange-follows, exchange-waits, exchange-goes, exchange-refuses}
 use borrow.Author.Needs.{needs}
@@ -11,9 +11,6 @@ kind-at-requires c κs = exchange-head (c .before .pre)
 follow-requires : tie.Need-follow-requires
 follow-requires c κs = exchange-follows (c .before .before .before .pre) (c .before .kind-at .ensures) (c .if1 .taken)
 
-returns : tie.Need-returns
-returns c = search needs
-
 returns-2 : tie.Need-returns-2
 returns-2 c =
     let k = c .before .before in
@@ -24,12 +21,6 @@ offset-at-requires c κs = exchange-head (c .before .before .before .before .bef
 
 length-at-requires : tie.Need-length-at-requires
 length-at-requires c κs = exchange-head (c .before .before .before .before .before .before .pre)
-
-add-to : tie.Need-add-to
-add-to c = search needs
-
-move-at-requires : tie.Need-move-at-requires
-move-at-requires c κs = search needs
 
 returns-3 : tie.Need-returns-3
 returns-3 c =
@@ -51,11 +42,11 @@ exchange-name-spec =
     (tie.spec
     kind-at-requires
     follow-requires
-    returns
+    (λ c. search needs)
     returns-2
     offset-at-requires
     length-at-requires
-    add-to
-    move-at-requires
+    (λ c. search needs)
+    (λ c κs. search needs)
     returns-3
     returns-4)

@@ -1,12 +1,9 @@
--- `deciding::follow` meets its contract.
+-- `step_decide::follow` meets its contract.
 use borrow.Author.Tests.{not-true, not-false}
 use Rattle.step_decide.proofs.Decisions.{follow-good, follow-waits, follow-goes}
 use borrow.Author.Needs.{needs}
 use Rattle.step_decide.proofs.follow.Statement.{statement}
 use Rattle.step_decide.proofs.follow.Tie as tie
-
-offset-at-requires : tie.Need-offset-at-requires
-offset-at-requires c κs = search needs
 
 is-value-requires : tie.Need-is-value-requires
 is-value-requires c κs = follow-good (c .before .before .pre) (c .offset-at .ensures .0)
@@ -15,15 +12,6 @@ returns : tie.Need-returns
 returns c =
     let p = c .before .before in
     follow-waits (p .before .before .pre) (p .offset-at .ensures .0) (c .before .is-value .ensures) (not-true _ (c .if1 .taken))
-
-length-at-requires : tie.Need-length-at-requires
-length-at-requires c κs = search needs
-
-add-to : tie.Need-add-to
-add-to c = search needs
-
-move-at-requires : tie.Need-move-at-requires
-move-at-requires c κs = search needs
 
 returns-2 : tie.Need-returns-2
 returns-2 c =
@@ -36,10 +24,10 @@ pub follow-spec : {M : Type 1} → statement M
 follow-spec =
     tie.close
     (tie.spec
-    offset-at-requires
+    (λ c κs. search needs)
     is-value-requires
     returns
-    length-at-requires
-    add-to
-    move-at-requires
+    (λ c κs. search needs)
+    (λ c. search needs)
+    (λ c κs. search needs)
     returns-2)

@@ -1,4 +1,4 @@
--- `deciding::move_at` meets its contract.
+-- `step_decide::move_at` meets its contract.
 use Rattle.step_rules.specs.Meets.{move-of}
 use borrow.Author.Needs.{needs}
 use Rattle.step_decide.proofs.move_at.Statement.{statement}

@@ -1,4 +1,4 @@
--- `reducts::put_argument` meets its contract.
+-- `step_reduct::put_argument` meets its contract.
 use native.Mathlib.Omega.{arith}
 use Rattle.step_rules.specs.Moves.{bytes-between}
 use Rattle.step_reduct.proofs.Redexes.{argument-length}
@@ -9,12 +9,9 @@ use Rattle.step_reduct.proofs.put_argument.Tie as tie
 put-part-requires : tie.Need-put-part-requires
 put-part-requires c κs = let w = c .before .before .before .pre .0 in (w .movable .third, (omega (arith, w .movable .ends, w .movable .inside, w .movable .copied-inside), omega (arith, argument-length w, c .before .before .before .pre .1)))
 
-same-length : tie.Need-same-length
-same-length c = search needs
-
 returns : tie.Need-returns
 unfolding bytes-between
 returns c = c .before .before .put-part .ensures
 
 pub put-argument-spec : {M : Type 1} → statement M
-put-argument-spec = tie.close (tie.spec put-part-requires same-length returns)
+put-argument-spec = tie.close (tie.spec put-part-requires (λ c. search needs) returns)

@@ -1,4 +1,4 @@
--- `reducts::substituted_size` meets its contract.
+-- `step_reduct::substituted_size` meets its contract.
 use mathlib.Core.Path.{sym, _∙_}
 use Prim.Native.Nat.{_-_}
 use native.Mathlib.Omega.{arith}
@@ -8,38 +8,39 @@ use borrow.Author.Needs.{needs}
 use Rattle.step_reduct.proofs.substituted_size.Statement.{statement}
 use Rattle.step_reduct.proofs.substituted_size.Tie as tie
 
-add-body : tie.Need-add-body
-add-body c = search needs
+-- from each place to the one before it
+abbrev before-scan-small : tie.After-scan-small → tie.Start
+before-scan-small c = c .before .before .before
+
+abbrev before-count-uses : tie.After-count-uses → tie.After-scan-small
+before-count-uses c = c .before .before .before .before
 
 scan-small-requires : tie.Need-scan-small-requires
 scan-small-requires c κs = body-good (c .before .before .pre .0) (c .before .before .pre .1) .inside
 
-enum-known-end : tie.Need-enum-known-end
-enum-known-end c = search needs
-
-enum-told : tie.Need-enum-told
-enum-told c = search needs
-
 returns : tie.Need-returns
-returns c = absurd (body-found (c .before .before .before .before .before .pre .0) (c .before .before .before .before .before .pre .1) (sym (c .enum-told .given .1) ∙ c .before .before .scan-small .ensures))
+returns c =
+    let start = c .before .before .before .before .before in
+    absurd (body-found (start .pre .0) (start .pre .1) (sym (c .enum-told .given .1) ∙ c .before .before .scan-small .ensures))
 
 count-uses-requires : tie.Need-count-uses-requires
-count-uses-requires c κs = (body-good (c .before .before .before .before .before .before .pre .0) (c .before .before .before .before .before .before .pre .1), body-few (c .before .before .before .before .before .before .pre .0) (c .before .before .before .before .before .before .pre .1))
+count-uses-requires c κs =
+    let start = before-scan-small (c .before .before .before) in
+    (body-good (start .pre .0) (start .pre .1), body-few (start .pre .0) (start .pre .1))
 
 -- what the scan and the count answered
 abbrev are-bytes : (c : tie.After-count-uses) → Bytes (c .before .before .before .before .before .before .before .args .image .now)
 are-bytes c i = c .before .before .before .before .before .before .shared-slice-known .given i .fits
 
-counted : (c : tie.After-count-uses) → Sized (c .before .before .before .before .before .before .before .pre .0) (c .before .before .before .before .before .before .before .pre .1) (are-bytes c) (c .before .before .end .given .0 .0) (c .count-uses .result)
+counted : (c : tie.After-count-uses) → Sized (before-scan-small (before-count-uses c) .pre .0) (before-scan-small (before-count-uses c) .pre .1) (are-bytes c) (c .before .before .end .given .0 .0) (c .count-uses .result)
 counted c =
-    sized (c .before .before .before .before .before .before .before .pre .0) (c .before .before .before .before .before .before .before .pre .1) (are-bytes c) _ (c .before .before .end .given .0 .1 .0) _
-    (sym (c .before .before .end .given .1) ∙ c .before .before .before .before .scan-small .ensures) (c .count-uses .ensures)
+    let at-scan-small = before-count-uses c in
+    let start = before-scan-small at-scan-small in
+    sized (start .pre .0) (start .pre .1) (are-bytes c) _ (c .before .before .end .given .0 .1 .0) _
+    (sym (c .before .before .end .given .1) ∙ at-scan-small .scan-small .ensures) (c .count-uses .ensures)
 
 sub-result : tie.Need-sub-result
 sub-result c = omega (arith, counted c .onward)
-
-sub-result-2 : tie.Need-sub-result-2
-sub-result-2 c = search needs
 
 mul-result : tie.Need-mul-result
 mul-result c = omega (arith, counted (c .before) .product)
@@ -60,14 +61,14 @@ pub substituted-size-spec : {M : Type 1} → statement M
 substituted-size-spec =
     tie.close
     (tie.spec
-    add-body
+    (λ c. search needs)
     scan-small-requires
-    enum-known-end
-    enum-told
+    (λ c. search needs)
+    (λ c. search needs)
     returns
     count-uses-requires
     sub-result
-    sub-result-2
+    (λ c. search needs)
     mul-result
     add-result
     mul-result-2

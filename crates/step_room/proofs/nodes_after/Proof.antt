@@ -1,23 +1,18 @@
--- `room::nodes_after` meets its contract, by the number that the table has for the rule.
+-- `step_room::nodes_after` meets its contract, by the number that the table has for the rule.
 use mathlib.Core.Path.{ap, _∙_}
 use Prim.Native.Nat.{_+_, _-_}
 use native.Mathlib.Omega.{arith}
 use borrow.Author.Needs.{needs}
+use Rattle.calculus.specs.Reduction.{BETA, THREAD-NEW, FUTURE-DEREF, HANDLE-NEW, HANDLE-BIND, CELL-NEW, CELL-EXCH, number}
 use Rattle.step_rules.specs.Moves.{node-counts}
 use Rattle.step_room.proofs.Tables.{counted-by, counted-still}
 use Rattle.step_room.proofs.nodes_after.Statement.{statement}
 use Rattle.step_room.proofs.nodes_after.Tie as tie
 
-add-nodes-applied : tie.Need-add-nodes-applied
-add-nodes-applied c = search needs
-
 nodes-applied-requires : tie.Need-nodes-applied-requires
 nodes-applied-requires c κs =
     let p = c .before .before .before .pre in
     (p .0 .body (omega arith), (p .0 .argument, p .1))
-
-add-result : tie.Need-add-result
-add-result c = search needs
 
 nodes-at-requires : tie.Need-nodes-at-requires
 nodes-at-requires c κs = c .before .before .pre .0 .value (omega arith) .good
@@ -27,48 +22,33 @@ add-without c =
     let p = c .before .before .before .pre in
     omega (arith, p .1, c .nodes-at .ensures, p .0 .value (omega arith) .few)
 
-without-requires : tie.Need-without-requires
-without-requires c κs = search needs
-
-add-result-2 : tie.Need-add-result-2
-add-result-2 c = search needs
-
-without-requires-2 : tie.Need-without-requires-2
-without-requires-2 c κs = search needs
-
-without-requires-3 : tie.Need-without-requires-3
-without-requires-3 c κs = search needs
-
-without-requires-4 : tie.Need-without-requires-4
-without-requires-4 c κs = search needs
-
 returns : tie.Need-returns
 unfolding node-counts
-returns c = c .nodes-applied .ensures ∙ counted-by _ _ _ 1 (omega arith)
+returns c = c .nodes-applied .ensures ∙ counted-by _ _ _ (number BETA) (omega arith)
 
 returns-2 : tie.Need-returns-2
 unfolding node-counts
-returns-2 c = counted-by _ _ _ 2 (omega arith)
+returns-2 c = counted-by _ _ _ (number THREAD-NEW) (omega arith)
 
 returns-3 : tie.Need-returns-3
 unfolding node-counts
-returns-3 c = c .without .ensures ∙ ap (λ v. c .before .before .before .before .args .count + v - 1) (c .before .nodes-at .ensures) ∙ counted-by _ _ _ 3 (omega arith)
+returns-3 c = c .without .ensures ∙ ap (λ v. c .before .before .before .before .args .count + v - 1) (c .before .nodes-at .ensures) ∙ counted-by _ _ _ (number FUTURE-DEREF) (omega arith)
 
 returns-4 : tie.Need-returns-4
 unfolding node-counts
-returns-4 c = counted-by _ _ _ 4 (omega arith)
+returns-4 c = counted-by _ _ _ (number HANDLE-NEW) (omega arith)
 
 returns-5 : tie.Need-returns-5
 unfolding node-counts
-returns-5 c = c .without2 .ensures ∙ counted-by _ _ _ 5 (omega arith)
+returns-5 c = c .without2 .ensures ∙ counted-by _ _ _ (number HANDLE-BIND) (omega arith)
 
 returns-6 : tie.Need-returns-6
 unfolding node-counts
-returns-6 c = c .without3 .ensures ∙ counted-by _ _ _ 6 (omega arith)
+returns-6 c = c .without3 .ensures ∙ counted-by _ _ _ (number CELL-NEW) (omega arith)
 
 returns-7 : tie.Need-returns-7
 unfolding node-counts
-returns-7 c = c .without4 .ensures ∙ counted-by _ _ _ 7 (omega arith)
+returns-7 c = c .without4 .ensures ∙ counted-by _ _ _ (number CELL-EXCH) (omega arith)
 
 returns-8 : tie.Need-returns-8
 returns-8 c = counted-still _ _ _ (c .match .rest)
@@ -77,16 +57,16 @@ pub nodes-after-spec : {M : Type 1} → statement M
 nodes-after-spec =
     tie.close
     (tie.spec
-    add-nodes-applied
+    (λ c. search needs)
     nodes-applied-requires
-    add-result
+    (λ c. search needs)
     nodes-at-requires
     add-without
-    without-requires
-    add-result-2
-    without-requires-2
-    without-requires-3
-    without-requires-4
+    (λ c κs. search needs)
+    (λ c. search needs)
+    (λ c κs. search needs)
+    (λ c κs. search needs)
+    (λ c κs. search needs)
     returns
     returns-2
     returns-3

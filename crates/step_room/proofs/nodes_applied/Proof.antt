@@ -1,4 +1,4 @@
--- `room::nodes_applied` meets its contract.
+-- `step_room::nodes_applied` meets its contract.
 use mathlib.Core.Path.{ap₂, _∙_}
 use Prim.Native.Nat.{ℕ, _*_, _+_, _-_, _≤_}
 use native.Mathlib.Omega.{arith}
@@ -26,12 +26,6 @@ few c =
 few-places : (c : AtCounts) → places c * size c ≤ max-nodes * max-nodes
 few-places c = few-copied (places c) (size c) (few c .0) (few c .1)
 
-count-uses-requires : tie.Need-count-uses-requires
-count-uses-requires c κs = search needs
-
-nodes-at-requires : tie.Need-nodes-at-requires
-nodes-at-requires c κs = search needs
-
 mul-without : tie.Need-mul-without
 mul-without c = omega (arith, few-places c)
 
@@ -44,9 +38,6 @@ add-without-2 c = omega (arith, few c)
 add-without-3 : tie.Need-add-without-3
 add-without-3 c = omega (arith, few c)
 
-without-requires : tie.Need-without-requires
-without-requires c κs = search needs
-
 returns : tie.Need-returns
 returns c =
     let p = c .before in
@@ -57,11 +48,11 @@ pub nodes-applied-spec : {M : Type 1} → statement M
 nodes-applied-spec =
     tie.close
     (tie.spec
-    count-uses-requires
-    nodes-at-requires
+    (λ c κs. search needs)
+    (λ c κs. search needs)
     mul-without
     add-without
     add-without-2
     add-without-3
-    without-requires
+    (λ c κs. search needs)
     returns)

@@ -1,18 +1,9 @@
--- `room::nodes_at` meets its contract.
+-- `step_room::nodes_at` meets its contract.
 use mathlib.Core.Path.{sym, _∙_}
 use borrow.Author.Needs.{needs}
 use Rattle.step_room.proofs.Scanned.{not-refused, scanned-nodes}
 use Rattle.step_room.proofs.nodes_at.Statement.{statement}
 use Rattle.step_room.proofs.nodes_at.Tie as tie
-
-scan-requires : tie.Need-scan-requires
-scan-requires c κs = search needs
-
-enum-known-found : tie.Need-enum-known-found
-enum-known-found c = search needs
-
-enum-told : tie.Need-enum-told
-enum-told c = search needs
 
 returns : tie.Need-returns
 returns c = absurd (not-refused (c .before .before .before .before .pre) (sym (c .enum-told .given .1) ∙ c .before .before .scan .ensures))
@@ -21,4 +12,4 @@ returns-2 : tie.Need-returns-2
 returns-2 c = scanned-nodes (c .before .before .before .before .before .pre) (sym (c .before .found .given .1) ∙ c .before .before .before .scan .ensures)
 
 pub nodes-at-spec : {M : Type 1} → statement M
-nodes-at-spec = tie.close (tie.spec scan-requires enum-known-found enum-told returns returns-2)
+nodes-at-spec = tie.close (tie.spec (λ c κs. search needs) (λ c. search needs) (λ c. search needs) returns returns-2)

@@ -14,7 +14,7 @@ use Rattle.term.specs.Expressions.{bytes, const-bytes, exp-of, leaf-exp, leaf-f
 use Rattle.image_layout.specs.Encoded.{expressions, head, heads, image-bytes}
 use Rattle.image_layout.specs.Slice.{companion-at, encoded-at, expression-at, kind-at, length-at, names, offset-at}
 use Rattle.step_rules.specs.declared.Move.{Move}
-use Rattle.step_rules.specs.Moves.{component-after, bytes-between, components-after, expression-after, image-after, names-after, news, node-counts, nodes-after, other-after, others, redex-after, redexes}
+use Rattle.step_rules.specs.Moves.{component-after, bytes-between, components-after, expression-after, image-after, names-after, new-names, node-counts, nodes-after, other-after, others, redex-after, redexes}
 
 -- an image and its nodes, a move, and the image and its nodes after it
 record Row : Type 0 where
@@ -104,5 +104,5 @@ Hold [] = Unit {0}
 Hold (r ∷ rs) = ((image-after (r .before) (r .move) ≡ r .next) × (nodes-after (r .nodes-before) (r .before) (r .move) ≡ r .nodes-next)) × Hold rs
 
 pub cases : Hold rows
-unfolding image-after components-after component-after other-after others expression-after redex-after redexes bytes-between names-after news nodes-after node-counts tabulate image-bytes heads head expressions two-bytes word names kind-at companion-at offset-at length-at expression-at encoded-at bytes const-bytes substitute uses nodes term-at exp-of leaf-exp leaf-forms tree-at first-tree read-term read node-of form-of forms value-of
+unfolding image-after components-after component-after other-after others expression-after redex-after redexes bytes-between names-after new-names nodes-after node-counts tabulate image-bytes heads head expressions two-bytes word names kind-at companion-at offset-at length-at expression-at encoded-at bytes const-bytes substitute uses nodes term-at exp-of leaf-exp leaf-forms tree-at first-tree read-term read node-of form-of forms value-of
 cases = ((refl, refl), ((refl, refl), ((refl, refl), ((refl, refl), ((refl, refl), ((refl, refl), ((refl, refl), ((refl, refl), ((refl, refl), tt)))))))))

@@ -16,7 +16,8 @@ use Rattle.calculus.specs.Theory.ImageTest.{image-test-iff}
 use Rattle.term.specs.Expressions.{bytes, FitsBytes, TermAt}
 use Rattle.term.proofs.Sizes.{length-bytes}
 use Rattle.image_layout.specs.Encoded.{Encoded}
-use Rattle.image_layout.specs.Slice.{names, offset-at, length-at, expression-at, encoded-at, length-encoded, encoded-there, encoded-expression}
+use Rattle.image_layout.specs.Slice.{names, offset-at, length-at, expression-at, encoded-at}
+use Rattle.image_layout.specs.Theory.Slice.{length-encoded, encoded-there, encoded-expression}
 use Rattle.image_layout.specs.Layout.{heads-stand}
 use Rattle.image_layout.specs.Theory.Reading.{has-expression, expression-length}
 use Rattle.image.specs.Configuration.{encode, config-of}

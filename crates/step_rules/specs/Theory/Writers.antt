@@ -5,7 +5,7 @@ use Prim.Native.Nat.{ℕ, _+_, _≤_, _<_}
 use native.Mathlib.Omega.{arith}
 use lib.ListN.{length}
 use Rattle.calculus.specs.Syntax.{Const, unit, num, op, Exp, var, name, const, lam, app, Value, at}
-use Rattle.calculus.specs.Reduction.{Context, plug}
+use Rattle.calculus.specs.Reduction.{Context, plug, BETA, FUTURE-DEREF, number}
 use Rattle.calculus.specs.Image.{const-size, nodes, nodes-all, size, sum-in}
 use Rattle.calculus.specs.Limits.{max-nodes}
 use Rattle.term.specs.Expressions.{TermAt}
@@ -14,6 +14,7 @@ use Rattle.image_layout.specs.Slice.{names}
 use Rattle.image.specs.Configuration.{config-of}
 use Rattle.term_redex.specs.declared.Meeting.{Meeting}
 use Rattle.term_redex.proofs.Contexts.{plug-nodes}
+use Rattle.step_rules.specs.Positions.{to-body}
 use Rattle.step_rules.specs.Stepped.{Counted, Movable}
 use Rattle.step_rules.specs.Meets.{move-of, MeetsAt}
 use Rattle.step_rules.specs.Theory.Reading.{rules, below, thread-stands}
@@ -47,7 +48,7 @@ module _ {s : List ℕ} {x : ℕ} {m : Meeting} {F : Context} {f : Exp} {w : Val
   few = omega (arith, nodes-part (config-of s) x (M .thread), plug-nodes F (app f v), few-all)
 
   pub movable : (rule named from to future : ℕ) → named < names s → future < names s → from ≤ to → to ≤ length s
-      → (rule ≡ 1 → Counted s (m .at + 3)) → (rule ≡ 3 → Counted s from) → Movable s (move-of rule x m named from to future)
+      → (rule ≡ number BETA → Counted s (m .at + to-body)) → (rule ≡ number FUTURE-DEREF → Counted s from) → Movable s (move-of rule x m named from to future)
   unfolding move-of nodes
   movable rule named from to future nb fb copied inside body value =
       let p = M .placed in

@@ -4,24 +4,16 @@ use Rattle.step_thread.proofs.Answers.{by-kind, no-such}
 use Rattle.image_layout.specs.Theory.Reading.{has-head, has-names}
 use Rattle.image_check.specs.Theory.Whole.{whole-sound}
 use Rattle.step_thread.proofs.is_thread.Tie as tie
-use Rattle.step_thread.proofs.is_thread.Reads as reads
-use Rattle.step_thread.proofs.is_thread.Lts as lts
-use Rattle.image_layout.proofs.kind_at.Reads as kind-at-reads
-use Rattle.image_layout.proofs.names_of.Reads as names-of-reads
 
--- src/lib.rt:23:8
 names-of-requires : tie.Need-names-of-requires
 names-of-requires c κs = omega (arith, has-names _ (whole-sound _ (c .before .pre) .heads))
 
--- src/lib.rt:24:9
 returns : tie.Need-returns
 returns c = let a = c .before .before .before .args in no-such (a .image .now) (a .thread) (omega (arith, c .before .names-of .ensures .0, c .if1 .taken))
 
--- src/lib.rt:26:5
 kind-at-requires : tie.Need-kind-at-requires
 kind-at-requires c κs = let a = c .before .before .before .args in has-head _ (whole-sound _ (c .before .before .before .pre) .heads) (a .thread) (omega (arith, c .before .names-of .ensures .0, c .if1 .left))
 
--- src/lib.rt:19:1
 returns-2 : tie.Need-returns-2
 returns-2 c = let a = c .before .before .before .before .args in by-kind (a .image .now) (a .thread) (omega (arith, c .before .before .names-of .ensures .0, c .before .if1 .left)) _ (c .kind-at .ensures)
 

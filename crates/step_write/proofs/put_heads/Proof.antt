@@ -1,92 +1,56 @@
--- `putting::put_heads` meets its contract.
-use mathlib.Core.Path.{ap, _≡_}
-use mathlib.Core.List.{List}
-use Prim.Native.Nat.{_-_, _+_, _≤_, _<_, ℕ}
+-- `step_write::put_heads` meets its contract.
+use mathlib.Core.Path.{refl}
+use Prim.Native.Nat.{_-_, _<_}
 use native.Mathlib.Omega.{arith}
-use lib.ListN.{length}
 use Rattle.calculus.specs.Bytes.{two-byte-values}
-use Rattle.calculus.specs.Lists.{tabulate}
-use Rattle.calculus.specs.Theory.Tabulate.{tabulate-all}
-use Rattle.buffer.specs.Written.{Wrote, still, same, known-as}
-use Rattle.image_layout.specs.Encoded.{heads, head-offset}
-use Rattle.image_layout.specs.Theory.Components.{so-far, so-far-none}
-use Rattle.image_layout.specs.Theory.Turns.{head-turn, offset-turn, small-head, room-head, room-names}
+use Rattle.buffer.specs.Theory.Writes.{same}
+use Rattle.image_layout.specs.Theory.Turns.{HeadsTo, heads-start, heads-turn, heads-all, room-head, room-names}
 use Rattle.step_rules.specs.Moves.{component-after, names-after}
 use Rattle.step_write.proofs.put_heads.Statement.{statement}
 use Rattle.step_write.proofs.put_heads.Tie as tie
 
 abbrev Inv-loop : tie.InvT-loop
-Inv-loop out₀ at image step names next₀ offset₀ k₀ out next offset k =
-    (k ≤ names)
-    × ((offset ≡ head-offset (names-after image step) + so-far (component-after image step) k)
-    × Wrote out₀ at (heads (head-offset (names-after image step)) (tabulate k (component-after image step))) out next)
+Inv-loop out₀ at image step names next₀ k₀ out next k = HeadsTo (names-after image step) (component-after image step) out₀ at k out next
 
 abbrev μ-loop : tie.MeasureT-loop
-μ-loop out₀ at image step names next₀ offset₀ k₀ out next offset k = names - k
+μ-loop out₀ at image step names next₀ k₀ out next k = names - k
 
-few : (c : tie.After-shared-slice-known Inv-loop μ-loop) → c .before .before .args .names < two-byte-values
-few c = let m = names-after (c .before .before .args .image .now) (c .before .before .args .step) in omega (arith, room-names m (component-after (c .before .before .args .image .now) (c .before .before .args .step)) (c .before .before .pre .1) .1, c .before .before .pre .0 .1 .0)
-
-mul-offset : tie.Need-mul-offset Inv-loop μ-loop
-mul-offset c = omega (arith, few c)
-
-add-offset : tie.Need-add-offset Inv-loop μ-loop
-add-offset c = omega (arith, few c)
+few : (c : tie.Start Inv-loop μ-loop) → c .args .names < two-byte-values
+few c = omega (arith, room-names _ _ (c .pre .1) .1, c .pre .0 .1 .0)
 
 loop-holds : tie.Need-loop-holds Inv-loop μ-loop
-unfolding tabulate heads
-loop-holds c = (omega arith, (omega (arith, c .before .before .pre .0 .1 .0, so-far-none (component-after (c .before .before .args .image .now) (c .before .before .args .step))), still))
+loop-holds c = let b = c .before .before in heads-start _ _ (b .pre .0 .1 .1) refl (omega (arith, b .pre .0 .1 .0))
 
+-- the test of the loop, and what was known before it
 abbrev InLoop : Type 0
 InLoop = tie.In-loop Inv-loop μ-loop
 
--- of the image before and the move
-abbrev bytes-of : InLoop → List ℕ
-bytes-of t = t .before .before .before .before .args .image .now
+abbrev start : InLoop → tie.Start Inv-loop μ-loop
+start t = t .before .before .before .before
 
-below : (t : InLoop) → t .before .loop .k < names-after (bytes-of t) (t .before .before .before .before .args .step)
-below t = omega (arith, t .loop-test .taken, t .before .before .before .before .pre .0 .1 .0)
-
-small : (t : InLoop) → (head-offset (names-after (bytes-of t) (t .before .before .before .before .args .step)) + so-far (component-after (bytes-of t) (t .before .before .before .before .args .step)) (t .before .loop .k) < two-byte-values) × (length (component-after (bytes-of t) (t .before .before .before .before .args .step) (t .before .loop .k) .expression) < two-byte-values)
-small t = small-head (names-after (bytes-of t) (t .before .before .before .before .args .step)) (component-after (bytes-of t) (t .before .before .before .before .args .step)) (t .before .before .before .before .pre .1) (below t)
+below : (t : InLoop) → t .before .loop .k < names-after (start t .args .image .now) (start t .args .step)
+below t = omega (arith, t .loop-test .taken, start t .pre .0 .1 .0)
 
 head-after-requires : tie.Need-head-after-requires Inv-loop μ-loop
-head-after-requires c κs = (c .before .before .before .before .pre .0 .0, below c)
+head-after-requires c κs = let t = c .before in (start t .pre .0 .0, below t)
 
 put-head-requires : tie.Need-put-head-requires Inv-loop μ-loop
-put-head-requires c κs =
-    let t = c .before .before in
-    let l = t .before .loop in
-    (room-head (names-after (bytes-of t) (t .before .before .before .before .args .step)) (component-after (bytes-of t) (t .before .before .before .before .args .step)) (t .before .before .before .before .pre .1) (below t) (t .before .before .before .before .pre .0 .1 .1) (l .inv .1 .1), (omega (arith, small t .0, l .inv .1 .0), omega (arith, small t .1, c .before .head-after .ensures .1 .1)))
-
-add-offset-2 : tie.Need-add-offset-2 Inv-loop μ-loop
-add-offset-2 c = let t = c .before .before .before .before .before .before in omega (arith, small t, t .before .loop .inv .1 .0, c .before .before .before .before .before .head-after .ensures .1 .1)
+put-head-requires c κs = let t = c .before .before in room-head _ _ (t .before .loop .inv) (below t) (c .head-after .ensures) (start t .pre .1)
 
 add-k : tie.Need-add-k Inv-loop μ-loop
-add-k c = let t = c .before .before .before .before .before .before in omega (arith, t .loop-test .taken, few (t .before .before))
-
-loop-less : tie.Need-loop-less Inv-loop μ-loop
-loop-less c = omega arith
+add-k c = let t = c .before .before .before .before .before in omega (arith, t .loop-test .taken, few (start t))
 
 loop-again : tie.Need-loop-again Inv-loop μ-loop
 loop-again c =
-    let t = c .before .before .before .before .before .before in
-    let l = t .before .loop in
-    let h = c .before .before .before .before .before .head-after .ensures in (
-      omega arith,
-      (
-        offset-turn (names-after (bytes-of t) (t .before .before .before .before .args .step)) (component-after (bytes-of t) (t .before .before .before .before .args .step)) (l .k) _ _ (l .inv .1 .0) (h .1 .1),
-        head-turn (names-after (bytes-of t) (t .before .before .before .before .args .step)) (component-after (bytes-of t) (t .before .before .before .before .args .step)) (h .0) (h .1 .0) (l .inv .1 .0) (h .1 .1) (l .inv .1 .1) (c .before .before .before .put-head .ensures),
-      ),
-    )
+    let h = c .before .before .before in
+    let t = h .before .before in
+    heads-turn _ _ (t .before .loop .inv) (below t) (h .head-after .ensures) (c .before .before .put-head .ensures .0) (c .before .before .put-head .ensures .1)
 
 same-length : tie.Need-same-length Inv-loop μ-loop
-same-length c = same (c .before .loop .inv .1 .1)
+same-length c = same (c .before .loop .inv .wrote)
 
 returns : tie.Need-returns Inv-loop μ-loop
-returns c =
-    let l = c .before .loop in
-    known-as (l .inv .1 .1) (ap (heads _) (tabulate-all _ _ _ _ (l .inv .0) (c .loop-test .left) (c .before .before .before .before .pre .0 .1 .0)))
+returns c = heads-all _ _ (c .before .loop .inv) (c .loop-test .left) (c .before .before .before .before .pre .0 .1 .0)
 
 pub put-heads-spec : {M : Type 1} → statement M
 put-heads-spec =
@@ -94,14 +58,13 @@ put-heads-spec =
     (tie.spec
     Inv-loop
     μ-loop
-    mul-offset
-    add-offset
+    (λ c. omega (arith, few (c .before .before)))
+    (λ c. omega (arith, few (c .before .before)))
     loop-holds
     head-after-requires
     put-head-requires
-    add-offset-2
     add-k
-    loop-less
+    (λ c. omega arith)
     loop-again
     same-length
     returns)

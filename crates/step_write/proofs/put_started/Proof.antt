@@ -1,47 +1,56 @@
--- `putting::put_started` meets its contract.
+-- `step_write::put_started` meets its contract.
 use mathlib.Core.Path.{ap}
 use native.Mathlib.Omega.{arith}
-use Rattle.buffer.specs.Written.{same, then, known-as}
+use Rattle.buffer.specs.Theory.Writes.{same, then, known-as}
 use Rattle.step_rules.specs.Moves.{name-bytes}
-use Rattle.image_layout.specs.Slice.{names}
 use Rattle.step_write.proofs.Components.{started-length}
 use Rattle.step_reduct.proofs.Redexes.{argument-length}
 use borrow.Author.Needs.{needs}
 use Rattle.step_write.proofs.put_started.Statement.{statement}
 use Rattle.step_write.proofs.put_started.Tie as tie
 
-put-byte-requires : tie.Need-put-byte-requires
-put-byte-requires c κs = search needs
+-- from each place to the one before it
+abbrev before-put-byte : tie.After-put-byte → tie.Start
+before-put-byte c = c .before .before .before .before
+
+abbrev before-put-argument : tie.After-put-argument → tie.After-put-byte
+before-put-argument c = c .before .before .before .before
+
+abbrev before-names-of : tie.After-names-of → tie.After-put-argument
+before-names-of c = c .before .before .before .before
 
 put-argument-requires : tie.Need-put-argument-requires
 put-argument-requires c κs =
-    let w = c .before .before .before .before .before .before .before .pre .0 .0 in
-    let u = c .before .before .before .put-byte .ensures in
-    (w, omega (arith, started-length w (names (c .before .before .before .before .before .before .before .args .image .now)), argument-length w, u .ends, same u, c .before .before .before .before .before .before .before .pre .1))
-
-names-of-requires : tie.Need-names-of-requires
-names-of-requires c κs = search needs
+    let at-put-byte = c .before .before .before in
+    let start = before-put-byte at-put-byte in
+    let w = start .pre .0 .0 in
+    let u = at-put-byte .put-byte .ensures in
+    (w, omega (arith, started-length w, argument-length w, u .ends, same u, start .pre .1))
 
 put-name-requires : tie.Need-put-name-requires
 put-name-requires c κs =
-    let w = c .before .before .before .before .before .before .before .before .before .before .before .before .pre .0 .0 in
-    let u = c .before .before .before .before .before .before .before .before .put-byte .ensures in
-    let v = c .before .before .before .before .put-argument .ensures in
-    (omega (arith, c .names-of .ensures .0, c .before .before .before .before .before .before .before .before .before .before .before .before .pre .0 .1), omega (arith, started-length w (names (c .before .before .before .before .before .before .before .before .before .before .before .before .args .image .now)), argument-length w, u .ends, same u, v .ends, same v, c .before .before .before .before .before .before .before .before .before .before .before .before .pre .1))
-
-same-length : tie.Need-same-length
-same-length c = search needs
+    let at-put-argument = before-names-of c in
+    let at-put-byte = before-put-argument at-put-argument in
+    let start = before-put-byte at-put-byte in
+    let w = start .pre .0 .0 in
+    let u = at-put-byte .put-byte .ensures in
+    let v = at-put-argument .put-argument .ensures in
+    (omega (arith, c .names-of .ensures .0, start .pre .0 .1), omega (arith, started-length w, argument-length w, u .ends, same u, v .ends, same v, start .pre .1))
 
 returns : tie.Need-returns
-returns c = then (then (c .before .before .before .before .before .before .before .before .before .before .before .put-byte .ensures) (c .before .before .before .before .before .before .before .put-argument .ensures)) (known-as (c .before .before .put-name .ensures) (ap name-bytes (c .before .before .before .names-of .ensures .0)))
+returns c =
+    let at-names-of = c .before .before .before in
+    let at-put-argument = before-names-of at-names-of in
+    let at-put-byte = before-put-argument at-put-argument in
+    then (then (at-put-byte .put-byte .ensures) (at-put-argument .put-argument .ensures)) (known-as (c .before .before .put-name .ensures) (ap name-bytes (at-names-of .names-of .ensures .0)))
 
 pub put-started-spec : {M : Type 1} → statement M
 put-started-spec =
     tie.close
     (tie.spec
-    put-byte-requires
+    (λ c κs. search needs)
     put-argument-requires
-    names-of-requires
+    (λ c κs. search needs)
     put-name-requires
-    same-length
+    (λ c. search needs)
     returns)

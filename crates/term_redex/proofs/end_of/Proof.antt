@@ -1,4 +1,4 @@
--- `places::end_of` meets its contract. The loop's invariant: the end is past the terms still to come (proofs/Ends.antt).
+-- `term_redex::end_of` meets its contract. The loop's invariant: the end is past the terms still to come (proofs/Ends.antt).
 use mathlib.Core.Path.{_≡_}
 use Prim.Native.Nat.{_+_, _-_}
 use native.Mathlib.Omega.{arith}
@@ -39,9 +39,6 @@ known-node-requires c κs = pending-good (c .before .loop .inv) (c .loop-test .t
 add-here : tie.Need-add-here Inv-loop μ-loop
 add-here c = omega (arith, more c .inside)
 
-sub-pending : tie.Need-sub-pending Inv-loop μ-loop
-sub-pending c = search needs
-
 cast-pending : tie.Need-cast-pending Inv-loop μ-loop
 cast-pending c = omega (arith, node c .few)
 
@@ -66,7 +63,7 @@ end-of-spec =
     loop-holds
     known-node-requires
     add-here
-    sub-pending
+    (λ c. search needs)
     cast-pending
     add-pending
     loop-less

@@ -1,4 +1,4 @@
--- `places::find_place` meets its contract. The loop's invariant: the application here is no value, and has the place that is looked for
+-- `term_redex::find_place` meets its contract. The loop's invariant: the application here is no value, and has the place that is looked for
 -- (proofs/Search.antt).
 use mathlib.Core.Path.{_≡_, sym, _∙_}
 use mathlib.Core.Bool.{false}

@@ -1,15 +1,12 @@
--- `places::is_application` meets its contract: an application is the node with two subterms.
+-- `term_redex::is_application` meets its contract: an application is the node with two subterms.
 use mathlib.Core.Path.{sym}
 use borrow.Author.Needs.{needs}
 use Rattle.term_redex.proofs.Nodes.{application-node}
 use Rattle.term_redex.proofs.is_application.Statement.{statement}
 use Rattle.term_redex.proofs.is_application.Tie as tie
 
-known-node-requires : tie.Need-known-node-requires
-known-node-requires c κs = search needs
-
 returns : tie.Need-returns
 returns c = sym (application-node (c .before .known-node .ensures) (c .before .before .before .pre))
 
 pub is-application-spec : {M : Type 1} → statement M
-is-application-spec = tie.close (tie.spec known-node-requires returns)
+is-application-spec = tie.close (tie.spec (λ c κs. search needs) returns)

@@ -1,4 +1,4 @@
--- `places::is_exchange` meets its contract: the function of an application stands one byte on.
+-- `term_redex::is_exchange` meets its contract: the function of an application stands one byte on.
 use mathlib.Core.Path.{_≡_, sym, _∙_}
 use mathlib.Core.Bool.{true}
 use borrow.Author.Needs.{needs}
@@ -14,14 +14,8 @@ use Rattle.term_redex.proofs.is_exchange.Tie as tie
 is-one : (c : tie.Else1) → is-application (term-at (c .before .before .before .args .s .now) (c .before .before .before .args .at)) ≡ true
 is-one c = sym (c .before .is-application .ensures) ∙ not-false _ (c .if1 .left)
 
-is-application-requires : tie.Need-is-application-requires
-is-application-requires c κs = search needs
-
 returns : tie.Need-returns
 returns c = sym (no-exchange _ (sym (c .before .is-application .ensures) ∙ not-true _ (c .if1 .taken)))
-
-add-known-node : tie.Need-add-known-node
-add-known-node c = search needs
 
 known-node-requires : tie.Need-known-node-requires
 known-node-requires c κs = application-at (λ i. c .before .before .shared-slice-known .given i .fits) (c .before .before .before .pre) (is-one c) .function
@@ -33,4 +27,4 @@ returns-2 c =
 
 pub is-exchange-spec : {M : Type 1} → statement M
 is-exchange-spec =
-    tie.close (tie.spec is-application-requires returns add-known-node known-node-requires returns-2)
+    tie.close (tie.spec (λ c κs. search needs) returns (λ c. search needs) known-node-requires returns-2)

@@ -1,12 +1,9 @@
--- `places::is_value` meets its contract, by what exch is applied to.
+-- `term_redex::is_value` meets its contract, by what exch is applied to.
 use mathlib.Core.Path.{sym, _∙_}
 use borrow.Author.Needs.{needs}
 use Rattle.term_redex.proofs.Exchanges.{value-node, value-not}
 use Rattle.term_redex.proofs.is_value.Statement.{statement}
 use Rattle.term_redex.proofs.is_value.Tie as tie
-
-past-exchanges-requires : tie.Need-past-exchanges-requires
-past-exchanges-requires c κs = search needs
 
 is-application-requires : tie.Need-is-application-requires
 is-application-requires c κs = c .past-exchanges .ensures .0 .good
@@ -25,4 +22,4 @@ returns-2 c =
     value-node (t .before .before .past-exchanges .ensures .0) (sym (t .before .is-application .ensures) ∙ t .if1 .left) (c .before .known-node .ensures)
 
 pub is-value-spec : {M : Type 1} → statement M
-is-value-spec = tie.close (tie.spec past-exchanges-requires is-application-requires returns known-node-requires returns-2)
+is-value-spec = tie.close (tie.spec (λ c κs. search needs) is-application-requires returns known-node-requires returns-2)

@@ -1,4 +1,4 @@
--- `places::past_exchanges` meets its contract. The loop's invariant: so far exch was applied to what stands here.
+-- `term_redex::past_exchanges` meets its contract. The loop's invariant: so far exch was applied to what stands here.
 use mathlib.Core.Path.{sym, _∙_}
 use Prim.Native.Nat.{_+_, _-_}
 use native.Mathlib.Omega.{arith}

@@ -1,4 +1,4 @@
--- `substitution::count_uses` meets its contract. The loop's invariant: the places found and those in the terms still to be read are all. The measure: a
+-- `term_subst::count_uses` meets its contract. The loop's invariant: the places found and those in the terms still to be read are all. The measure: a
 -- node takes a byte, and adds at most one lambda.
 use mathlib.Core.Path.{_≡_, refl, sym, _∙_}
 use mathlib.Core.List.{List}
@@ -51,29 +51,14 @@ loop-holds c = let p = c .before .pre in counting-start _ (p .0) (p .1) refl
 returns : tie.Need-returns Inv-loop μ-loop
 returns c = counting-done (c .before .before .loop .inv) (c .before .if1 .taken) (c .if2 .taken)
 
-sub-lambdas : tie.Need-sub-lambdas Inv-loop μ-loop
-sub-lambdas c = search needs
-
-mul-pending : tie.Need-mul-pending Inv-loop μ-loop
-mul-pending c = search needs
-
 array-read-pending : tie.Need-array-read-pending Inv-loop μ-loop
 array-read-pending c = omega (arith, walked-low (c .before .before .loop .inv .walked))
-
-loop-less : tie.Need-loop-less Inv-loop μ-loop
-loop-less c = omega arith
 
 loop-again : tie.Need-loop-again Inv-loop μ-loop
 loop-again c = counting-pop (c .before .before .loop .inv) (c .before .if1 .taken) (c .if2 .left)
 
 node-at-requires : tie.Need-node-at-requires Inv-loop μ-loop
 node-at-requires c κs = walked-good (c .before .loop .inv .walked) (c .if1 .left) .inside
-
-enum-known-node : tie.Need-enum-known-node Inv-loop μ-loop
-enum-known-node c = search needs
-
-enum-told : tie.Need-enum-told Inv-loop μ-loop
-enum-told c = search needs
 
 returns-2 : tie.Need-returns-2 Inv-loop μ-loop
 returns-2 c =
@@ -83,9 +68,6 @@ returns-2 c =
 
 add-here : tie.Need-add-here Inv-loop μ-loop
 add-here c = omega (arith, inside c .0)
-
-uses-of-requires : tie.Need-uses-of-requires Inv-loop μ-loop
-uses-of-requires c κs = search needs
 
 add-found : tie.Need-add-found Inv-loop μ-loop
 add-found c =
@@ -107,9 +89,6 @@ loop-again-2 c =
 
 sub-outer : tie.Need-sub-outer Inv-loop μ-loop
 sub-outer c = omega (arith, some (c .before .before))
-
-mul-outer : tie.Need-mul-outer Inv-loop μ-loop
-mul-outer c = search needs
 
 deep : (n : AtNode) → head n .subterms ≡ 1 → loop n .loop .lambdas < 4096
 deep n m = walked-deep (loop n .loop .inv .walked) (some n) (is-head n) m
@@ -151,23 +130,23 @@ count-uses-spec =
     μ-loop
     loop-holds
     returns
-    sub-lambdas
-    mul-pending
+    (λ c. search needs)
+    (λ c. search needs)
     array-read-pending
-    loop-less
+    (λ c. omega arith)
     loop-again
     node-at-requires
-    enum-known-node
-    enum-told
+    (λ c. search needs)
+    (λ c. search needs)
     returns-2
     add-here
-    uses-of-requires
+    (λ c κs. search needs)
     add-found
     sub-pending
     loop-less-2
     loop-again-2
     sub-outer
-    mul-outer
+    (λ c. search needs)
     array-write-outer
     add-lambdas
     loop-less-3

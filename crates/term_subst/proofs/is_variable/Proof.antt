@@ -1,4 +1,4 @@
--- `substitution::is_variable` meets its contract, by the test of the tag.
+-- `term_subst::is_variable` meets its contract, by the test of the tag.
 use mathlib.Core.Path.{sym}
 use Rattle.term_subst.proofs.Leaves.{is-variable-other, is-variable-same}
 use Rattle.term_subst.proofs.is_variable.Statement.{statement}

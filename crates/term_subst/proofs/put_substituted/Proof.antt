@@ -1,4 +1,4 @@
--- `substitution::put_substituted` meets its contract. The loop's invariant: what is written, and then the terms still to be read with the value for the
+-- `term_subst::put_substituted` meets its contract. The loop's invariant: what is written, and then the terms still to be read with the value for the
 -- variable, is the outcome. The measure: a node takes a byte, and adds at most one lambda.
 use mathlib.Core.Path.{_≡_, refl, sym, _∙_}
 use mathlib.Core.Bool.{false}
@@ -12,7 +12,7 @@ use Rattle.term.specs.declared.Front.the-variants.{Is}
 use Rattle.term.specs.declared.Node.{Node}
 use Rattle.term.specs.Reader.{node-at}
 use Rattle.term.specs.Expressions.{leaf-exp}
-use Rattle.buffer.specs.Written.{same}
+use Rattle.buffer.specs.Theory.Writes.{same}
 use Rattle.term_subst.specs.Variable.{is-variable}
 use Rattle.term_subst.proofs.Walked.{walked-deep, walked-good, walked-in, walked-low, walked-not-bad, walked-pending, walked-two-subterms}
 use Rattle.term_subst.proofs.Putting.{Putting, putting-done, putting-head-asks, putting-leaf, putting-one, putting-pop, putting-start, putting-two, putting-value, putting-value-asks}
@@ -77,29 +77,14 @@ same-length c = same (c .before .before .loop .inv .wrote)
 returns : tie.Need-returns Inv-loop μ-loop
 returns c = putting-done (c .before .before .loop .inv) (c .before .if1 .taken) (c .if2 .taken)
 
-sub-lambdas : tie.Need-sub-lambdas Inv-loop μ-loop
-sub-lambdas c = search needs
-
-mul-pending : tie.Need-mul-pending Inv-loop μ-loop
-mul-pending c = search needs
-
 array-read-pending : tie.Need-array-read-pending Inv-loop μ-loop
 array-read-pending c = omega (arith, walked-low (c .before .before .loop .inv .walked))
-
-loop-less : tie.Need-loop-less Inv-loop μ-loop
-loop-less c = omega arith
 
 loop-again : tie.Need-loop-again Inv-loop μ-loop
 loop-again c = putting-pop (c .before .before .loop .inv) (c .before .if1 .taken) (c .if2 .left)
 
 node-at-requires : tie.Need-node-at-requires Inv-loop μ-loop
 node-at-requires c κs = walked-good (c .before .loop .inv .walked) (c .if1 .left) .inside
-
-enum-known-node : tie.Need-enum-known-node Inv-loop μ-loop
-enum-known-node c = search needs
-
-enum-told : tie.Need-enum-told Inv-loop μ-loop
-enum-told c = search needs
 
 not-bad : (c : tie.After-enum-told Inv-loop μ-loop) → ⊥
 not-bad c =
@@ -114,9 +99,6 @@ returns-2 c = absurd (not-bad c)
 
 add-past : tie.Need-add-past Inv-loop μ-loop
 add-past c = omega (arith, inside c .0)
-
-is-variable-requires : tie.Need-is-variable-requires Inv-loop μ-loop
-is-variable-requires c κs = search needs
 
 put-part-requires : tie.Need-put-part-requires Inv-loop μ-loop
 put-part-requires c κs =
@@ -164,9 +146,6 @@ loop-again-3 c =
 sub-outer : tie.Need-sub-outer Inv-loop μ-loop
 sub-outer c = omega (arith, some (at-head (c .before .before)))
 
-mul-outer : tie.Need-mul-outer Inv-loop μ-loop
-mul-outer c = search needs
-
 deep : (n : AtNode) → head n .subterms ≡ 1 → loop n .loop .lambdas < 4096
 deep n m = walked-deep (loop n .loop .inv .walked) (some n) (is-head n) m
 
@@ -207,18 +186,18 @@ put-substituted-spec =
     loop-holds
     same-length
     returns
-    sub-lambdas
-    mul-pending
+    (λ c. search needs)
+    (λ c. search needs)
     array-read-pending
-    loop-less
+    (λ c. omega arith)
     loop-again
     node-at-requires
-    enum-known-node
-    enum-told
+    (λ c. search needs)
+    (λ c. search needs)
     same-length-2
     returns-2
     add-past
-    is-variable-requires
+    (λ c κs. search needs)
     put-part-requires
     sub-pending
     loop-less-2
@@ -228,7 +207,7 @@ put-substituted-spec =
     loop-less-3
     loop-again-3
     sub-outer
-    mul-outer
+    (λ c. search needs)
     array-write-outer
     add-lambdas
     loop-less-4

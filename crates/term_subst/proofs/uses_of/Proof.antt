@@ -1,11 +1,8 @@
--- `substitution::uses_of` meets its contract.
+-- `term_subst::uses_of` meets its contract.
 use borrow.Author.Needs.{needs}
 use Rattle.term_subst.proofs.Leaves.{uses-leaf}
 use Rattle.term_subst.proofs.uses_of.Statement.{statement}
 use Rattle.term_subst.proofs.uses_of.Tie as tie
-
-is-variable-requires : tie.Need-is-variable-requires
-is-variable-requires c κs = search needs
 
 returns : tie.Need-returns
 returns c =
@@ -18,4 +15,4 @@ returns-2 c =
     rw (uses-leaf (a .lambdas) (a .node .tag) (a .node .arg), ← c .before .is-variable .ensures, c .if1 .left)
 
 pub uses-of-spec : {M : Type 1} → statement M
-uses-of-spec = tie.close (tie.spec is-variable-requires returns returns-2)
+uses-of-spec = tie.close (tie.spec (λ c κs. search needs) returns returns-2)

@@ -6,7 +6,7 @@ use native.Mathlib.Numerals.{add-one}
 use native.Mathlib.Omega.{arith}
 use lib.ListN.{getD, length, take, drop}
 use lib.Seq.{drop-cons}
-use Rattle.calculus.specs.Bytes.{Bytes, two-byte-values, two-bytes, word}
+use Rattle.calculus.specs.Bytes.{Bytes, two-bytes, word}
 
 pub length-two-bytes : (n : ℕ) → length (two-bytes n) ≡ 2
 unfolding two-bytes
@@ -35,8 +35,3 @@ two-there s at room =
 pub word-bytes : (s : List ℕ) (at : ℕ) → Bytes s → at + 2 ≤ length s → two-bytes (word s at) ≡ take 2 (drop at s)
 unfolding word
 word-bytes s at h room = bytes-of-number (getD s at 0) (getD s (at + 1) 0) (h at) ∙ sym (two-there s at room)
-
--- two bytes say less than 65,536
-pub word-small : (s : List ℕ) (at : ℕ) → Bytes s → word s at < two-byte-values
-unfolding word
-word-small s at h = omega (arith, h at, h (at + 1))

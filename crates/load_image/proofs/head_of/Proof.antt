@@ -1,0 +1,17 @@
+-- `load_image::head_of` meets its contract.
+use mathlib.Core.Path.{ap}
+use borrow.Author.Needs.{needs}
+use native.Mathlib.Omega.{arith}
+use lib.ListN.{length}
+use Rattle.load_image.proofs.Names.{says-setting, says-thread}
+use Rattle.load_image.proofs.head_of.Statement.{statement}
+use Rattle.load_image.proofs.head_of.Tie as tie
+
+returns : tie.Need-returns
+returns c = says-setting _ _ (omega (arith, c .before .bay-count .ensures, c .if1 .taken))
+
+returns-2 : tie.Need-returns-2
+returns-2 c = says-thread _ _ (c .before .before .bay-count .ensures) (c .before .if1 .left) (ap length (c .term-bytes .ensures))
+
+pub head-of-spec : {M : Type 1} → statement M
+head-of-spec = tie.close (tie.spec (λ c κs. search needs) returns (λ c κs. search needs) returns-2)

@@ -1,0 +1,2 @@
+-- how many names come with a rule
+pub mod Names

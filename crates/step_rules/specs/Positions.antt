@@ -1,0 +1,36 @@
+-- Document 01, the table of node forms: where the parts of an application stand in which two values meet.
+use Prim.Native.Nat.{ℕ, _+_, _*_}
+
+-- the bytes of an application before its function, of a lambda before its body, of a variable, a name, a constant with a type, and unit
+abbrev pub application-length : ℕ
+application-length = 1
+
+abbrev pub lambda-length : ℕ
+lambda-length = 2
+
+abbrev pub variable-length : ℕ
+variable-length = 2
+
+abbrev pub name-length : ℕ
+name-length = 2
+
+abbrev pub constant-length : ℕ
+constant-length = 2
+
+abbrev pub unit-length : ℕ
+unit-length = 1
+
+-- from the application to the body of a lambda that is applied
+abbrev pub to-body : ℕ
+to-body = application-length + lambda-length
+
+-- to the number of a name that is applied, the byte after its tag
+abbrev pub to-called : ℕ
+to-called = application-length + 1
+
+-- to the first argument of a full exch, past two applications and the constant; and to its number, where it is a name
+abbrev pub to-exchanged : ℕ
+to-exchanged = 2 * application-length + constant-length
+
+abbrev pub to-exchanged-name : ℕ
+to-exchanged-name = to-exchanged + 1
