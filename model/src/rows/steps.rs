@@ -22,9 +22,6 @@ const LONGEST: usize = 90;
 /// The most turns of a run before the image is taken.
 const TURNS: usize = 12;
 
-/// The constants that make names.
-const NAMING: [Constant; 3] = [Constant::Thread, Constant::Cell, Constant::Handle];
-
 /// Where an image comes from.
 #[derive(Debug, Clone, Copy, PartialEq, Eq, PartialOrd, Ord)]
 enum Origin {
@@ -32,8 +29,7 @@ enum Origin {
     Drawn,
     Damaged,
     Copying,
-    /// By the constant that asks for a name.
-    Crowded(usize),
+    Crowded,
 }
 
 /// Where the image comes from, the image, the thread, and the length of the out buffer.
@@ -62,10 +58,8 @@ fn wanted() -> BTreeMap<Class, usize> {
         wanted.insert((origin, REFUSED, causes::NO_THREAD), 5);
     }
     wanted.insert((Origin::Damaged, REFUSED, causes::IMAGE), 14);
-    wanted.insert((Origin::Copying, REFUSED, causes::ROOM), 6);
-    for constant in 0..NAMING.len() {
-        wanted.insert((Origin::Crowded(constant), REFUSED, causes::ROOM), 1);
-    }
+    wanted.insert((Origin::Copying, REFUSED, causes::ROOM), 8);
+    wanted.insert((Origin::Crowded, REFUSED, causes::ROOM), 1);
     wanted.insert((Origin::Drawn, REFUSED, causes::USED_HANDLE), 8);
     wanted.insert((Origin::Drawn, REFUSED, causes::WRONG_KIND), 10);
     wanted
@@ -109,12 +103,13 @@ fn copying(draw: &mut Draw) -> Vec<u8> {
     write_image(&Configuration { components })
 }
 
-/// As many names as there may be, or one less before a handle, and a thread that asks for more.
-fn crowded(draw: &mut Draw, constant: Constant) -> Vec<u8> {
-    let names = limits::MAX_NAMES - usize::from(constant == Constant::Handle);
+/// One name less than there may be, and a thread that asks for a handle and its future. Such an image
+/// takes a prover seconds and memory: one of them is enough.
+fn crowded(draw: &mut Draw) -> Vec<u8> {
+    let names = limits::MAX_NAMES - 1;
     let term = [
         Node::Application,
-        Node::Constant(constant, draw.byte()),
+        Node::Constant(Constant::Handle, draw.byte()),
         Node::Unit,
     ];
     let mut components = vec![Component::UsedHandle; names];
@@ -126,10 +121,7 @@ fn crowded(draw: &mut Draw, constant: Constant) -> Vec<u8> {
 fn drawn(draw: &mut Draw) -> Option<Call> {
     let (origin, image) = match draw.below(50) {
         0 => (Origin::Copying, copying(draw)),
-        1 => {
-            let constant = draw.below(NAMING.len());
-            (Origin::Crowded(constant), crowded(draw, NAMING[constant]))
-        }
+        1 => (Origin::Crowded, crowded(draw)),
         2..=20 => (Origin::Run, of_a_run(draw)?),
         21..=30 => {
             let mut image = of_a_configuration(draw);
@@ -140,7 +132,7 @@ fn drawn(draw: &mut Draw) -> Option<Call> {
     };
     let thread = images::thread_number(draw, &image);
     let room = images::out_length(draw);
-    let at_a_limit = matches!(origin, Origin::Copying | Origin::Crowded(_));
+    let at_a_limit = matches!(origin, Origin::Copying | Origin::Crowded);
     let fits = image.len() <= LONGEST || at_a_limit;
     fits.then_some((origin, image, thread, room))
 }
