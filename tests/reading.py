@@ -167,9 +167,16 @@ class Closure:
             elif token in home.brings:
                 self.bring(home.brings[token])
             else:
-                for operator, source in home.brings.items():
-                    if '_' in operator and token in operator.split('_') and token:
-                        self.bring(source)
+                self.operator(home, token)
+
+    def operator(self, home, token):
+        """A token that is a part of an operator's name, as ⊢ of _∣_∣_⊢_∶_."""
+        for name in home.items:
+            if '_' in name and token in name.split('_'):
+                self.reach(home.crate, home.name, name)
+        for name, source in home.brings.items():
+            if '_' in name and token in name.split('_'):
+                self.bring(source)
 
     def bring(self, source):
         path, name = source

@@ -6,7 +6,7 @@ use mathlib.Core.List.{List, [], _++_}
 use Prim.Native.Nat.{ℕ}
 use lib.Dec.{eqb, ltb}
 use lib.ListN.{replicate}
-use Rattle.calculus.specs.Lowest.{lowest}
+use Rattle.calculus.specs.Lowest.{Cause, lowest}
 use Rattle.calculus.specs.Lists.{tabulate}
 use Rattle.calculus.specs.Limits.{max-bays}
 use Rattle.calculus.specs.Verdict.{type-causes, type-number}
@@ -15,9 +15,13 @@ use Rattle.recipe_table.specs.Entries.{type-table, table-causes}
 use Rattle.check_spec.specs.declared.Verdict.{Verdict}
 use Rattle.check_spec.specs.Bays.{bay-term, bay-terms, term-causes}
 
--- the number of the lowest cause that fits, 0 where none does; 7 to 11 are the calculus's
+-- causes 1 to 11 of a file; 7 to 11 are the calculus's
+abbrev pub check-causes : List ℕ → List Cause
+check-causes s = table-causes s ++ (term-causes s ++ type-causes (type-table s) (bay-terms s))
+
+-- the number of the lowest that fits, 0 where none does
 unfoldable pub refusal : List ℕ → ℕ
-refusal s = lowest (table-causes s ++ (term-causes s ++ type-causes (type-table s) (bay-terms s)))
+refusal s = lowest (check-causes s)
 
 -- a number, or 0 where there is none
 unfoldable pub number-in : Option ℕ → ℕ

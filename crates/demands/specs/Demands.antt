@@ -2,13 +2,14 @@
 -- `out-after-step`: the right-hand sides of the contracts of fikarehu_check, fikarehu_load and fikarehu_step. Quoted is document 01.
 use mathlib.Core.Path.{_≡_}
 use mathlib.Core.Logic.{_↔_}
-use mathlib.Core.Bool.{Bool, false, true}
+use mathlib.Core.Bool.{true}
 use mathlib.Core.Option.{some}
 use mathlib.Core.List.{List, [], _∷_, _++_}
 use Prim.Native.Nat.{ℕ, _<_, _≤_}
 use lib.ListN.{length, drop, getD}
 use Rattle.calculus.specs.Bytes.{Bytes}
 use Rattle.calculus.specs.Limits.{max-bays, max-image-length}
+use Rattle.calculus.specs.Lowest.{Cause, cause}
 use Rattle.calculus.specs.Causes.{buffer-cause, image-cause, no-thread-cause, room-cause, used-handle-cause, wrong-kind-cause}
 use Rattle.calculus.specs.Types.{many, LinType, multiplicity}
 use Rattle.calculus.specs.Syntax.{Exp, Value, thread-of, Config, at, EachAll}
@@ -17,12 +18,9 @@ use Rattle.calculus.specs.Reduction.{HANDLE-BIND, Rule as RuleName, number, Red
 use Rattle.calculus.specs.Step.{Needs, Unready, AppliesUsed, Meets}
 use Rattle.calculus.specs.Image.{ImageRule, WithinLimits, Writable}
 use Rattle.calculus.specs.Table.{Table, type-at}
-use Rattle.calculus.specs.Verdict.{cause-7, cause-8, cause-9, cause-10, cause-11}
 use Rattle.calculus.specs.Recipe.{setting-types, start}
-use Rattle.recipe_file.specs.File.{cause-1, cause-2, cause-3}
-use Rattle.recipe_table.specs.Entries.{type-table, cause-4}
-use Rattle.check_spec.specs.Bays.{bay-terms, cause-5, cause-6}
-use Rattle.check_spec.specs.Verdict.{refused, verdict-of}
+use Rattle.recipe_table.specs.Entries.{type-table}
+use Rattle.check_spec.specs.Verdict.{check-causes, refused, verdict-of}
 use Rattle.check_spec.specs.Recipe.{Recipe}
 use Rattle.image.specs.Configuration.{image-of}
 use Rattle.load_spec.specs.Loading.{not-loaded, loaded-of, out-after-load}
@@ -30,35 +28,16 @@ use Rattle.step_spec.specs.declared.Outcome.the-variants.{Rule, Done, Waiting, 
 use Rattle.step_spec.specs.Stepping.{outcome-of, out-after-step}
 use Rattle.runs.specs.Run.{Call, Step, answer, left, types-left, steps, Applies, Binds, IsThread, Goes, ValuesTypedIn, image-loaded, types-loaded}
 
--- the table of causes: whether cause n, from 1 to 11, fits a file
-abbrev pub cause-fits : List ℕ → ℕ → Bool
-cause-fits s n =
-    getD (
-    false
-    ∷ cause-1 s
-    ∷ cause-2 s
-    ∷ cause-3 s
-    ∷ cause-4 s
-    ∷ cause-5 s
-    ∷ cause-6 s
-    ∷ cause-7 (type-table s) (bay-terms s)
-    ∷ cause-8 (type-table s) (bay-terms s)
-    ∷ cause-9 (type-table s) (bay-terms s)
-    ∷ cause-10 (type-table s) (bay-terms s)
-    ∷ cause-11 (type-table s) (bay-terms s)
-    ∷ []
-    ) n false
-
--- "The lowest number that fits wins"; 0 where none fits
-pub record Lowest (fits : ℕ → Bool) (n : ℕ) : Type 0 where
-  pub one-that-fits : ¬ (n ≡ 0) → fits n ≡ true
-  pub none-lower : (k : ℕ) → fits k ≡ true → (¬ (n ≡ 0)) × (n ≤ k)
+-- "The lowest number that fits wins": n is the number of a cause that fits, and none that fits has a lower one; 0 where none fits
+pub record Lowest (causes : List Cause) (n : ℕ) : Type 0 where
+  pub one-that-fits : ¬ (n ≡ 0) → (i : ℕ) × (at causes i ≡ some (cause n true))
+  pub none-lower : (i k : ℕ) → at causes i ≡ some (cause k true) → (¬ (n ≡ 0)) × (n ≤ k)
 
 -- The first demand: "Whatever is wrong with a recipe, an image, a thread number or a lent buffer, the call ends, refuses with the number that the documents fix, and
 -- writes nothing." Nothing is asked of the bytes, the number or the buffer. That the call ends, Rattle proves of every function.
 pub record FirstDemand : Type 0 where
   -- "The lowest number that fits wins, each cause tried over the whole file"
-  pub check-number : (file : List ℕ) → Lowest (cause-fits file) (verdict-of file .refusal)
+  pub check-number : (file : List ℕ) → Lowest (check-causes file) (verdict-of file .refusal)
   -- "loading and stepping try 12 first": "out buffer under 13,826 bytes"
   pub load-12 : (file out : List ℕ) → (loaded-of file (length out) .refusal ≡ buffer-cause) ↔ (length out < max-image-length)
   pub load-number : (file out : List ℕ) → ¬ (length out < max-image-length) → loaded-of file (length out) .refusal ≡ verdict-of file .refusal

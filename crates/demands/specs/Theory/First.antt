@@ -2,6 +2,7 @@
 use mathlib.Core.Path.{_∙_, _≡_, ap, refl, sym}
 use mathlib.Core.Logic.{_↔_}
 use mathlib.Core.Bool.{Bool, cond, false, true}
+use mathlib.Core.Option.{some}
 use mathlib.Core.List.{List, [], _∷_}
 use Prim.Native.Nat.{ℕ, _+_, _-_, _<_, _≤_, suc, zero}
 use native.Mathlib.Decide.{decLt}
@@ -11,12 +12,10 @@ use Rattle.calculus.specs.Limits.{max-image-length}
 use Rattle.calculus.specs.Causes.{buffer-cause, wrong-kind-cause}
 use Rattle.calculus.specs.Step.{Answer, step-of}
 use Rattle.calculus.specs.Reply.{Reply, moved, waits, finished, refuses}
-use Rattle.calculus.specs.Verdict.{cause-7, cause-8, cause-9, cause-10, cause-11, verdict}
+use Rattle.calculus.specs.Lowest.{Cause, cause, lowest}
+use Rattle.calculus.specs.Syntax.{at}
 use Rattle.calculus.specs.Theory.Tests.{clash}
-use Rattle.recipe_file.specs.File.{cause-1, cause-2, cause-3}
-use Rattle.recipe_table.specs.Entries.{type-table, cause-4}
-use Rattle.check_spec.specs.Bays.{bay-terms, cause-5, cause-6}
-use Rattle.check_spec.specs.Verdict.{refusal, refused, verdict-of}
+use Rattle.check_spec.specs.Verdict.{check-causes, refusal, refused, verdict-of}
 use Rattle.check_spec.specs.Theory.Answers.{refusal-is, refused-is}
 use Rattle.image.specs.Configuration.{config-of}
 use Rattle.image.specs.Stands.{image-stands}
@@ -26,62 +25,73 @@ use Rattle.step_spec.specs.declared.Outcome.{Outcome}
 use Rattle.step_spec.specs.declared.Outcome.the-variants.{Rule, Refused}
 use Rattle.step_spec.specs.Stepping.{step-reply, outcome-of-reply, out-after-reply, outcome-of, out-after-step}
 use Rattle.step_spec.specs.Theory.Replies.{reply-short, reply-broken, reply-stands, Told, told-room, told-no-thread, told-used, told-wrong, tells}
-use Rattle.demands.specs.Demands.{cause-fits, Lowest, FirstDemand}
+use Rattle.demands.specs.Demands.{Lowest, FirstDemand}
 
--- the first test that passes, the first test having number k; 0 where none does
-abbrev first : ℕ → List Bool → ℕ
-first k [] = 0
-first k (b ∷ bs) = cond b k (first (suc k) bs)
+-- causes in the order of their numbers, all above m; all numbers at most n
+abbrev Ascending : ℕ → List Cause → Type 0
+Ascending m [] = Unit {0}
+Ascending m (c ∷ cs) = (m < c .number) × Ascending (c .number) cs
 
--- it is none of the tests' numbers, or one that passes, and none before it does
-first-passes : (k : ℕ) (bs : List Bool) → ¬ (first (suc k) bs ≡ 0) → (suc k ≤ first (suc k) bs) × (getD bs (first (suc k) bs - suc k) false ≡ true)
-first-passes k [] n = absurd (n refl)
-first-passes k (true ∷ bs) n = let e : suc k - suc k ≡ 0 = omega arith in (omega arith, rw e refl)
-first-passes k (false ∷ bs) n =
-    let (l, p) = first-passes (suc k) bs n in
-    let e : first (suc (suc k)) bs - suc k ≡ suc (first (suc (suc k)) bs - suc (suc k)) = omega arith in
-    (omega arith, rw e p)
+abbrev AtMost : ℕ → List Cause → Type 0
+AtMost n [] = Unit {0}
+AtMost n (c ∷ cs) = (c .number ≤ n) × AtMost n cs
 
-first-lowest : (k : ℕ) (bs : List Bool) (i : ℕ) → getD bs i false ≡ true → (¬ (first (suc k) bs ≡ 0)) × (first (suc k) bs ≤ suc k + i)
-first-lowest k [] i e = absurd (clash (cc))
-first-lowest k (true ∷ bs) i e = (omega arith, omega arith)
-first-lowest k (false ∷ bs) zero e = absurd (clash (cc))
-first-lowest k (false ∷ bs) (suc i) e = let (n, l) = first-lowest (suc k) bs i e in (n, omega arith)
-
-lowest-of : (bs : List Bool) → Lowest (λ n. getD (false ∷ bs) n false) (first 1 bs)
-lowest-of bs = record {
-  one-that-fits = λ n.
-      let (l, p) = first-passes 0 bs n in
-      let e : first 1 bs ≡ suc (first 1 bs - 1) = omega arith in
-      ap (λ (m : ℕ). getD (false ∷ bs) m false) e ∙ p;
-  none-lower = lower;
-}
+above : (m : ℕ) (cs : List Cause) → Ascending m cs → (i : ℕ) {k : ℕ} {b : Bool} → at cs i ≡ some (cause k b) → m < k
+above m [] a i h = absurd (clash (cc))
+above m (c ∷ cs) (l, a) zero h = let e : c .number ≡ _ = ap (λ (x : Cause). x .number) (same h) in omega arith
   where
-    lower : (k : ℕ) → getD (false ∷ bs) k false ≡ true → (¬ (first 1 bs ≡ 0)) × (first 1 bs ≤ k)
-    lower zero e = absurd (clash (cc))
-    lower (suc k) e = let (n, l) = first-lowest 0 bs k e in (n, omega arith)
+    same : {x y : Cause} → some x ≡ some y → x ≡ y
+    same p = cc
+above m (c ∷ cs) (l, a) (suc i) h = let n = above (c .number) cs a i h in omega arith
 
-lowest-cause : (file : List ℕ) → Lowest (cause-fits file) (refusal file)
-unfolding refusal verdict
-lowest-cause s =
-    lowest-of (
-    cause-1 s
-    ∷ cause-2 s
-    ∷ cause-3 s
-    ∷ cause-4 s
-    ∷ cause-5 s
-    ∷ cause-6 s
-    ∷ cause-7 (type-table s) (bay-terms s)
-    ∷ cause-8 (type-table s) (bay-terms s)
-    ∷ cause-9 (type-table s) (bay-terms s)
-    ∷ cause-10 (type-table s) (bay-terms s)
-    ∷ cause-11 (type-table s) (bay-terms s)
-    ∷ []
-    )
+-- in that order the first that fits is the lowest
+lowest-first : (m : ℕ) (cs : List Cause) → Ascending m cs → Lowest cs (lowest cs)
+lowest-first m [] a = record { one-that-fits = λ n. absurd (n refl); none-lower = λ i k h. absurd (clash (cc)) }
+lowest-first m (c ∷ cs) (l, a) = go (c .fits) refl (lowest-first (c .number) cs a)
+  where
+    here : (k : ℕ) → some c ≡ some (cause k true) → (c .number ≡ k) × (c .fits ≡ true)
+    here k p = let q : c ≡ cause k true = cc in (ap (λ (x : Cause). x .number) q, ap (λ (x : Cause). x .fits) q)
+
+    go : (b : Bool) → c .fits ≡ b → Lowest cs (lowest cs) → Lowest (c ∷ cs) (cond b (c .number) (lowest cs))
+    go true q rest = record {
+      one-that-fits = λ n. (0, λ i. some (record { number = c .number; fits = q i }));
+      none-lower = λ i k h. (omega arith, first i k h);
+    }
+      where
+        first : (i k : ℕ) → at (c ∷ cs) i ≡ some (cause k true) → c .number ≤ k
+        first zero k h = let e = here k h .0 in omega arith
+        first (suc i) k h = let n = above (c .number) cs a i h in omega arith
+    go false q rest = record {
+      one-that-fits = λ n. let (i, h) = rest .one-that-fits n in (suc i, h);
+      none-lower = later;
+    }
+      where
+        later : (i k : ℕ) → at (c ∷ cs) i ≡ some (cause k true) → (¬ (lowest cs ≡ 0)) × (lowest cs ≤ k)
+        later zero k h = absurd (clash (let e = here k h .1 in cc))
+        later (suc i) k h = rest .none-lower i k h
+
+lowest-at-most : (n : ℕ) (cs : List Cause) → AtMost n cs → lowest cs ≤ n
+lowest-at-most n [] a = omega arith
+lowest-at-most n (c ∷ cs) (l, a) = go (c .fits) (lowest-at-most n cs a)
+  where
+    go : (b : Bool) → lowest cs ≤ n → cond b (c .number) (lowest cs) ≤ n
+    go true r = l
+    go false r = r
+
+lowest-cause : (file : List ℕ) → Lowest (check-causes file) (refusal file)
+unfolding refusal
+lowest-cause file =
+    lowest-first 0 (check-causes file)
+    (omega arith, (omega arith, (omega arith, (omega arith, (omega arith, (omega arith, (omega arith, (omega arith, (omega arith, (omega arith, (omega arith, tt)))))))))))
 
 -- no cause of a file has the number 12
 not-12 : (file : List ℕ) → ¬ (refusal file ≡ buffer-cause)
-not-12 file e = clash (let f = lowest-cause file .one-that-fits (omega arith) in let g : cause-fits file buffer-cause ≡ true = rw e at f in cc)
+unfolding refusal
+not-12 file e =
+    let l : lowest (check-causes file) ≤ 11 =
+    lowest-at-most 11 (check-causes file)
+    (omega arith, (omega arith, (omega arith, (omega arith, (omega arith, (omega arith, (omega arith, (omega arith, (omega arith, (omega arith, (omega arith, tt))))))))))) in
+    omega arith
 
 load-12 : (file out : List ℕ) → (loaded-of file (length out) .refusal ≡ buffer-cause) ↔ (length out < max-image-length)
 load-12 file out = (
