@@ -1,7 +1,10 @@
 -- Document 01, "The lowest number that fits wins": causes in the order of their numbers.
-use mathlib.Core.Bool.{Bool, cond}
+use mathlib.Core.Path.{_≡_}
+use mathlib.Core.Bool.{Bool, cond, true}
+use mathlib.Core.Option.{some}
 use mathlib.Core.List.{List, [], _∷_}
-use Prim.Native.Nat.{ℕ}
+use Prim.Native.Nat.{ℕ, _≤_}
+use Rattle.calculus.specs.Syntax.{at}
 
 -- a cause: its number, and whether it fits
 pub record Cause : Type 0 where
@@ -15,3 +18,8 @@ cause number fits = record { number = number; fits = fits }
 abbrev pub lowest : List Cause → ℕ
 lowest [] = 0
 lowest (c ∷ cs) = cond (c .fits) (c .number) (lowest cs)
+
+-- the same as a proposition: "The lowest number that fits wins": n is the number of a cause that fits, and none that fits has a lower one; 0 where none fits
+pub record Lowest (causes : List Cause) (n : ℕ) : Type 0 where
+  pub one-that-fits : ¬ (n ≡ 0) → (i : ℕ) × (at causes i ≡ some (cause n true))
+  pub none-lower : (i k : ℕ) → at causes i ≡ some (cause k true) → (¬ (n ≡ 0)) × (n ≤ k)

@@ -2,14 +2,13 @@
 -- `out-after-step`: the right-hand sides of the contracts of fikarehu_check, fikarehu_load and fikarehu_step. Quoted is document 01.
 use mathlib.Core.Path.{_≡_}
 use mathlib.Core.Logic.{_↔_}
-use mathlib.Core.Bool.{true}
 use mathlib.Core.Option.{some}
-use mathlib.Core.List.{List, [], _∷_, _++_}
+use mathlib.Core.List.{List, [], _++_}
 use Prim.Native.Nat.{ℕ, _<_, _≤_}
 use lib.ListN.{length, drop, getD}
 use Rattle.calculus.specs.Bytes.{Bytes}
 use Rattle.calculus.specs.Limits.{max-bays, max-image-length}
-use Rattle.calculus.specs.Lowest.{Cause, cause}
+use Rattle.calculus.specs.Lowest.{Lowest}
 use Rattle.calculus.specs.Causes.{buffer-cause, image-cause, no-thread-cause, room-cause, used-handle-cause, wrong-kind-cause}
 use Rattle.calculus.specs.Types.{many, LinType, multiplicity}
 use Rattle.calculus.specs.Syntax.{Exp, Value, thread-of, Config, at, EachAll}
@@ -27,11 +26,6 @@ use Rattle.load_spec.specs.Loading.{not-loaded, loaded-of, out-after-load}
 use Rattle.step_spec.specs.declared.Outcome.the-variants.{Rule, Done, Waiting, Refused}
 use Rattle.step_spec.specs.Stepping.{outcome-of, out-after-step}
 use Rattle.runs.specs.Run.{Call, Step, answer, left, types-left, steps, Applies, Binds, IsThread, Goes, ValuesTypedIn, image-loaded, types-loaded}
-
--- "The lowest number that fits wins": n is the number of a cause that fits, and none that fits has a lower one; 0 where none fits
-pub record Lowest (causes : List Cause) (n : ℕ) : Type 0 where
-  pub one-that-fits : ¬ (n ≡ 0) → (i : ℕ) × (at causes i ≡ some (cause n true))
-  pub none-lower : (i k : ℕ) → at causes i ≡ some (cause k true) → (¬ (n ≡ 0)) × (n ≤ k)
 
 -- The first demand: "Whatever is wrong with a recipe, an image, a thread number or a lent buffer, the call ends, refuses with the number that the documents fix, and
 -- writes nothing." Nothing is asked of the bytes, the number or the buffer. That the call ends, Rattle proves of every function.

@@ -2,10 +2,14 @@
 use mathlib.Core.Path.{_≡_, refl, sym}
 use mathlib.Core.Bool.{Bool, cond, false, true}
 use mathlib.Core.List.{List}
-use Prim.Native.Nat.{ℕ}
+use Prim.Native.Nat.{ℕ, _≤_}
+use native.Mathlib.Omega.{arith}
 use lib.Dec.{eqb}
+use Rattle.calculus.specs.Lowest.{lowest, Lowest}
+use Rattle.calculus.specs.Causes.{buffer-cause}
+use Rattle.calculus.specs.Theory.Ascending.{ascending-lowest, lowest-at-most}
 use Rattle.calculus.specs.Theory.Tests.{eqb-complete, eqb-differ, eqb-sound}
-use Rattle.check_spec.specs.Verdict.{accepted, refusal, refused, verdict-of}
+use Rattle.check_spec.specs.Verdict.{accepted, check-causes, refusal, refused, verdict-of}
 
 module _ (s : List ℕ) where
   pub refusal-is : verdict-of s .refusal ≡ refusal s
@@ -23,3 +27,18 @@ module _ (s : List ℕ) where
   pub refused-is : ¬ (refusal s ≡ 0) → verdict-of s ≡ refused (refusal s)
   unfolding verdict-of
   refused-is n = rw (eqb-differ (refusal s) 0 n) refl
+
+pub lowest-cause : (file : List ℕ) → Lowest (check-causes file) (refusal file)
+unfolding refusal
+lowest-cause file =
+    ascending-lowest 0 (check-causes file)
+    (omega arith, (omega arith, (omega arith, (omega arith, (omega arith, (omega arith, (omega arith, (omega arith, (omega arith, (omega arith, (omega arith, tt)))))))))))
+
+-- no cause of a file has the number 12
+pub not-12 : (file : List ℕ) → ¬ (refusal file ≡ buffer-cause)
+unfolding refusal
+not-12 file e =
+    let l : lowest (check-causes file) ≤ 11 =
+    lowest-at-most 11 (check-causes file)
+    (omega arith, (omega arith, (omega arith, (omega arith, (omega arith, (omega arith, (omega arith, (omega arith, (omega arith, (omega arith, (omega arith, tt))))))))))) in
+    omega arith

@@ -1,22 +1,18 @@
 -- The first demand.
 use mathlib.Core.Path.{_∙_, _≡_, ap, refl, sym}
 use mathlib.Core.Logic.{_↔_}
-use mathlib.Core.Bool.{Bool, cond, false, true}
-use mathlib.Core.Option.{some}
-use mathlib.Core.List.{List, [], _∷_}
-use Prim.Native.Nat.{ℕ, _+_, _-_, _<_, _≤_, suc, zero}
+use mathlib.Core.Bool.{Bool, false, true}
+use mathlib.Core.List.{List}
+use Prim.Native.Nat.{ℕ, _-_, _<_, _≤_}
 use native.Mathlib.Decide.{decLt}
 use native.Mathlib.Omega.{arith}
-use lib.ListN.{getD, length}
+use lib.ListN.{length}
 use Rattle.calculus.specs.Limits.{max-image-length}
 use Rattle.calculus.specs.Causes.{buffer-cause, wrong-kind-cause}
 use Rattle.calculus.specs.Step.{Answer, step-of}
 use Rattle.calculus.specs.Reply.{Reply, moved, waits, finished, refuses}
-use Rattle.calculus.specs.Lowest.{Cause, cause, lowest}
-use Rattle.calculus.specs.Syntax.{at}
-use Rattle.calculus.specs.Theory.Tests.{clash}
-use Rattle.check_spec.specs.Verdict.{check-causes, refusal, refused, verdict-of}
-use Rattle.check_spec.specs.Theory.Answers.{refusal-is, refused-is}
+use Rattle.check_spec.specs.Verdict.{refusal, refused, verdict-of}
+use Rattle.check_spec.specs.Theory.Answers.{refusal-is, refused-is, lowest-cause, not-12}
 use Rattle.image.specs.Configuration.{config-of}
 use Rattle.image.specs.Stands.{image-stands}
 use Rattle.load_spec.specs.Loading.{loaded-of, not-loaded}
@@ -25,73 +21,7 @@ use Rattle.step_spec.specs.declared.Outcome.{Outcome}
 use Rattle.step_spec.specs.declared.Outcome.the-variants.{Rule, Refused}
 use Rattle.step_spec.specs.Stepping.{step-reply, outcome-of-reply, out-after-reply, outcome-of, out-after-step}
 use Rattle.step_spec.specs.Theory.Replies.{reply-short, reply-broken, reply-stands, Told, told-room, told-no-thread, told-used, told-wrong, tells}
-use Rattle.demands.specs.Demands.{Lowest, FirstDemand}
-
--- causes in the order of their numbers, all above m; all numbers at most n
-abbrev Ascending : ℕ → List Cause → Type 0
-Ascending m [] = Unit {0}
-Ascending m (c ∷ cs) = (m < c .number) × Ascending (c .number) cs
-
-abbrev AtMost : ℕ → List Cause → Type 0
-AtMost n [] = Unit {0}
-AtMost n (c ∷ cs) = (c .number ≤ n) × AtMost n cs
-
-above : (m : ℕ) (cs : List Cause) → Ascending m cs → (i : ℕ) {k : ℕ} {b : Bool} → at cs i ≡ some (cause k b) → m < k
-above m [] a i h = absurd (clash (cc))
-above m (c ∷ cs) (l, a) zero h = let e : c .number ≡ _ = ap (λ (x : Cause). x .number) (same h) in omega arith
-  where
-    same : {x y : Cause} → some x ≡ some y → x ≡ y
-    same p = cc
-above m (c ∷ cs) (l, a) (suc i) h = let n = above (c .number) cs a i h in omega arith
-
--- in that order the first that fits is the lowest
-lowest-first : (m : ℕ) (cs : List Cause) → Ascending m cs → Lowest cs (lowest cs)
-lowest-first m [] a = record { one-that-fits = λ n. absurd (n refl); none-lower = λ i k h. absurd (clash (cc)) }
-lowest-first m (c ∷ cs) (l, a) = go (c .fits) refl (lowest-first (c .number) cs a)
-  where
-    here : (k : ℕ) → some c ≡ some (cause k true) → (c .number ≡ k) × (c .fits ≡ true)
-    here k p = let q : c ≡ cause k true = cc in (ap (λ (x : Cause). x .number) q, ap (λ (x : Cause). x .fits) q)
-
-    go : (b : Bool) → c .fits ≡ b → Lowest cs (lowest cs) → Lowest (c ∷ cs) (cond b (c .number) (lowest cs))
-    go true q rest = record {
-      one-that-fits = λ n. (0, λ i. some (record { number = c .number; fits = q i }));
-      none-lower = λ i k h. (omega arith, first i k h);
-    }
-      where
-        first : (i k : ℕ) → at (c ∷ cs) i ≡ some (cause k true) → c .number ≤ k
-        first zero k h = let e = here k h .0 in omega arith
-        first (suc i) k h = let n = above (c .number) cs a i h in omega arith
-    go false q rest = record {
-      one-that-fits = λ n. let (i, h) = rest .one-that-fits n in (suc i, h);
-      none-lower = later;
-    }
-      where
-        later : (i k : ℕ) → at (c ∷ cs) i ≡ some (cause k true) → (¬ (lowest cs ≡ 0)) × (lowest cs ≤ k)
-        later zero k h = absurd (clash (let e = here k h .1 in cc))
-        later (suc i) k h = rest .none-lower i k h
-
-lowest-at-most : (n : ℕ) (cs : List Cause) → AtMost n cs → lowest cs ≤ n
-lowest-at-most n [] a = omega arith
-lowest-at-most n (c ∷ cs) (l, a) = go (c .fits) (lowest-at-most n cs a)
-  where
-    go : (b : Bool) → lowest cs ≤ n → cond b (c .number) (lowest cs) ≤ n
-    go true r = l
-    go false r = r
-
-lowest-cause : (file : List ℕ) → Lowest (check-causes file) (refusal file)
-unfolding refusal
-lowest-cause file =
-    lowest-first 0 (check-causes file)
-    (omega arith, (omega arith, (omega arith, (omega arith, (omega arith, (omega arith, (omega arith, (omega arith, (omega arith, (omega arith, (omega arith, tt)))))))))))
-
--- no cause of a file has the number 12
-not-12 : (file : List ℕ) → ¬ (refusal file ≡ buffer-cause)
-unfolding refusal
-not-12 file e =
-    let l : lowest (check-causes file) ≤ 11 =
-    lowest-at-most 11 (check-causes file)
-    (omega arith, (omega arith, (omega arith, (omega arith, (omega arith, (omega arith, (omega arith, (omega arith, (omega arith, (omega arith, (omega arith, tt))))))))))) in
-    omega arith
+use Rattle.demands.specs.Demands.{FirstDemand}
 
 load-12 : (file out : List ℕ) → (loaded-of file (length out) .refusal ≡ buffer-cause) ↔ (length out < max-image-length)
 load-12 file out = (

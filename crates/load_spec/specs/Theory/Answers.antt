@@ -8,7 +8,8 @@ use lib.ListN.{drop, length}
 use Rattle.calculus.specs.Limits.{max-image-length}
 use Rattle.calculus.specs.Causes.{buffer-cause}
 use Rattle.calculus.specs.Theory.Tests.{eqb-complete, eqb-differ, eqb-sound, ltb-complete, ltb-not}
-use Rattle.check_spec.specs.Verdict.{refusal}
+use Rattle.check_spec.specs.Verdict.{refusal, verdict-of}
+use Rattle.check_spec.specs.Theory.Answers.{accepted-is}
 use Rattle.load_spec.specs.Starting.{starting-image}
 use Rattle.load_spec.specs.Loading.{is-loaded, loaded-of, load-refusal, not-loaded, out-after-load}
 
@@ -46,3 +47,7 @@ module _ (s out : List ℕ) where
   pub left-loaded : load-refusal s (length out) ≡ 0 → out-after-load s out ≡ starting-image s ++ drop (length (starting-image s)) out
   unfolding out-after-load
   left-loaded e = rw (eqb-complete (load-refusal s (length out)) 0 e) refl
+
+-- an accepted recipe is loaded with the bays and types that a check answers
+pub loaded-as-checked : (s : List ℕ) → refusal s ≡ 0 → (is-loaded s .bays ≡ verdict-of s .bays) × (is-loaded s .types ≡ verdict-of s .types)
+loaded-as-checked s e = let v = accepted-is s e in (rw v refl, rw v refl)
