@@ -1,4 +1,4 @@
-.PHONY: host install library run test
+.PHONY: host install library rows run test
 
 # The recipe that `make run` and `make host` load.
 RECIPE = examples/one-bay.recipe
@@ -25,6 +25,10 @@ install: library
 	install -m 644 include/fikarehu.h $(DESTDIR)$(PREFIX)/include/fikarehu.h
 	install -m 644 $(LIBRARY) $(DESTDIR)$(PREFIX)/lib/libfikarehu.a
 	sed 's|@PREFIX@|$(PREFIX)|' include/fikarehu.pc.in >$(DESTDIR)$(PREFIX)/lib/pkgconfig/fikarehu.pc
+
+# Writes the drawn rows again, as the model answers them.
+rows:
+	@cargo run --release --offline --quiet --manifest-path model/Cargo.toml --bin write_rows crates/drawn_cases/specs
 
 # The gate, from nothing.
 test:

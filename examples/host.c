@@ -9,8 +9,6 @@
 
 #include "fikarehu.h"
 
-enum { LONGEST_RECIPE = 8192, LONGEST_IMAGE = 13826, HEAD = 6 };
-
 static unsigned two_bytes(const uint8_t *at) {
     return at[0] + 256u * at[1];
 }
@@ -18,8 +16,9 @@ static unsigned two_bytes(const uint8_t *at) {
 /* The setting of a bay is the cell with the bay's number: a num, or the name of a num still awaited. */
 static void print_vents(const uint8_t *image, uint32_t bays) {
     for (uint32_t bay = 0; bay < bays; bay++) {
-        const uint8_t *value = image + two_bytes(image + 2 + HEAD * bay + 2);
-        if (value[0] == 4) {
+        const uint8_t *head = image + FIKAREHU_FIRST_HEAD + FIKAREHU_HEAD_LENGTH * bay;
+        const uint8_t *value = image + two_bytes(head + 2); /* after kind and companion comes the offset */
+        if (value[0] == FIKAREHU_TAG_NUM) {
             unsigned opening = two_bytes(value + 1);
             printf("bay %u: %u.%u %%\n", bay, opening / 10, opening % 10);
         } else {
@@ -35,9 +34,9 @@ static unsigned long take_turns(uint8_t **image, uint64_t *length, uint8_t **oth
     while (moved && taken < turns) {
         moved = 0;
         for (unsigned name = 0; name < two_bytes(*image) && taken < turns; name++) {
-            struct fikarehu_stepped stepped = fikarehu_step(*image, *length, name, *other, LONGEST_IMAGE);
+            struct fikarehu_stepped stepped = fikarehu_step(*image, *length, name, *other, FIKAREHU_MAX_IMAGE);
             if (stepped.outcome != FIKAREHU_RULE) {
-                continue; /* done, waiting, no thread (14) or no room (15): the image stays as it is */
+                continue; /* done, waiting, or refused as no thread or for want of room: the image stays as it is */
             }
             uint8_t *written = *other;
             *other = *image;
@@ -51,7 +50,7 @@ static unsigned long take_turns(uint8_t **image, uint64_t *length, uint8_t **oth
 }
 
 int main(int count, char **words) {
-    static uint8_t recipe[LONGEST_RECIPE + 1], first[LONGEST_IMAGE], second[LONGEST_IMAGE];
+    static uint8_t recipe[FIKAREHU_MAX_FILE + 1], first[FIKAREHU_MAX_IMAGE], second[FIKAREHU_MAX_IMAGE];
     if (count < 2) {
         fprintf(stderr, "use: %s RECIPE [TURNS]\n", words[0]);
         return 1;
@@ -61,7 +60,8 @@ int main(int count, char **words) {
         perror(words[1]);
         return 1;
     }
-    size_t size = fread(recipe, 1, sizeof recipe, file); /* one byte more than the limit, so that a longer file is refused 1 */
+    size_t size = fread(recipe, 1, sizeof recipe, file); /* one byte more than the limit,
+                        so that a longer file is refused */
     fclose(file);
 
     struct fikarehu_loaded loaded = fikarehu_load(recipe, size, first, sizeof first);

@@ -14,30 +14,11 @@
  * Buffers. A load or a step that writes puts the new image into the first bytes
  * of the out buffer and leaves the bytes beyond as they were. A refusal, done
  * or waiting leaves the whole out buffer as it was. A load or a step is refused
- * with 12, before anything else is looked at, unless the out buffer has at
- * least 13,826 bytes; no image is longer.
+ * with FIKAREHU_REFUSED_BUFFER, before anything else is looked at, unless the
+ * out buffer has at least FIKAREHU_MAX_IMAGE bytes; no image is longer.
  *
  * Refusals. The lowest number that fits is answered, each cause tried over the
  * whole file.
- *
- *    1  file length outside 12 to 8,192
- *    2  first two bytes, edition, or n outside 2 to 17
- *    3  pairs break the layout; table length no multiple of 3, or outside 9 to 768
- *    4  a type entry breaks its rule
- *    5  a part is not exactly one term: unknown tag, cut, bytes over, num above 1000
- *    6  nesting or nodes above the limit
- *    7  index with no lambda, name not below b, type number not below t
- *    8  lambda's type no function, constant's type no instance of Fig. 8
- *       (handle as document 01 has it), narrowing broken
- *    9  application of a non-function, argument or body of another type
- *   10  a once-variable not used exactly once, or free under a many-lambda
- *   11  a bay's type has multiplicity once
- *   12  out buffer under 13,826 bytes
- *   13  step: image breaks a rule or limit under "The image"
- *   14  step: number is no thread
- *   15  step: a rule applies, outcome above 256 names or 4,096 nodes
- *   16  step: used handle applied
- *   17  step: two values meet, neither a rule, nor waiting, nor 16
  */
 #ifndef FIKAREHU_H
 #define FIKAREHU_H
@@ -49,19 +30,128 @@
 extern "C" {
 #endif
 
+/* This header's version. */
+#define FIKAREHU_VERSION "0.1.0"
+#define FIKAREHU_VERSION_MAJOR 0
+#define FIKAREHU_VERSION_MINOR 1
+#define FIKAREHU_VERSION_PATCH 0
+
+/* The limits of a recipe. */
+enum {
+    FIKAREHU_MIN_FILE = 12,            /* bytes of a file */
+    FIKAREHU_MAX_FILE = 8192,
+    FIKAREHU_MIN_PARTS = 2,            /* parts: the type table, and a term for each bay */
+    FIKAREHU_MAX_PARTS = 17,
+    FIKAREHU_MAX_BAYS = 16,
+    FIKAREHU_MIN_ENTRIES = 3,          /* entries of the type table */
+    FIKAREHU_MAX_ENTRIES = 256,
+    FIKAREHU_MAX_NESTING = 100,        /* nesting of a term, the root being 1 */
+    FIKAREHU_MAX_RECIPE_NODES = 1024,  /* nodes over all terms */
+    FIKAREHU_MAX_NUM = 1000            /* a num, in tenths of a percent */
+};
+
+/* The limits of an image. */
+enum {
+    FIKAREHU_MAX_NAMES = 256,
+    FIKAREHU_MAX_NODES = 4096,  /* nodes over all expressions */
+    FIKAREHU_MAX_IMAGE = 13826  /* bytes, and the least length of an out buffer */
+};
+
+/* Bytes: an entry of the type table, the longest node, the number of names before the first head
+ * of an image, and a head. */
+enum {
+    FIKAREHU_ENTRY_LENGTH = 3,
+    FIKAREHU_MAX_NODE_LENGTH = 3,
+    FIKAREHU_FIRST_HEAD = 2,
+    FIKAREHU_HEAD_LENGTH = 6
+};
+
+/* The kind of a name: the first byte of its head in an image. */
+enum {
+    FIKAREHU_KIND_THREAD = 1,
+    FIKAREHU_KIND_CELL = 2,
+    FIKAREHU_KIND_OPEN_HANDLE = 3,
+    FIKAREHU_KIND_USED_HANDLE = 4,
+    FIKAREHU_KIND_FUTURE = 5  /* not yet bound */
+};
+
+/* The kind of a type: the first byte of its entry in a type table. */
+enum {
+    FIKAREHU_TYPE_UNIT = 0,
+    FIKAREHU_TYPE_NUM = 1,
+    FIKAREHU_TYPE_CELL = 2,
+    FIKAREHU_TYPE_ONCE = 3,  /* a function usable once */
+    FIKAREHU_TYPE_MANY = 4   /* a function usable many times */
+};
+
+/* The numbers of the first three entries of every type table: unit, num, cell of num. */
+enum {
+    FIKAREHU_UNIT_ENTRY = 0,
+    FIKAREHU_NUM_ENTRY = 1,
+    FIKAREHU_SETTING_ENTRY = 2
+};
+
+/* The tag of a node: the first byte of a term, and of each subterm. */
+enum {
+    FIKAREHU_TAG_VARIABLE = 0,
+    FIKAREHU_TAG_LAMBDA = 1,
+    FIKAREHU_TAG_APPLICATION = 2,
+    FIKAREHU_TAG_UNIT = 3,
+    FIKAREHU_TAG_NUM = 4,
+    FIKAREHU_TAG_CELL = 5,
+    FIKAREHU_TAG_EXCH = 6,
+    FIKAREHU_TAG_THREAD = 7,
+    FIKAREHU_TAG_HANDLE = 8,
+    FIKAREHU_TAG_NAME = 9
+};
+
+/* The refusals: 1 to 11 by a check or a load, 12 by a load or a step, 13 to 17 by a step. */
+enum {
+    FIKAREHU_REFUSED_FILE_LENGTH = 1,  /* file length outside 12 to 8,192 */
+    FIKAREHU_REFUSED_OPENING = 2,      /* first two bytes, edition, or n outside 2 to 17 */
+    FIKAREHU_REFUSED_LAYOUT = 3,       /* pairs break the layout; table length no multiple of 3, or outside 9 to 768 */
+    FIKAREHU_REFUSED_TYPE_ENTRY = 4,   /* a type entry breaks its rule */
+    FIKAREHU_REFUSED_NO_TERM = 5,      /* a part is not exactly one term: unknown tag, cut, bytes over,
+num above 1000 */
+    FIKAREHU_REFUSED_TERM_SIZE = 6,    /* nesting or nodes above the limit */
+    FIKAREHU_REFUSED_SCOPE = 7,        /* index with no lambda, name not below b, type number not below t */
+    FIKAREHU_REFUSED_ANNOTATION = 8,   /* lambda's type no function, constant's type no instance of Fig. 8
+                                          (handle as document 01 has it), narrowing broken */
+    FIKAREHU_REFUSED_TYPE = 9,         /* application of a non-function, argument or body of another type */
+    FIKAREHU_REFUSED_LINEARITY = 10,   /* a once-variable not used exactly once, or free under a many-lambda */
+    FIKAREHU_REFUSED_BAY_ONCE = 11,    /* a bay's type has multiplicity once */
+    FIKAREHU_REFUSED_BUFFER = 12,      /* out buffer under 13,826 bytes */
+    FIKAREHU_REFUSED_IMAGE = 13,       /* image breaks a rule or limit under "The image" */
+    FIKAREHU_REFUSED_NO_THREAD = 14,   /* number is no thread */
+    FIKAREHU_REFUSED_ROOM = 15,        /* a rule applies, outcome above 256 names or 4,096 nodes */
+    FIKAREHU_REFUSED_USED_HANDLE = 16, /* used handle applied */
+    FIKAREHU_REFUSED_WRONG_KIND = 17   /* two values meet, neither a rule, nor waiting, nor 16 */
+};
+
+/* The rules, in Fig. 5's order. */
+enum {
+    FIKAREHU_BETA = 1,
+    FIKAREHU_THREAD_NEW = 2,
+    FIKAREHU_FUTURE_DEREF = 3,
+    FIKAREHU_HANDLE_NEW = 4,
+    FIKAREHU_HANDLE_BIND = 5,
+    FIKAREHU_CELL_NEW = 6,
+    FIKAREHU_CELL_EXCH = 7
+};
+
 /* The answer of a check. */
 struct fikarehu_verdict {
-    uint32_t refusal;   /* 0 for accepted, else 1 to 11, and every other field is 0 */
-    uint32_t bays;      /* b, the number of bays, 1 to 16 */
-    uint8_t types[16];  /* each bay's type number; 0 beyond the bays */
+    uint32_t refusal;                  /* 0 for accepted, else 1 to 11, and every other field is 0 */
+    uint32_t bays;                     /* b, the number of bays, at least 1 */
+    uint8_t types[FIKAREHU_MAX_BAYS];  /* each bay's type number; 0 beyond the bays */
 };
 
 /* The answer of a load. */
 struct fikarehu_loaded {
-    uint32_t refusal;   /* 0 for loaded, else 12 or 1 to 11, and every other field is 0 */
-    uint32_t bays;      /* b, the number of bays, 1 to 16 */
-    uint8_t types[16];  /* each bay's type number; 0 beyond the bays */
-    uint64_t length;    /* the length of the image that was written */
+    uint32_t refusal;                  /* 0 for loaded, else 12 or 1 to 11, and every other field is 0 */
+    uint32_t bays;                     /* b, the number of bays, at least 1 */
+    uint8_t types[FIKAREHU_MAX_BAYS];  /* each bay's type number; 0 beyond the bays */
+    uint64_t length;                   /* the length of the image that was written */
 };
 
 /* What a step came to. */
@@ -86,7 +176,8 @@ struct fikarehu_verdict fikarehu_check(const uint8_t *recipe, size_t recipe_len)
 struct fikarehu_loaded fikarehu_load(const uint8_t *recipe, size_t recipe_len, uint8_t *out, size_t out_len);
 
 /* Steps one thread of the image, the whole slice of image_len bytes, and writes the new image to
- * out. Any thread number may be given; one that is no thread of the image is refused with 14. */
+ * out. Any thread number may be given; one that is no thread of the image is refused with
+ * FIKAREHU_REFUSED_NO_THREAD. */
 struct fikarehu_stepped fikarehu_step(const uint8_t *image, size_t image_len, uint64_t thread, uint8_t *out,
                                       size_t out_len);
 

@@ -15,15 +15,15 @@ static const uint8_t table_7[] = {0, 0, 0, 1, 0, 0, 2, 1, 0, 3, 1, 0, 4, 3, 0, 4
 static struct fikarehu_verdict check_guarded(const uint8_t *bytes, size_t length) {
     static uint8_t *end;
     if (end == NULL) {
-        end = end_before_trap(16 * LONGEST_FILE);
+        end = end_before_trap(16 * FIKAREHU_MAX_FILE);
     }
     memcpy(end - length, bytes, length);
     return fikarehu_check(end - length, length);
 }
 
 static int others_are_zero(const struct fikarehu_verdict *verdict) {
-    static const uint8_t zeros[16];
-    return verdict->bays == 0 && memcmp(verdict->types, zeros, 16) == 0;
+    static const uint8_t zeros[FIKAREHU_MAX_BAYS];
+    return verdict->bays == 0 && memcmp(verdict->types, zeros, sizeof zeros) == 0;
 }
 
 static void expect_refusal(const char *what, const struct file *file, uint32_t refusal) {
@@ -36,7 +36,7 @@ static void expect_accepted(const char *what, const struct file *file, uint32_t 
     struct fikarehu_verdict verdict = check_guarded(file->bytes, file->length);
     CHECK(verdict.refusal == 0, "%s: refusal %u, expected none", what, verdict.refusal);
     CHECK(verdict.bays == bays, "%s: %u bays, expected %u", what, verdict.bays, bays);
-    for (uint32_t bay = 0; bay < 16; bay++) {
+    for (uint32_t bay = 0; bay < FIKAREHU_MAX_BAYS; bay++) {
         uint8_t expected = bay < bays ? type : 0;
         CHECK(verdict.types[bay] == expected, "%s: bay %u has type %u, expected %u", what, bay, verdict.types[bay],
               expected);
@@ -52,8 +52,8 @@ static void accepted_files(void) {
     memcpy(scratch.bytes, case_a, sizeof case_a);
     scratch.length = sizeof case_a;
     expect_accepted("case A", &scratch, 1, 0);
-    make(&scratch, table_a, sizeof table_a, TERM(3), 16);
-    expect_accepted("sixteen bays", &scratch, 16, 0);
+    make(&scratch, table_a, sizeof table_a, TERM(3), FIKAREHU_MAX_BAYS);
+    expect_accepted("sixteen bays", &scratch, FIKAREHU_MAX_BAYS, 0);
     make(&scratch, table_a, sizeof table_a, TERM(4, 0xE8, 3), 9);
     expect_accepted("num 1000 in nine bays", &scratch, 9, 1);
     make(&scratch, table_7, sizeof table_7, TERM(2, 8, 6, 1, 5, 1, 4, 2, 0, 0, 0, 1), 1);
@@ -62,29 +62,29 @@ static void accepted_files(void) {
 
 static void refused_files(void) {
     make(&scratch, table_a, sizeof table_a, TERM(3), 1);
-    scratch.length = 11;
-    expect_refusal("eleven bytes", &scratch, 1);
+    scratch.length = FIKAREHU_MIN_FILE - 1;
+    expect_refusal("eleven bytes", &scratch, FIKAREHU_REFUSED_FILE_LENGTH);
     make(&scratch, table_a, sizeof table_a, TERM(3), 1);
     scratch.bytes[0] = 0x4D;
-    expect_refusal("another first byte", &scratch, 2);
+    expect_refusal("another first byte", &scratch, FIKAREHU_REFUSED_OPENING);
     make(&scratch, table_a, sizeof table_a, TERM(3), 1);
     scratch.bytes[6] = 10;
-    expect_refusal("a length of ten", &scratch, 3);
+    expect_refusal("a length of ten", &scratch, FIKAREHU_REFUSED_LAYOUT);
     make(&scratch, table_a, sizeof table_a, TERM(3), 1);
     scratch.bytes[20] = 1;
-    expect_refusal("cell with a q", &scratch, 4);
+    expect_refusal("cell with a q", &scratch, FIKAREHU_REFUSED_TYPE_ENTRY);
     make(&scratch, table_a, sizeof table_a, TERM(4, 0xE9, 3), 1);
-    expect_refusal("num 1001", &scratch, 5);
+    expect_refusal("num 1001", &scratch, FIKAREHU_REFUSED_NO_TERM);
     make(&scratch, table_a, sizeof table_a, TERM(0, 0), 1);
-    expect_refusal("case H", &scratch, 7);
+    expect_refusal("case H", &scratch, FIKAREHU_REFUSED_SCOPE);
     make(&scratch, table_7, sizeof table_7, TERM(7, 3), 1);
-    expect_refusal("case F", &scratch, 8);
+    expect_refusal("case F", &scratch, FIKAREHU_REFUSED_ANNOTATION);
     make(&scratch, table_a, sizeof table_a, TERM(2, 3, 3), 1);
-    expect_refusal("case G", &scratch, 9);
+    expect_refusal("case G", &scratch, FIKAREHU_REFUSED_TYPE);
     make(&scratch, table_7, sizeof table_7, TERM(1, 4, 3), 1);
-    expect_refusal("case D", &scratch, 10);
+    expect_refusal("case D", &scratch, FIKAREHU_REFUSED_LINEARITY);
     make(&scratch, table_7, sizeof table_7, TERM(1, 3, 3), 1);
-    expect_refusal("case E", &scratch, 11);
+    expect_refusal("case E", &scratch, FIKAREHU_REFUSED_BAY_ONCE);
 }
 
 /* Identities applied to unit, of that nesting. */
@@ -94,35 +94,35 @@ static size_t nested(uint8_t *term, size_t nesting) {
         memcpy(term + at, (const uint8_t[]){2, 1, 3, 0, 0}, 5);
         at += 5;
     }
-    term[at] = 3;
+    term[at] = FIKAREHU_TAG_UNIT;
     return at + 1;
 }
 
 static void nesting_at_the_limit(void) {
     uint8_t term[600];
-    make(&scratch, table_unit, sizeof table_unit, term, nested(term, 100), 1);
+    make(&scratch, table_unit, sizeof table_unit, term, nested(term, FIKAREHU_MAX_NESTING), 1);
     expect_accepted("nesting 100", &scratch, 1, 0);
-    make(&scratch, table_unit, sizeof table_unit, term, nested(term, 101), 1);
-    expect_refusal("nesting 101", &scratch, 6);
-    make(&scratch, table_unit, sizeof table_unit, term, nested(term, 23), 16);
-    expect_accepted("1,024 nodes", &scratch, 16, 0);
-    make(&scratch, table_unit, sizeof table_unit, term, nested(term, 24), 16);
-    expect_refusal("1,072 nodes", &scratch, 6);
+    make(&scratch, table_unit, sizeof table_unit, term, nested(term, FIKAREHU_MAX_NESTING + 1), 1);
+    expect_refusal("nesting 101", &scratch, FIKAREHU_REFUSED_TERM_SIZE);
+    make(&scratch, table_unit, sizeof table_unit, term, nested(term, 23), FIKAREHU_MAX_BAYS);
+    expect_accepted("1,024 nodes", &scratch, FIKAREHU_MAX_BAYS, 0);
+    make(&scratch, table_unit, sizeof table_unit, term, nested(term, 24), FIKAREHU_MAX_BAYS);
+    expect_refusal("1,072 nodes", &scratch, FIKAREHU_REFUSED_TERM_SIZE);
 }
 
 static void worst_files(void) {
-    make_full(&scratch, 2, 2);
-    expect_refusal("applications and nothing else", &scratch, 5);
-    make_full(&scratch, 2, 10);
-    expect_refusal("applications and an unknown tag", &scratch, 5);
-    make_full(&scratch, 1, 1);
-    expect_refusal("lambdas and nothing else", &scratch, 5);
-    make_full(&scratch, 3, 3);
-    expect_refusal("units", &scratch, 5);
+    make_full(&scratch, FIKAREHU_TAG_APPLICATION, FIKAREHU_TAG_APPLICATION);
+    expect_refusal("applications and nothing else", &scratch, FIKAREHU_REFUSED_NO_TERM);
+    make_full(&scratch, FIKAREHU_TAG_APPLICATION, FIKAREHU_TAG_NAME + 1);
+    expect_refusal("applications and an unknown tag", &scratch, FIKAREHU_REFUSED_NO_TERM);
+    make_full(&scratch, FIKAREHU_TAG_LAMBDA, FIKAREHU_TAG_LAMBDA);
+    expect_refusal("lambdas and nothing else", &scratch, FIKAREHU_REFUSED_NO_TERM);
+    make_full(&scratch, FIKAREHU_TAG_UNIT, FIKAREHU_TAG_UNIT);
+    expect_refusal("units", &scratch, FIKAREHU_REFUSED_NO_TERM);
     make_balanced(&scratch);
-    expect_refusal("applications closed by units", &scratch, 6);
+    expect_refusal("applications closed by units", &scratch, FIKAREHU_REFUSED_TERM_SIZE);
     make_lambdas(&scratch);
-    expect_accepted("99 lambdas in ten bays, 256 entries", &scratch, 10, 101);
+    expect_accepted("99 lambdas in ten bays, 256 entries", &scratch, LAMBDA_BAYS, OUTER_TYPE);
     nesting_at_the_limit();
 }
 
@@ -133,7 +133,7 @@ static void *worst_files_on_a_thread(void *nothing) {
 
 static void no_bytes(void) {
     struct fikarehu_verdict verdict = fikarehu_check(NULL, 0);
-    CHECK(verdict.refusal == 1, "NULL with length 0: refusal %u", verdict.refusal);
+    CHECK(verdict.refusal == FIKAREHU_REFUSED_FILE_LENGTH, "NULL with length 0: refusal %u", verdict.refusal);
     CHECK(others_are_zero(&verdict), "NULL with length 0: other fields than 0");
 }
 
@@ -143,19 +143,21 @@ static void every_beginning(void) {
     size_t whole = scratch.length;
     for (size_t length = 0; length < whole; length++) {
         scratch.length = length;
-        expect_refusal("a beginning of case C", &scratch, length < 12 ? 1 : 3);
+        expect_refusal("a beginning of case C", &scratch,
+                       length < FIKAREHU_MIN_FILE ? FIKAREHU_REFUSED_FILE_LENGTH : FIKAREHU_REFUSED_LAYOUT);
     }
     scratch.bytes[whole] = 3;
     scratch.length = whole + 1;
-    expect_refusal("case C and a byte", &scratch, 3);
+    expect_refusal("case C and a byte", &scratch, FIKAREHU_REFUSED_LAYOUT);
 }
 
 /* Lengths past the limit, up to far more than two bytes can tell. */
 static void too_long(void) {
     make(&scratch, table_a, sizeof table_a, TERM(3), 1);
-    for (size_t length = LONGEST_FILE; length <= sizeof scratch.bytes; length *= 2) {
+    for (size_t length = FIKAREHU_MAX_FILE; length <= sizeof scratch.bytes; length *= 2) {
         scratch.length = length;
-        expect_refusal("a long file", &scratch, length == LONGEST_FILE ? 3 : 1);
+        expect_refusal("a long file", &scratch,
+                       length == FIKAREHU_MAX_FILE ? FIKAREHU_REFUSED_LAYOUT : FIKAREHU_REFUSED_FILE_LENGTH);
     }
 }
 

@@ -2,16 +2,17 @@
 #ifndef FIKAREHU_TESTS_FILES_H
 #define FIKAREHU_TESTS_FILES_H
 
+#include "../include/fikarehu.h"
 #include "check.h"
 
-enum { LONGEST_FILE = 8192, MOST_TABLE = 768 };
+enum { MOST_TABLE = FIKAREHU_ENTRY_LENGTH * FIKAREHU_MAX_ENTRIES };
 
 /* Case A's table, and with it a many function from unit to unit. */
 static const uint8_t table_a[] = {0, 0, 0, 1, 0, 0, 2, 1, 0};
 static const uint8_t table_unit[] = {0, 0, 0, 1, 0, 0, 2, 1, 0, 4, 0, 0};
 
 struct file {
-    uint8_t bytes[16 * LONGEST_FILE];
+    uint8_t bytes[16 * FIKAREHU_MAX_FILE];
     size_t length;
 };
 
@@ -40,38 +41,46 @@ static void make(struct file *file, const uint8_t *table, size_t table_len, cons
     file->length = at;
 }
 
-/* A lambda under a hundred lambdas, in ten bays and with 256 entries: each takes unit, and its result is the next. Each bay has type 101. */
+/* The deepest lambdas, in as many bays as the nodes allow and with all entries. */
+enum {
+    LAMBDAS = FIKAREHU_MAX_NESTING - 1,
+    OUTER_TYPE = LAMBDAS + 2,
+    LAMBDA_BAYS = FIKAREHU_MAX_RECIPE_NODES / FIKAREHU_MAX_NESTING
+};
+
+/* Each lambda takes unit, and its result is the next. */
 static void make_lambdas(struct file *file) {
     uint8_t table[MOST_TABLE];
-    uint8_t term[2 * 99 + 1];
+    uint8_t term[2 * LAMBDAS + 1];
     memcpy(table, table_unit, sizeof table_unit);
-    for (size_t number = 4; number < 256; number++) {
-        memcpy(table + 3 * number, (const uint8_t[]){4, 0, (uint8_t)(number - 1)}, 3);
+    for (size_t number = 4; number < FIKAREHU_MAX_ENTRIES; number++) {
+        const uint8_t entry[] = {FIKAREHU_TYPE_MANY, FIKAREHU_UNIT_ENTRY, (uint8_t)(number - 1)};
+        memcpy(table + FIKAREHU_ENTRY_LENGTH * number, entry, sizeof entry);
     }
-    for (size_t level = 0; level < 99; level++) {
-        term[2 * level] = 1;
-        term[2 * level + 1] = (uint8_t)(101 - level);
+    for (size_t level = 0; level < LAMBDAS; level++) {
+        term[2 * level] = FIKAREHU_TAG_LAMBDA;
+        term[2 * level + 1] = (uint8_t)(OUTER_TYPE - level);
     }
-    term[2 * 99] = 3;
-    make(file, table, sizeof table, term, sizeof term, 10);
+    term[2 * LAMBDAS] = FIKAREHU_TAG_UNIT;
+    make(file, table, sizeof table, term, sizeof term, LAMBDA_BAYS);
 }
 
 /* A file of 8,192 bytes whose one term fills it with that byte, its last byte another one. */
 static void make_full(struct file *file, uint8_t tag, uint8_t last) {
-    static uint8_t term[LONGEST_FILE];
-    size_t length = LONGEST_FILE - 12 - sizeof table_a;
+    static uint8_t term[FIKAREHU_MAX_FILE];
+    size_t length = FIKAREHU_MAX_FILE - 12 - sizeof table_a;
     memset(term, tag, length);
     term[length - 1] = last;
     make(file, table_a, sizeof table_a, term, length, 1);
-    must(file->length == LONGEST_FILE, "the file has 8,192 bytes");
+    must(file->length == FIKAREHU_MAX_FILE, "the file has 8,192 bytes");
 }
 
 /* Half applications and half units: one term of 8,171 bytes, nested more than 4,000 deep. */
 static void make_balanced(struct file *file) {
-    static uint8_t term[LONGEST_FILE];
-    size_t length = LONGEST_FILE - 12 - sizeof table_a;
-    memset(term, 2, length / 2);
-    memset(term + length / 2, 3, length - length / 2);
+    static uint8_t term[FIKAREHU_MAX_FILE];
+    size_t length = FIKAREHU_MAX_FILE - 12 - sizeof table_a;
+    memset(term, FIKAREHU_TAG_APPLICATION, length / 2);
+    memset(term + length / 2, FIKAREHU_TAG_UNIT, length - length / 2);
     make(file, table_a, sizeof table_a, term, length, 1);
 }
 

@@ -9,14 +9,14 @@
 
 #include "../include/fikarehu.h"
 
-enum { LEAST_OUT = 13826, ROOM = 4 * LEAST_OUT };
+enum { ROOM = 4 * FIKAREHU_MAX_IMAGE };
 
 static const uint8_t case_a[] = {0x4C, 0x46, 1, 2, 0x0C, 0, 9, 0, 0x15, 0, 1, 0, 0, 0, 0, 1, 0, 0, 2, 1, 0, 3};
 static const uint8_t image_a[] = {2, 0, 2, 0, 0x0E, 0, 3, 0, 1, 0, 0x11, 0, 1, 0, 4, 0, 0, 3};
 
 static int others_are_zero(const struct fikarehu_loaded *loaded) {
-    static const uint8_t zeros[16];
-    return loaded->bays == 0 && memcmp(loaded->types, zeros, 16) == 0 && loaded->length == 0;
+    static const uint8_t zeros[FIKAREHU_MAX_BAYS];
+    return loaded->bays == 0 && memcmp(loaded->types, zeros, sizeof zeros) == 0 && loaded->length == 0;
 }
 
 /* The end of an out buffer against a page that traps. */
@@ -49,46 +49,52 @@ static void case_a_into(size_t out_length) {
 }
 
 static void short_buffers(void) {
-    static const size_t lengths[] = {0, 1, 17, 18, 19, 8192, LEAST_OUT - 1};
+    static const size_t lengths[] = {0, 1, 17, 18, 19, FIKAREHU_MAX_FILE, FIKAREHU_MAX_IMAGE - 1};
     for (size_t i = 0; i < sizeof lengths / sizeof lengths[0]; i++) {
-        expect_refusal("case A", case_a, sizeof case_a, lengths[i], 12);
-        expect_refusal("no recipe", NULL, 0, lengths[i], 12);
+        expect_refusal("case A", case_a, sizeof case_a, lengths[i], FIKAREHU_REFUSED_BUFFER);
+        expect_refusal("no recipe", NULL, 0, lengths[i], FIKAREHU_REFUSED_BUFFER);
     }
     struct fikarehu_loaded loaded = fikarehu_load(NULL, 0, NULL, 0);
-    CHECK(loaded.refusal == 12, "no recipe and no buffer: refusal %u", loaded.refusal);
+    CHECK(loaded.refusal == FIKAREHU_REFUSED_BUFFER, "no recipe and no buffer: refusal %u", loaded.refusal);
 }
 
 static void refused_recipes(void) {
     uint8_t changed[sizeof case_a];
-    expect_refusal("no recipe", NULL, 0, LEAST_OUT, 1);
-    expect_refusal("eleven bytes", case_a, 11, LEAST_OUT, 1);
+    expect_refusal("no recipe", NULL, 0, FIKAREHU_MAX_IMAGE, FIKAREHU_REFUSED_FILE_LENGTH);
+    expect_refusal("eleven bytes", case_a, FIKAREHU_MIN_FILE - 1, FIKAREHU_MAX_IMAGE, FIKAREHU_REFUSED_FILE_LENGTH);
     memcpy(changed, case_a, sizeof case_a);
     changed[1] = 0x47;
-    expect_refusal("another second byte", changed, sizeof changed, LEAST_OUT, 2);
+    expect_refusal("another second byte", changed, sizeof changed, FIKAREHU_MAX_IMAGE, FIKAREHU_REFUSED_OPENING);
     memcpy(changed, case_a, sizeof case_a);
-    changed[sizeof case_a - 1] = 10;
-    expect_refusal("an unknown tag", changed, sizeof changed, LEAST_OUT, 5);
+    changed[sizeof case_a - 1] = FIKAREHU_TAG_NAME + 1;
+    expect_refusal("an unknown tag", changed, sizeof changed, FIKAREHU_MAX_IMAGE, FIKAREHU_REFUSED_NO_TERM);
 }
 
-/* The files that take most of the stack. Ten bays give twenty names: 2 + 120 bytes of heads, a cell's num of three bytes and a term for each. */
+/* The image of the lambdas: two names for each bay; a setting has three bytes. */
+enum { LAMBDA_IMAGE = FIKAREHU_FIRST_HEAD + LAMBDA_BAYS * (2 * FIKAREHU_HEAD_LENGTH + 3 + 2 * LAMBDAS + 1) };
+
+/* The files that take most of the stack. */
 static void worst_recipes(void) {
     static struct file file;
-    make_full(&file, 2, 2);
-    expect_refusal("applications and nothing else", file.bytes, file.length, LEAST_OUT, 5);
+    make_full(&file, FIKAREHU_TAG_APPLICATION, FIKAREHU_TAG_APPLICATION);
+    expect_refusal("applications and nothing else", file.bytes, file.length, FIKAREHU_MAX_IMAGE,
+                   FIKAREHU_REFUSED_NO_TERM);
     make_balanced(&file);
-    expect_refusal("applications closed by units", file.bytes, file.length, LEAST_OUT, 6);
+    expect_refusal("applications closed by units", file.bytes, file.length, FIKAREHU_MAX_IMAGE,
+                   FIKAREHU_REFUSED_TERM_SIZE);
     make_lambdas(&file);
-    uint8_t *out = out_end() - LEAST_OUT;
-    fill(out, LEAST_OUT);
-    struct fikarehu_loaded loaded = fikarehu_load(file.bytes, file.length, out, LEAST_OUT);
-    CHECK(loaded.refusal == 0 && loaded.bays == 10, "lambdas: refusal %u, %u bays", loaded.refusal, loaded.bays);
-    CHECK(loaded.length == 2 + 6 * 20 + 10 * (3 + 199), "lambdas: length %llu", (unsigned long long)loaded.length);
-    CHECK(kept(out, loaded.length, LEAST_OUT), "lambdas: written beyond the image");
+    uint8_t *out = out_end() - FIKAREHU_MAX_IMAGE;
+    fill(out, FIKAREHU_MAX_IMAGE);
+    struct fikarehu_loaded loaded = fikarehu_load(file.bytes, file.length, out, FIKAREHU_MAX_IMAGE);
+    CHECK(loaded.refusal == 0 && loaded.bays == LAMBDA_BAYS, "lambdas: refusal %u, %u bays", loaded.refusal,
+          loaded.bays);
+    CHECK(loaded.length == LAMBDA_IMAGE, "lambdas: length %llu", (unsigned long long)loaded.length);
+    CHECK(kept(out, loaded.length, FIKAREHU_MAX_IMAGE), "lambdas: written beyond the image");
 }
 
 static void *on_a_thread(void *nothing) {
-    case_a_into(LEAST_OUT);
-    case_a_into(LEAST_OUT + 1);
+    case_a_into(FIKAREHU_MAX_IMAGE);
+    case_a_into(FIKAREHU_MAX_IMAGE + 1);
     case_a_into(ROOM);
     refused_recipes();
     worst_recipes();

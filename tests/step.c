@@ -9,7 +9,7 @@
 
 #include "../include/fikarehu.h"
 
-enum { LEAST_OUT = 13826, MOST_NODES = 4096, ROOM = 1 << 17 };
+enum { ROOM = 1 << 17 };
 
 /* The image placed against a page that traps. */
 static const uint8_t *place(const uint8_t *image, size_t length) {
@@ -44,21 +44,21 @@ static void expect(const char *what, const uint8_t *image, size_t length, uint64
 }
 
 static void expect_refusal(const char *what, const uint8_t *image, size_t length, uint64_t thread, uint32_t number) {
-    expect(what, image, length, thread, LEAST_OUT, FIKAREHU_REFUSED, number);
+    expect(what, image, length, thread, FIKAREHU_MAX_IMAGE, FIKAREHU_REFUSED, number);
 }
 
 /* A step by that rule to that image. */
 static void expect_rule(const char *what, const uint8_t *image, size_t length, uint64_t thread, uint32_t rule,
                         const uint8_t *next, size_t next_length) {
-    uint8_t *out = out_end() - LEAST_OUT;
-    fill(out, LEAST_OUT);
-    struct fikarehu_stepped stepped = fikarehu_step(place(image, length), length, thread, out, LEAST_OUT);
+    uint8_t *out = out_end() - FIKAREHU_MAX_IMAGE;
+    fill(out, FIKAREHU_MAX_IMAGE);
+    struct fikarehu_stepped stepped = fikarehu_step(place(image, length), length, thread, out, FIKAREHU_MAX_IMAGE);
     CHECK(stepped.outcome == FIKAREHU_RULE, "%s: outcome %u, number %u", what, stepped.outcome, stepped.number);
     CHECK(stepped.number == rule, "%s: rule %u, expected %u", what, stepped.number, rule);
     CHECK(stepped.length == next_length, "%s: length %llu, expected %zu", what, (unsigned long long)stepped.length,
           next_length);
     CHECK(memcmp(out, next, next_length) == 0, "%s: another image", what);
-    CHECK(kept(out, next_length, LEAST_OUT), "%s: written beyond the image", what);
+    CHECK(kept(out, next_length, FIKAREHU_MAX_IMAGE), "%s: written beyond the image", what);
 }
 
 #define BYTES(...) ((const uint8_t[]){__VA_ARGS__}), sizeof((const uint8_t[]){__VA_ARGS__})
@@ -66,67 +66,74 @@ static void expect_rule(const char *what, const uint8_t *image, size_t length, u
 /* Case B: the setting becomes 250. */
 static void case_b(void) {
     expect_rule("case B", BYTES(2, 0, 2, 0, 14, 0, 3, 0, 1, 0, 17, 0, 9, 0, 4, 0, 0, 2, 2, 6, 4, 9, 0, 4, 0xFA, 0), 1,
-                7, BYTES(2, 0, 2, 0, 14, 0, 3, 0, 1, 0, 17, 0, 3, 0, 4, 0xFA, 0, 4, 0, 0));
+                FIKAREHU_CELL_EXCH, BYTES(2, 0, 2, 0, 14, 0, 3, 0, 1, 0, 17, 0, 3, 0, 4, 0xFA, 0, 4, 0, 0));
 }
 
 /* Each rule on its own, in Fig. 5's order. */
 static void every_rule(void) {
-    expect_rule("rule 1", BYTES(1, 0, 1, 0, 8, 0, 6, 0, 2, 1, 9, 0, 0, 3), 0, 1, BYTES(1, 0, 1, 0, 8, 0, 1, 0, 3));
-    expect_rule("rule 2", BYTES(1, 0, 1, 0, 8, 0, 4, 0, 2, 7, 5, 3), 0, 2,
+    expect_rule("rule 1", BYTES(1, 0, 1, 0, 8, 0, 6, 0, 2, 1, 9, 0, 0, 3), 0, FIKAREHU_BETA, BYTES(1, 0, 1, 0, 8, 0,
+                1, 0, 3));
+    expect_rule("rule 2", BYTES(1, 0, 1, 0, 8, 0, 4, 0, 2, 7, 5, 3), 0, FIKAREHU_THREAD_NEW,
                 BYTES(2, 0, 1, 0, 14, 0, 2, 0, 1, 0, 16, 0, 4, 0, 9, 1, 2, 3, 9, 1));
-    expect_rule("rule 3", BYTES(2, 0, 1, 0, 14, 0, 4, 0, 1, 0, 18, 0, 1, 0, 2, 9, 1, 3, 3), 0, 3,
+    expect_rule("rule 3", BYTES(2, 0, 1, 0, 14, 0, 4, 0, 1, 0, 18, 0, 1, 0, 2, 9, 1, 3, 3), 0, FIKAREHU_FUTURE_DEREF,
                 BYTES(2, 0, 1, 0, 14, 0, 3, 0, 1, 0, 17, 0, 1, 0, 2, 3, 3, 3));
-    expect_rule("rule 4", BYTES(1, 0, 1, 0, 8, 0, 4, 0, 2, 8, 5, 3), 0, 4,
+    expect_rule("rule 4", BYTES(1, 0, 1, 0, 8, 0, 4, 0, 2, 8, 5, 3), 0, FIKAREHU_HANDLE_NEW,
                 BYTES(3, 0, 1, 0, 20, 0, 7, 0, 5, 0, 27, 0, 0, 0, 3, 1, 27, 0, 0, 0, 2, 2, 3, 9, 1, 9, 2));
-    expect_rule("rule 5", BYTES(3, 0, 1, 0, 20, 0, 4, 0, 5, 0, 24, 0, 0, 0, 3, 1, 24, 0, 0, 0, 2, 9, 2, 3), 0, 5,
+    expect_rule("rule 5", BYTES(3, 0, 1, 0, 20, 0, 4, 0, 5, 0, 24, 0, 0, 0, 3, 1, 24, 0, 0, 0, 2, 9, 2, 3), 0,
+                FIKAREHU_HANDLE_BIND,
                 BYTES(3, 0, 1, 0, 20, 0, 1, 0, 1, 0, 21, 0, 1, 0, 4, 0, 22, 0, 0, 0, 3, 3));
-    expect_rule("rule 6", BYTES(1, 0, 1, 0, 8, 0, 4, 0, 2, 5, 5, 3), 0, 6,
+    expect_rule("rule 6", BYTES(1, 0, 1, 0, 8, 0, 4, 0, 2, 5, 5, 3), 0, FIKAREHU_CELL_NEW,
                 BYTES(2, 0, 1, 0, 14, 0, 2, 0, 2, 0, 16, 0, 1, 0, 9, 1, 3));
     case_b();
 }
 
 static void other_answers(void) {
-    expect("done", BYTES(1, 0, 1, 0, 8, 0, 1, 0, 3), 0, LEAST_OUT, FIKAREHU_DONE, 0);
-    expect("waiting for itself", BYTES(1, 0, 1, 0, 8, 0, 4, 0, 2, 9, 0, 3), 0, LEAST_OUT, FIKAREHU_WAITING, 0);
+    expect("done", BYTES(1, 0, 1, 0, 8, 0, 1, 0, 3), 0, FIKAREHU_MAX_IMAGE, FIKAREHU_DONE, 0);
+    expect("waiting for itself", BYTES(1, 0, 1, 0, 8, 0, 4, 0, 2, 9, 0, 3), 0, FIKAREHU_MAX_IMAGE, FIKAREHU_WAITING, 0);
     expect("waiting for a future", BYTES(3, 0, 1, 0, 20, 0, 4, 0, 5, 0, 24, 0, 0, 0, 3, 1, 24, 0, 0, 0, 2, 9, 1, 3), 0,
-           LEAST_OUT, FIKAREHU_WAITING, 1);
-    expect_refusal("a used handle applied", BYTES(2, 0, 1, 0, 14, 0, 4, 0, 4, 0, 18, 0, 0, 0, 2, 9, 1, 3), 0, 16);
-    expect_refusal("a cell applied", BYTES(2, 0, 1, 0, 14, 0, 4, 0, 2, 0, 18, 0, 1, 0, 2, 9, 1, 3, 3), 0, 17);
-    expect_refusal("unit applied", BYTES(1, 0, 1, 0, 8, 0, 3, 0, 2, 3, 3), 0, 17);
+           FIKAREHU_MAX_IMAGE, FIKAREHU_WAITING, 1);
+    expect_refusal("a used handle applied", BYTES(2, 0, 1, 0, 14, 0, 4, 0, 4, 0, 18, 0, 0, 0, 2, 9, 1, 3), 0,
+                   FIKAREHU_REFUSED_USED_HANDLE);
+    expect_refusal("a cell applied", BYTES(2, 0, 1, 0, 14, 0, 4, 0, 2, 0, 18, 0, 1, 0, 2, 9, 1, 3, 3), 0,
+                   FIKAREHU_REFUSED_WRONG_KIND);
+    expect_refusal("unit applied", BYTES(1, 0, 1, 0, 8, 0, 3, 0, 2, 3, 3), 0, FIKAREHU_REFUSED_WRONG_KIND);
 }
 
 static void broken_images(void) {
-    expect_refusal("no bytes", NULL, 0, 0, 13);
-    expect_refusal("one byte", BYTES(0), 0, 13);
-    expect_refusal("a byte over", BYTES(1, 0, 1, 0, 8, 0, 1, 0, 3, 3), 0, 13);
-    expect_refusal("a byte over that the head tells of", BYTES(1, 0, 1, 0, 8, 0, 2, 0, 3, 3), 0, 13);
-    expect_refusal("cut", BYTES(1, 0, 1, 0, 8, 0, 1, 0), 0, 13);
-    expect_refusal("kind 6", BYTES(1, 0, 6, 0, 8, 0, 1, 0, 3), 0, 13);
-    expect_refusal("a companion", BYTES(1, 0, 1, 1, 8, 0, 1, 0, 3), 0, 13);
-    expect_refusal("a free variable", BYTES(1, 0, 1, 0, 8, 0, 2, 0, 0, 0), 0, 13);
-    expect_refusal("name 1 of one", BYTES(1, 0, 1, 0, 8, 0, 2, 0, 9, 1), 0, 13);
-    expect_refusal("num 1001", BYTES(1, 0, 1, 0, 8, 0, 3, 0, 4, 0xE9, 3), 0, 13);
-    expect_refusal("a cell with no value", BYTES(1, 0, 2, 0, 8, 0, 3, 0, 2, 3, 3), 0, 13);
-    expect_refusal("a future without a handle", BYTES(1, 0, 5, 0, 8, 0, 0, 0), 0, 13);
+    expect_refusal("no bytes", NULL, 0, 0, FIKAREHU_REFUSED_IMAGE);
+    expect_refusal("one byte", BYTES(0), 0, FIKAREHU_REFUSED_IMAGE);
+    expect_refusal("a byte over", BYTES(1, 0, 1, 0, 8, 0, 1, 0, 3, 3), 0, FIKAREHU_REFUSED_IMAGE);
+    expect_refusal("a byte over that the head tells of", BYTES(1, 0, 1, 0, 8, 0, 2, 0, 3, 3), 0,
+                   FIKAREHU_REFUSED_IMAGE);
+    expect_refusal("cut", BYTES(1, 0, 1, 0, 8, 0, 1, 0), 0, FIKAREHU_REFUSED_IMAGE);
+    expect_refusal("kind 6", BYTES(1, 0, 6, 0, 8, 0, 1, 0, 3), 0, FIKAREHU_REFUSED_IMAGE);
+    expect_refusal("a companion", BYTES(1, 0, 1, 1, 8, 0, 1, 0, 3), 0, FIKAREHU_REFUSED_IMAGE);
+    expect_refusal("a free variable", BYTES(1, 0, 1, 0, 8, 0, 2, 0, 0, 0), 0, FIKAREHU_REFUSED_IMAGE);
+    expect_refusal("name 1 of one", BYTES(1, 0, 1, 0, 8, 0, 2, 0, 9, 1), 0, FIKAREHU_REFUSED_IMAGE);
+    expect_refusal("num 1001", BYTES(1, 0, 1, 0, 8, 0, 3, 0, 4, 0xE9, 3), 0, FIKAREHU_REFUSED_IMAGE);
+    expect_refusal("a cell with no value", BYTES(1, 0, 2, 0, 8, 0, 3, 0, 2, 3, 3), 0, FIKAREHU_REFUSED_IMAGE);
+    expect_refusal("a future without a handle", BYTES(1, 0, 5, 0, 8, 0, 0, 0), 0, FIKAREHU_REFUSED_IMAGE);
 }
 
 static void no_threads(void) {
-    static const uint64_t numbers[] = {1, 2, 255, 256, 65536, 1ULL << 32, UINT64_MAX};
-    expect_refusal("an image without names", BYTES(0, 0), 0, 14);
+    static const uint64_t numbers[] = {1, 2, FIKAREHU_MAX_NAMES - 1, FIKAREHU_MAX_NAMES, 65536, 1ULL << 32, UINT64_MAX};
+    expect_refusal("an image without names", BYTES(0, 0), 0, FIKAREHU_REFUSED_NO_THREAD);
     for (size_t i = 0; i < sizeof numbers / sizeof numbers[0]; i++) {
-        expect_refusal("no thread", BYTES(1, 0, 1, 0, 8, 0, 1, 0, 3), numbers[i], 14);
+        expect_refusal("no thread", BYTES(1, 0, 1, 0, 8, 0, 1, 0, 3), numbers[i], FIKAREHU_REFUSED_NO_THREAD);
     }
-    expect_refusal("a cell", BYTES(1, 0, 2, 0, 8, 0, 1, 0, 3), 0, 14);
+    expect_refusal("a cell", BYTES(1, 0, 2, 0, 8, 0, 1, 0, 3), 0, FIKAREHU_REFUSED_NO_THREAD);
 }
 
 static void short_buffers(void) {
-    static const size_t lengths[] = {0, 1, 100, LEAST_OUT - 1};
+    static const size_t lengths[] = {0, 1, 100, FIKAREHU_MAX_IMAGE - 1};
     for (size_t i = 0; i < sizeof lengths / sizeof lengths[0]; i++) {
-        expect("a short buffer", BYTES(1, 0, 1, 0, 8, 0, 1, 0, 3), 0, lengths[i], FIKAREHU_REFUSED, 12);
-        expect("a short buffer and no image", NULL, 0, 9, lengths[i], FIKAREHU_REFUSED, 12);
+        expect("a short buffer", BYTES(1, 0, 1, 0, 8, 0, 1, 0, 3), 0, lengths[i], FIKAREHU_REFUSED,
+               FIKAREHU_REFUSED_BUFFER);
+        expect("a short buffer and no image", NULL, 0, 9, lengths[i], FIKAREHU_REFUSED, FIKAREHU_REFUSED_BUFFER);
     }
     struct fikarehu_stepped stepped = fikarehu_step(NULL, 0, 0, NULL, 0);
-    CHECK(stepped.outcome == FIKAREHU_REFUSED && stepped.number == 12, "no image and no buffer: number %u",
+    CHECK(stepped.outcome == FIKAREHU_REFUSED && stepped.number == FIKAREHU_REFUSED_BUFFER,
+          "no image and no buffer: number %u",
           stepped.number);
 }
 
@@ -140,34 +147,34 @@ static size_t large_image(size_t expression) {
 
 /* Thousands of levels: applications to the left, to the right, exch after exch, lambdas. */
 static void deepest(void) {
-    size_t half = MOST_NODES / 2 - 1;
-    memset(large + 8, 2, half);
-    memset(large + 8 + half, 3, half + 1);
-    expect_refusal("applications to the left", large, large_image(2 * half + 1), 0, 17);
+    size_t half = FIKAREHU_MAX_NODES / 2 - 1;
+    memset(large + 8, FIKAREHU_TAG_APPLICATION, half);
+    memset(large + 8 + half, FIKAREHU_TAG_UNIT, half + 1);
+    expect_refusal("applications to the left", large, large_image(2 * half + 1), 0, FIKAREHU_REFUSED_WRONG_KIND);
     for (size_t level = 0; level < half; level++) {
-        memcpy(large + 8 + 2 * level, (const uint8_t[]){2, 3}, 2);
+        memcpy(large + 8 + 2 * level, (const uint8_t[]){FIKAREHU_TAG_APPLICATION, FIKAREHU_TAG_UNIT}, 2);
     }
-    large[8 + 2 * half] = 3;
-    expect_refusal("applications to the right", large, large_image(2 * half + 1), 0, 17);
+    large[8 + 2 * half] = FIKAREHU_TAG_UNIT;
+    expect_refusal("applications to the right", large, large_image(2 * half + 1), 0, FIKAREHU_REFUSED_WRONG_KIND);
     for (size_t level = 0; level < half; level++) {
-        memcpy(large + 8 + 3 * level, (const uint8_t[]){2, 6, 1}, 3);
+        memcpy(large + 8 + 3 * level, (const uint8_t[]){FIKAREHU_TAG_APPLICATION, FIKAREHU_TAG_EXCH, 1}, 3);
     }
-    large[8 + 3 * half] = 3;
-    expect("exch after exch", large, large_image(3 * half + 1), 0, LEAST_OUT, FIKAREHU_DONE, 0);
-    memset(large + 8, 1, 2 * (MOST_NODES - 1));
-    large[8 + 2 * (MOST_NODES - 1)] = 3;
-    expect("lambdas", large, large_image(2 * (MOST_NODES - 1) + 1), 0, LEAST_OUT, FIKAREHU_DONE, 0);
+    large[8 + 3 * half] = FIKAREHU_TAG_UNIT;
+    expect("exch after exch", large, large_image(3 * half + 1), 0, FIKAREHU_MAX_IMAGE, FIKAREHU_DONE, 0);
+    memset(large + 8, FIKAREHU_TAG_LAMBDA, 2 * (FIKAREHU_MAX_NODES - 1));
+    large[8 + 2 * (FIKAREHU_MAX_NODES - 1)] = FIKAREHU_TAG_UNIT;
+    expect("lambdas", large, large_image(2 * (FIKAREHU_MAX_NODES - 1) + 1), 0, FIKAREHU_MAX_IMAGE, FIKAREHU_DONE, 0);
 }
 
 /* Slices far past the limits, full of applications. */
 static void too_large(void) {
-    static const size_t lengths[] = {MOST_NODES + 1, LEAST_OUT - 8, LEAST_OUT - 7, 65535};
+    static const size_t lengths[] = {FIKAREHU_MAX_NODES + 1, FIKAREHU_MAX_IMAGE - 8, FIKAREHU_MAX_IMAGE - 7, 65535};
     for (size_t i = 0; i < sizeof lengths / sizeof lengths[0]; i++) {
-        memset(large + 8, 2, lengths[i]);
-        expect_refusal("applications and nothing else", large, large_image(lengths[i]), 0, 13);
+        memset(large + 8, FIKAREHU_TAG_APPLICATION, lengths[i]);
+        expect_refusal("applications and nothing else", large, large_image(lengths[i]), 0, FIKAREHU_REFUSED_IMAGE);
     }
     memset(large, 0xFF, sizeof large);
-    expect_refusal("65,535 names", large, sizeof large, 0, 13);
+    expect_refusal("65,535 names", large, sizeof large, 0, FIKAREHU_REFUSED_IMAGE);
 }
 
 static void *everything(void *nothing) {

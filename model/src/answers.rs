@@ -1,7 +1,7 @@
 //! The answers of the C interface, laid out as `include/fikarehu.h` has them, and the model's
 //! answers in that form.
 
-use crate::limits::BAYS;
+use crate::limits::MAX_BAYS;
 use crate::load::{self, Loaded};
 use crate::plain;
 use crate::step::{self, Outcome};
@@ -13,7 +13,7 @@ use crate::verdict::{self, Verdict};
 pub struct VerdictAnswer {
     pub refusal: u32,
     pub bays: u32,
-    pub types: [u8; BAYS],
+    pub types: [u8; MAX_BAYS],
 }
 
 /// `struct fikarehu_loaded`
@@ -22,7 +22,7 @@ pub struct VerdictAnswer {
 pub struct LoadedAnswer {
     pub refusal: u32,
     pub bays: u32,
-    pub types: [u8; BAYS],
+    pub types: [u8; MAX_BAYS],
     pub length: u64,
 }
 
@@ -41,8 +41,8 @@ pub const WAITING: u32 = 2;
 pub const REFUSED: u32 = 3;
 
 /// The types of the bays, zeros beyond.
-fn sixteen(types: &[u8]) -> [u8; BAYS] {
-    let mut all = [0; BAYS];
+fn sixteen(types: &[u8]) -> [u8; MAX_BAYS] {
+    let mut all = [0; MAX_BAYS];
     all[..types.len()].copy_from_slice(types);
     all
 }

@@ -14,7 +14,7 @@ use std::fmt;
 /// Room for the longest file or image that the generator makes.
 const INPUT_ROOM: usize = 1 << 17;
 /// Room for the longest out buffer.
-const OUT_ROOM: usize = 2 * limits::IMAGE_BYTES;
+const OUT_ROOM: usize = 2 * limits::MAX_IMAGE;
 /// After how many recipes every constant is tried at every type of another table.
 const TABLE_EVERY: u64 = 5_000;
 /// The most steps of one run.
@@ -149,8 +149,9 @@ impl<'a, I: Implementation> Comparison<'a, I> {
         let pattern = pattern(&self.pattern, draw, length);
         let out = self.out.last(length);
         out.copy_from_slice(pattern);
-        let Some(found) = self.implementation.load(self.input.place(file), out) else {
-            return Ok(());
+        let found = match self.implementation.load(self.input.place(file), out) {
+            Some(found) => found,
+            None => return Ok(()),
         };
         self.expected_out.clear();
         self.expected_out.extend_from_slice(pattern);
@@ -170,7 +171,7 @@ impl<'a, I: Implementation> Comparison<'a, I> {
 
     /// A run: random threads and buffers, refused and idle steps among them.
     pub fn compare_run(&mut self, draw: &mut Draw, file: &[u8]) -> Result<(), Difference> {
-        let mut out = vec![0; limits::IMAGE_BYTES];
+        let mut out = vec![0; limits::MAX_IMAGE];
         let loaded = Model.load(file, &mut out).unwrap_or_default();
         let mut image = out[..loaded.length as usize].to_vec();
         let mut thread = images::thread_number(draw, &image);
@@ -210,8 +211,9 @@ impl<'a, I: Implementation> Comparison<'a, I> {
         let out = self.out.last(length);
         out.copy_from_slice(pattern);
         let placed = self.input.place(image);
-        let Some(found) = self.implementation.step(placed, thread, out) else {
-            return Ok(None);
+        let found = match self.implementation.step(placed, thread, out) {
+            Some(found) => found,
+            None => return Ok(None),
         };
         self.expected_out.clear();
         self.expected_out.extend_from_slice(pattern);
@@ -239,8 +241,9 @@ fn pattern<'p>(bytes: &'p [u8], draw: &mut Draw, length: usize) -> &'p [u8] {
 
 /// Accepted exactly when every term has a derivation by Fig. 9 with a type of multiplicity many.
 fn derivations_agree(file: &[u8], answer: &VerdictAnswer) -> Result<(), Difference> {
-    let Some((table, terms)) = read_recipe(file) else {
-        return Ok(());
+    let (table, terms) = match read_recipe(file) {
+        Some(found) => found,
+        None => return Ok(()),
     };
     let derived = derived_types(&table, &terms);
     let numbers: Option<Vec<u8>> =

@@ -52,7 +52,7 @@ impl Configuration {
 
     /// "At most 256 names and 4,096 nodes in all"
     pub fn is_within_limits(&self) -> bool {
-        self.names() <= limits::NAMES && self.nodes() <= limits::IMAGE_NODES
+        self.names() <= limits::MAX_NAMES && self.nodes() <= limits::MAX_NODES
     }
 
     /// The configuration with another component under that name.

@@ -46,8 +46,9 @@ pub fn find(e: &Rc<Expression>) -> Found {
     let mut outer = Vec::new();
     let mut here = e.clone();
     loop {
-        let Expression::Application(function, argument) = &*here else {
-            unreachable!("what is no value is an application");
+        let (function, argument) = match &*here {
+            Expression::Application(function, argument) => (function, argument),
+            _ => unreachable!("what is no value is an application"),
         };
         let (function, argument) = (function.clone(), argument.clone());
         if !function.is_value() {

@@ -1,5 +1,6 @@
 //! The example recipes: each a file of bytes and a text that says what it does.
 
+use crate::causes;
 use crate::format::{hexadecimal, Recipe};
 use crate::generate::tables::GrowingTable;
 use crate::limits;
@@ -320,7 +321,7 @@ fn refused_6() -> Example {
     let mut types = Types::new();
     let identity = types.many(UNIT, UNIT);
     let mut term = unit();
-    for _ in 0..limits::NESTING - 1 {
+    for _ in 0..limits::MAX_NESTING - 1 {
         term = apply(lambda(identity, variable(0)), term);
     }
     example("refused-6", text, types.recipe(vec![term]))
@@ -395,7 +396,7 @@ impl Example {
     }
 
     fn verdict_and_run(&self) -> String {
-        let mut out = vec![0; limits::IMAGE_BYTES];
+        let mut out = vec![0; limits::MAX_IMAGE];
         let (types, length) = match load(&self.file(), &mut out) {
             Loaded::Refused(number) => return format!("\nVerdict: {number}.\n"),
             Loaded::Accepted(types, length) => (types, length),
@@ -417,14 +418,14 @@ impl Example {
 /// The answers of steps round by round, until no thread moves or enough is told.
 fn told_run(mut image: Vec<u8>) -> String {
     let mut text = String::new();
-    let mut out = vec![0; limits::IMAGE_BYTES];
+    let mut out = vec![0; limits::MAX_IMAGE];
     let mut rules = 0;
     loop {
         let before = rules;
         let names = u64::from(image[0]);
         for thread in 0..names {
             let told = match step(&image, thread, &mut out) {
-                Outcome::Refused(14) => continue,
+                Outcome::Refused(causes::NO_THREAD) => continue,
                 Outcome::Rule(rule, length) => {
                     image = out[..length].to_vec();
                     rules += 1;

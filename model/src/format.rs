@@ -54,8 +54,8 @@ fn parts(file: &[u8]) -> Option<Vec<&[u8]>> {
 pub fn table_and_terms(file: &[u8]) -> Option<(&[u8], Vec<&[u8]>)> {
     let parts = parts(file)?;
     let (table, terms) = parts.split_first()?;
-    let entries = table.len() / limits::ENTRY_BYTES;
-    let whole = table.len() % limits::ENTRY_BYTES == 0;
+    let entries = table.len() / limits::ENTRY_LENGTH;
+    let whole = table.len() % limits::ENTRY_LENGTH == 0;
     (whole && limits::ENTRIES.contains(&entries)).then(|| (*table, terms.to_vec()))
 }
 

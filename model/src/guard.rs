@@ -1,7 +1,7 @@
 //! A buffer that ends where a page begins that nobody may touch: a read or write past the end of
 //! what is placed in it stops the program.
 
-use std::ffi::{c_int, c_void};
+use std::os::raw::{c_int, c_void};
 
 const NONE: c_int = 0;
 const READ_AND_WRITE: c_int = 1 | 2;
@@ -31,7 +31,7 @@ pub struct Guarded {
 impl Guarded {
     /// A buffer with room for at least that many bytes.
     pub fn new(least: usize) -> Guarded {
-        let room = least.max(1).div_ceil(PAGE) * PAGE;
+        let room = (least.max(1) + PAGE - 1) / PAGE * PAGE;
         let whole = room + 2 * PAGE;
         // SAFETY: a new private mapping, and only its inner pages are opened.
         unsafe {

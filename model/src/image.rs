@@ -2,15 +2,10 @@
 
 use crate::config::{Component, Configuration};
 use crate::expression::Expression;
+use crate::kinds::{CELL, FUTURE, OPEN_HANDLE, THREAD, USED_HANDLE};
 use crate::limits;
 use crate::nodes::{read_term, standings, write_term, Node};
 use std::rc::Rc;
-
-const THREAD: u8 = 1;
-const CELL: u8 = 2;
-const OPEN_HANDLE: u8 = 3;
-const USED_HANDLE: u8 = 4;
-const FUTURE: u8 = 5;
 
 /// "heads of six bytes: kind, companion byte, offset, length"
 #[derive(Debug, Clone, Copy, PartialEq, Eq)]
@@ -29,7 +24,7 @@ impl Head {
 
 /// Where the heads end.
 fn end_of_heads(m: usize) -> usize {
-    limits::COUNT_BYTES + limits::HEAD_BYTES * m
+    limits::FIRST_HEAD + limits::HEAD_LENGTH * m
 }
 
 fn two_byte_number(bytes: &[u8]) -> usize {
@@ -38,21 +33,21 @@ fn two_byte_number(bytes: &[u8]) -> usize {
 
 /// "It starts with a two-byte m, the number of names. Then come m heads of six bytes"
 fn heads(image: &[u8]) -> Option<Vec<Head>> {
-    let m = two_byte_number(image.get(..limits::COUNT_BYTES)?);
-    let bytes = image.get(limits::COUNT_BYTES..end_of_heads(m))?;
+    let m = two_byte_number(image.get(..limits::FIRST_HEAD)?);
+    let bytes = image.get(limits::FIRST_HEAD..end_of_heads(m))?;
     let head = |b: &[u8]| Head {
         kind: b[0],
         companion: b[1],
         offset: two_byte_number(&b[2..4]),
         length: two_byte_number(&b[4..6]),
     };
-    Some(bytes.chunks_exact(limits::HEAD_BYTES).map(head).collect())
+    Some(bytes.chunks_exact(limits::HEAD_LENGTH).map(head).collect())
 }
 
 /// The configuration of an image, or `None` when it breaks a rule or limit (refusal 13).
 pub fn read_image(image: &[u8]) -> Option<Configuration> {
     let heads = heads(image)?;
-    let sound = heads.len() <= limits::NAMES
+    let sound = heads.len() <= limits::MAX_NAMES
         && kinds_are_known(&heads)
         && expressions_are_laid_out(&heads, image.len())
         && others_have_no_expression(&heads)
@@ -63,7 +58,7 @@ pub fn read_image(image: &[u8]) -> Option<Configuration> {
     }
     let terms = read_expressions(&heads, image)?;
     let nodes: usize = terms.iter().flatten().map(Vec::len).sum();
-    let fits = nodes <= limits::IMAGE_NODES
+    let fits = nodes <= limits::MAX_NODES
         && terms.iter().flatten().all(|term| variables_are_bound(term))
         && terms
             .iter()

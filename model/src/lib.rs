@@ -2,7 +2,10 @@
 //! document and from the figures of the paper on the concurrent lambda calculus with futures.
 //! It is written to be read and to be compared with the proved library, not to be fast.
 
+#![deny(unsafe_op_in_unsafe_fn)]
+
 pub mod answers;
+pub mod causes;
 pub mod command;
 pub mod comparison;
 pub mod config;
@@ -16,14 +19,18 @@ pub mod format;
 pub mod generate;
 pub mod guard;
 pub mod image;
+pub mod kinds;
 pub mod limits;
 pub mod load;
 pub mod nodes;
 pub mod plain;
 pub mod reduce;
+pub mod rows;
+pub mod rules;
 pub mod run;
 pub mod step;
 pub mod table;
+pub mod tags;
 pub mod timing;
 pub mod tool;
 pub mod types;

@@ -1,4 +1,4 @@
-//! Document 01, "Limits" and "The image": each limit once, by name.
+//! Document 01, "Limits" and "The image": each limit once, by the name that the header has for it.
 
 use std::ops::RangeInclusive;
 
@@ -7,28 +7,36 @@ pub const OPENING: [u8; 2] = [0x4C, 0x46];
 /// Byte 2 of a recipe file.
 pub const EDITION: u8 = 1;
 /// "file 12 to 8,192 bytes"
-pub const FILE_BYTES: RangeInclusive<usize> = 12..=8_192;
+pub const MIN_FILE: usize = 12;
+pub const MAX_FILE: usize = 8_192;
+pub const FILE_BYTES: RangeInclusive<usize> = MIN_FILE..=MAX_FILE;
 /// "2 to 17 parts"
-pub const PARTS: RangeInclusive<usize> = 2..=17;
+pub const MIN_PARTS: usize = 2;
+pub const MAX_PARTS: usize = 17;
+pub const PARTS: RangeInclusive<usize> = MIN_PARTS..=MAX_PARTS;
 /// The most bays: every part but the type table.
-pub const BAYS: usize = 16;
+pub const MAX_BAYS: usize = MAX_PARTS - 1;
 /// "3 to 256 type entries"
-pub const ENTRIES: RangeInclusive<usize> = 3..=256;
+pub const MIN_ENTRIES: usize = 3;
+pub const MAX_ENTRIES: usize = 256;
+pub const ENTRIES: RangeInclusive<usize> = MIN_ENTRIES..=MAX_ENTRIES;
 /// The bytes of one type entry: kind, p, q.
-pub const ENTRY_BYTES: usize = 3;
+pub const ENTRY_LENGTH: usize = 3;
 /// "nesting 100, the root being 1"
-pub const NESTING: usize = 100;
+pub const MAX_NESTING: usize = 100;
 /// "1,024 nodes over all terms"
-pub const NODES: usize = 1_024;
+pub const MAX_RECIPE_NODES: usize = 1_024;
 /// "constants 0 to 1000"
-pub const NUM: u16 = 1_000;
+pub const MAX_NUM: u16 = 1_000;
 /// "At most 256 names"
-pub const NAMES: usize = 256;
+pub const MAX_NAMES: usize = 256;
 /// "4,096 nodes in all, every node of every expression counted"
-pub const IMAGE_NODES: usize = 4_096;
+pub const MAX_NODES: usize = 4_096;
+/// Where the first head stands, behind the number of names.
+pub const FIRST_HEAD: usize = 2;
 /// The bytes of a head: kind, companion, offset, length.
-pub const HEAD_BYTES: usize = 6;
-/// The bytes of the number of names, before the heads.
-pub const COUNT_BYTES: usize = 2;
+pub const HEAD_LENGTH: usize = 6;
+/// The most bytes of a node.
+pub const MAX_NODE_LENGTH: usize = 3;
 /// "No image is longer than 2 + 6 × 256 + 3 × 4,096 = 13,826 bytes."
-pub const IMAGE_BYTES: usize = COUNT_BYTES + HEAD_BYTES * NAMES + 3 * IMAGE_NODES;
+pub const MAX_IMAGE: usize = FIRST_HEAD + HEAD_LENGTH * MAX_NAMES + MAX_NODE_LENGTH * MAX_NODES;

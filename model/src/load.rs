@@ -1,5 +1,6 @@
 //! Document 01, "Loading": the starting image of an accepted recipe.
 
+use crate::causes;
 use crate::config::{Component, Configuration};
 use crate::expression::Expression;
 use crate::image::write_image;
@@ -34,8 +35,8 @@ pub fn starting_image(file: &[u8]) -> Option<Vec<u8>> {
 
 /// Loading: 12 first, then the verdict, then the image.
 pub fn load(file: &[u8], out: &mut [u8]) -> Loaded {
-    if out.len() < limits::IMAGE_BYTES {
-        return Loaded::Refused(12);
+    if out.len() < limits::MAX_IMAGE {
+        return Loaded::Refused(causes::BUFFER);
     }
     let types = match verdict(file) {
         Verdict::Refused(number) => return Loaded::Refused(number),

@@ -1,6 +1,7 @@
 //! Document 01, the table of node forms; a term as the list of its nodes, root first.
 
 use crate::limits;
+use crate::tags;
 use crate::types::Constant;
 
 /// What follows a tag: the number of bytes, and the number of subterms.
@@ -42,16 +43,16 @@ pub enum Node {
 impl Node {
     pub fn tag(self) -> u8 {
         match self {
-            Node::Variable(_) => 0,
-            Node::Lambda(_) => 1,
-            Node::Application => 2,
-            Node::Unit => 3,
-            Node::Num(_) => 4,
-            Node::Constant(Constant::Cell, _) => 5,
-            Node::Constant(Constant::Exch, _) => 6,
-            Node::Constant(Constant::Thread, _) => 7,
-            Node::Constant(Constant::Handle, _) => 8,
-            Node::Name(_) => 9,
+            Node::Variable(_) => tags::VARIABLE,
+            Node::Lambda(_) => tags::LAMBDA,
+            Node::Application => tags::APPLICATION,
+            Node::Unit => tags::UNIT,
+            Node::Num(_) => tags::NUM,
+            Node::Constant(Constant::Cell, _) => tags::CELL,
+            Node::Constant(Constant::Exch, _) => tags::EXCH,
+            Node::Constant(Constant::Thread, _) => tags::THREAD,
+            Node::Constant(Constant::Handle, _) => tags::HANDLE,
+            Node::Name(_) => tags::NAME,
         }
     }
 
@@ -70,18 +71,18 @@ impl Node {
     /// The node of that tag, from the bytes after it; `None` for a num above its limit.
     fn read(tag: u8, after: &[u8]) -> Option<Node> {
         Some(match tag {
-            0 => Node::Variable(after[0]),
-            1 => Node::Lambda(after[0]),
-            2 => Node::Application,
-            3 => Node::Unit,
-            4 => {
+            tags::VARIABLE => Node::Variable(after[0]),
+            tags::LAMBDA => Node::Lambda(after[0]),
+            tags::APPLICATION => Node::Application,
+            tags::UNIT => Node::Unit,
+            tags::NUM => {
                 let value = u16::from_le_bytes([after[0], after[1]]);
-                return (value <= limits::NUM).then_some(Node::Num(value));
+                return (value <= limits::MAX_NUM).then_some(Node::Num(value));
             }
-            5 => Node::Constant(Constant::Cell, after[0]),
-            6 => Node::Constant(Constant::Exch, after[0]),
-            7 => Node::Constant(Constant::Thread, after[0]),
-            8 => Node::Constant(Constant::Handle, after[0]),
+            tags::CELL => Node::Constant(Constant::Cell, after[0]),
+            tags::EXCH => Node::Constant(Constant::Exch, after[0]),
+            tags::THREAD => Node::Constant(Constant::Thread, after[0]),
+            tags::HANDLE => Node::Constant(Constant::Handle, after[0]),
             _ => Node::Name(after[0]),
         })
     }
@@ -147,15 +148,16 @@ pub fn standings(nodes: &[Node]) -> Vec<Standing> {
         lambdas: 0,
     }];
     for node in nodes {
-        let Some(here) = coming.pop() else {
-            break;
+        let here = match coming.pop() {
+            Some(here) => here,
+            None => break,
         };
         result.push(here);
         let below = Standing {
             nesting: here.nesting + 1,
             lambdas: here.lambdas + usize::from(matches!(node, Node::Lambda(_))),
         };
-        coming.extend(std::iter::repeat_n(below, node.subterms()));
+        coming.extend(std::iter::repeat(below).take(node.subterms()));
     }
     result
 }

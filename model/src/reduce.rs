@@ -3,6 +3,7 @@
 use crate::config::{Component, Configuration};
 use crate::context::{find, Context, Found};
 use crate::expression::{apply, Expression};
+use crate::rules;
 use crate::types::Constant;
 use std::rc::Rc;
 
@@ -31,24 +32,26 @@ struct Meeting<'a> {
 
 /// The move of that thread.
 pub fn move_of(configuration: &Configuration, thread: usize) -> Move {
-    let Component::Thread(expression) = &configuration.components[thread] else {
-        unreachable!("only a thread moves");
+    let expression = match &configuration.components[thread] {
+        Component::Thread(expression) => expression,
+        _ => unreachable!("only a thread moves"),
     };
-    let Found::Meeting {
-        context,
-        function,
-        argument,
-    } = find(expression)
-    else {
-        return Move::Done;
-    };
-    let meeting = Meeting {
-        configuration,
-        thread,
-        context,
-        argument,
-    };
-    meeting.with_function(&function)
+    match find(expression) {
+        Found::Value => Move::Done,
+        Found::Meeting {
+            context,
+            function,
+            argument,
+        } => {
+            let meeting = Meeting {
+                configuration,
+                thread,
+                context,
+                argument,
+            };
+            meeting.with_function(&function)
+        }
+    }
 }
 
 impl Meeting<'_> {
@@ -78,7 +81,7 @@ impl Meeting<'_> {
 
     /// (BETA) E[(λy.e) v] → E[e[v/y]]
     fn beta(&self, substituted: Rc<Expression>) -> Move {
-        Move::Rule(1, self.goes_on(substituted))
+        Move::Rule(rules::BETA, self.goes_on(substituted))
     }
 
     /// (THREAD.NEW) E[thread v] → E[y] | y ← v y
@@ -87,7 +90,7 @@ impl Meeting<'_> {
         let mut next = self.goes_on(y.clone());
         let expression = apply(self.argument.clone(), y);
         next.components.push(Component::Thread(expression));
-        Move::Rule(2, next)
+        Move::Rule(rules::THREAD_NEW, next)
     }
 
     /// (HANDLE.NEW) E[handle v] → E[v y z] | z h y, y taking m and z taking m + 1
@@ -99,7 +102,7 @@ impl Meeting<'_> {
         let mut next = self.goes_on(applied);
         next.components.push(Component::Future);
         next.components.push(Component::OpenHandle(y));
-        Move::Rule(4, next)
+        Move::Rule(rules::HANDLE_NEW, next)
     }
 
     /// (CELL.NEW) E[cell v] → E[y] | y c v
@@ -107,7 +110,7 @@ impl Meeting<'_> {
         let y = Rc::new(Expression::Name(self.new_name()));
         let mut next = self.goes_on(y);
         next.components.push(Component::Cell(self.argument.clone()));
-        Move::Rule(6, next)
+        Move::Rule(rules::CELL_NEW, next)
     }
 
     /// A name at the function of an application: F[[] v].
@@ -134,20 +137,24 @@ impl Meeting<'_> {
         if !e.is_value() {
             return Move::Waiting(y);
         }
-        Move::Rule(3, self.goes_on(replaced(e.clone())))
+        Move::Rule(rules::FUTURE_DEREF, self.goes_on(replaced(e.clone())))
     }
 
     /// (HANDLE.BIND) E[z v] | z h y → E[unit] | y ← v | z h •
     fn handle_bind(&self, z: u8, y: u8) -> Move {
         let next = self.goes_on(Rc::new(Expression::Unit));
         let next = next.with(usize::from(y), Component::Thread(self.argument.clone()));
-        Move::Rule(5, next.with(usize::from(z), Component::UsedHandle))
+        Move::Rule(
+            rules::HANDLE_BIND,
+            next.with(usize::from(z), Component::UsedHandle),
+        )
     }
 
     /// The first argument of a full exch: F[exch [] v].
     fn exchange(&self, exch: &Rc<Expression>, first: &Expression) -> Move {
-        let Expression::Name(y) = *first else {
-            return Move::WrongValue;
+        let y = match *first {
+            Expression::Name(y) => y,
+            _ => return Move::WrongValue,
         };
         match self.configuration.get(y) {
             Component::Thread(e) => {

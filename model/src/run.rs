@@ -1,11 +1,13 @@
 //! Document 01, "A run": an accepted recipe, its load, and a list of steps, watched for the claim.
 
+use crate::causes;
 use crate::config::{Component, Configuration};
 use crate::context::{find, Found};
 use crate::expression::Expression;
 use crate::image::read_image;
 use crate::limits;
 use crate::load::{load, Loaded};
+use crate::rules::{CELL_NEW, HANDLE_BIND, HANDLE_NEW, THREAD_NEW};
 use crate::step::{step, Outcome};
 use crate::table::Table;
 use crate::types::{handle_type, Type};
@@ -26,9 +28,10 @@ pub struct Run {
 impl Run {
     /// The run without steps; `None` for a recipe that is not accepted.
     pub fn start(file: &[u8]) -> Option<Run> {
-        let mut out = vec![0; limits::IMAGE_BYTES];
-        let Loaded::Accepted(bay_types, length) = load(file, &mut out) else {
-            return None;
+        let mut out = vec![0; limits::MAX_IMAGE];
+        let (bay_types, length) = match load(file, &mut out) {
+            Loaded::Accepted(bay_types, length) => (bay_types, length),
+            _ => return None,
         };
         let (table, _) = read_recipe(file)?;
         let mut types = vec![setting_type(); bay_types.len()];
@@ -68,14 +71,14 @@ impl Run {
         room: usize,
         outcome: Outcome,
     ) -> Result<(), String> {
-        let short = room < limits::IMAGE_BYTES;
+        let short = room < limits::MAX_IMAGE;
         let place = usize::try_from(thread).ok();
         let component = place.and_then(|place| before.components.get(place));
         let is_thread = matches!(component, Some(Component::Thread(_)));
         let allowed = match outcome {
-            Outcome::Refused(12) => short,
-            Outcome::Refused(14) => !short && !is_thread,
-            Outcome::Refused(15) => !short && is_thread,
+            Outcome::Refused(causes::BUFFER) => short,
+            Outcome::Refused(causes::NO_THREAD) => !short && !is_thread,
+            Outcome::Refused(causes::ROOM) => !short && is_thread,
             Outcome::Refused(_) => false,
             _ => !short && is_thread,
         };
@@ -87,12 +90,15 @@ impl Run {
     /// What a rule makes known: new names and their types, the handle applied, the future bound.
     fn note(&mut self, before: &Configuration, thread: usize, rule: u8) -> Result<(), String> {
         let expression = before.components[thread].expression();
-        let Some(Found::Meeting { function, .. }) = expression.map(find) else {
-            return Err("a rule without a place".to_owned());
+        let function = match expression.map(find) {
+            Some(Found::Meeting { function, .. }) => function,
+            _ => return Err("a rule without a place".to_owned()),
         };
         match (&*function, rule) {
-            (Expression::Constant(_, number), 2 | 4 | 6) => self.note_new_names(*number, rule),
-            (Expression::Name(z), 5) => self.note_handle(before, *z),
+            (Expression::Constant(_, number), THREAD_NEW | HANDLE_NEW | CELL_NEW) => {
+                self.note_new_names(*number, rule)
+            }
+            (Expression::Name(z), HANDLE_BIND) => self.note_handle(before, *z),
             _ => Ok(()),
         }
     }
@@ -101,7 +107,7 @@ impl Run {
     fn note_new_names(&mut self, number: u8, rule: u8) -> Result<(), String> {
         let whole = self.table.get(number).ok_or("a constant without a type")?;
         let (argument, result) = whole.function().ok_or("a constant of no function type")?;
-        if rule != 4 {
+        if rule != HANDLE_NEW {
             self.types.push(result.clone());
             return Ok(());
         }
@@ -114,8 +120,9 @@ impl Run {
 
     /// "no handle is applied in two of its steps and no future is bound in two"
     fn note_handle(&mut self, before: &Configuration, z: u8) -> Result<(), String> {
-        let Component::OpenHandle(y) = before.get(z) else {
-            return Err(format!("rule 5 on {z}, which is no open handle"));
+        let y = match before.get(z) {
+            Component::OpenHandle(y) => y,
+            _ => return Err(format!("rule 5 on {z}, which is no open handle")),
         };
         if self.applied_handles.contains(&z) || self.bound_futures.contains(y) {
             return Err(format!("handle {z} or future {y} a second time"));

@@ -1,5 +1,6 @@
 //! Document 01, "A step": 12, 13, 14, then what the thread does, with 15 where there is no room.
 
+use crate::causes;
 use crate::config::{Component, Configuration};
 use crate::image::{read_image, write_image};
 use crate::limits;
@@ -27,11 +28,12 @@ pub enum Stepped {
 
 /// A step of that thread with an out buffer of that length.
 pub fn stepped(image: &[u8], thread: u64, out_length: usize) -> Stepped {
-    if out_length < limits::IMAGE_BYTES {
-        return Stepped::Refused(12);
+    if out_length < limits::MAX_IMAGE {
+        return Stepped::Refused(causes::BUFFER);
     }
-    let Some(configuration) = read_image(image) else {
-        return Stepped::Refused(13);
+    let configuration = match read_image(image) {
+        Some(configuration) => configuration,
+        None => return Stepped::Refused(causes::IMAGE),
     };
     step_configuration(&configuration, thread)
 }
@@ -40,16 +42,17 @@ pub fn stepped(image: &[u8], thread: u64, out_length: usize) -> Stepped {
 pub fn step_configuration(configuration: &Configuration, thread: u64) -> Stepped {
     let place = usize::try_from(thread).ok();
     let component = place.and_then(|place| configuration.components.get(place));
-    let (Some(place), Some(Component::Thread(_))) = (place, component) else {
-        return Stepped::Refused(14);
+    let place = match (place, component) {
+        (Some(place), Some(Component::Thread(_))) => place,
+        _ => return Stepped::Refused(causes::NO_THREAD),
     };
     match move_of(configuration, place) {
-        Move::Rule(_, next) if !next.is_within_limits() => Stepped::Refused(15),
+        Move::Rule(_, next) if !next.is_within_limits() => Stepped::Refused(causes::ROOM),
         Move::Rule(rule, next) => Stepped::Rule(rule, next),
         Move::Done => Stepped::Done,
         Move::Waiting(name) => Stepped::Waiting(name),
-        Move::UsedHandle => Stepped::Refused(16),
-        Move::WrongValue => Stepped::Refused(17),
+        Move::UsedHandle => Stepped::Refused(causes::USED_HANDLE),
+        Move::WrongValue => Stepped::Refused(causes::WRONG_KIND),
     }
 }
 

@@ -19,14 +19,21 @@ pub const ONCE: u8 = 3;
 pub const MANY: u8 = 4;
 
 /// "Entries 0, 1, 2 are unit, num, cell of num."
-pub const FIRST_ENTRIES: [Entry; 3] = [entry(UNIT, 0, 0), entry(NUM, 0, 0), entry(CELL, 1, 0)];
+pub const UNIT_ENTRY: u8 = 0;
+pub const NUM_ENTRY: u8 = 1;
+pub const SETTING_ENTRY: u8 = 2;
+pub const FIRST_ENTRIES: [Entry; 3] = [
+    entry(UNIT, 0, 0),
+    entry(NUM, 0, 0),
+    entry(CELL, NUM_ENTRY, 0),
+];
 
 pub const fn entry(kind: u8, p: u8, q: u8) -> Entry {
     Entry { kind, p, q }
 }
 
 impl Entry {
-    pub fn bytes(self) -> [u8; limits::ENTRY_BYTES] {
+    pub fn bytes(self) -> [u8; limits::ENTRY_LENGTH] {
         [self.kind, self.p, self.q]
     }
 
@@ -44,7 +51,7 @@ impl Entry {
 
 /// The entries of the table part, whatever they hold; its length is a multiple of three.
 pub fn entries_of(part: &[u8]) -> Vec<Entry> {
-    let triples = part.chunks_exact(limits::ENTRY_BYTES);
+    let triples = part.chunks_exact(limits::ENTRY_LENGTH);
     triples.map(|b| entry(b[0], b[1], b[2])).collect()
 }
 

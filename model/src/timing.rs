@@ -27,6 +27,12 @@ fn processor_time() -> Duration {
     Duration::new(time.seconds as u64, time.nanoseconds as u32)
 }
 
+/// The value itself: the compiler can tell neither where it comes from nor that nobody uses it.
+pub fn opaque<T>(value: T) -> T {
+    // SAFETY: what is read takes the value's place, and the value itself is dropped by nobody.
+    unsafe { std::ptr::read_volatile(&*std::mem::ManuallyDrop::new(value)) }
+}
+
 /// Work to be measured; it answers how many calls it made.
 pub type Work<'a> = Box<dyn FnMut() -> u64 + 'a>;
 

@@ -13,14 +13,16 @@ pub mod run;
 pub mod shared_library;
 pub mod show;
 pub mod svg;
+pub mod terminal;
 pub mod text;
 pub mod write;
 
 use crate::command::on_deep_stack;
 use problem::{Outcome, Problem};
 use std::ffi::OsString;
-use std::io::{self, BufWriter, IsTerminal, Write};
+use std::io::{self, BufWriter, Write};
 use std::process::ExitCode;
+use terminal::{is_terminal, STANDARD_OUTPUT};
 
 /// The tool, with the words of its command line after its own name.
 pub fn main(words: Vec<OsString>) -> ExitCode {
@@ -53,7 +55,7 @@ fn complain(text: &str) {
 fn to_standard_output(words: Vec<OsString>) -> Outcome {
     let stdout = io::stdout().lock();
     // a terminal gets each line at once
-    let mut out: Box<dyn Write> = if stdout.is_terminal() {
+    let mut out: Box<dyn Write> = if is_terminal(STANDARD_OUTPUT) {
         Box::new(stdout)
     } else {
         Box::new(BufWriter::new(stdout))
@@ -64,8 +66,9 @@ fn to_standard_output(words: Vec<OsString>) -> Outcome {
 }
 
 fn command(words: Vec<OsString>, out: &mut dyn Write) -> Outcome {
-    let Some((first, rest)) = words.split_first() else {
-        return Err(help::usage("no command is given"));
+    let (first, rest) = match words.split_first() {
+        Some(found) => found,
+        None => return Err(help::usage("no command is given")),
     };
     if rest.iter().any(|word| word == "--help") {
         return help::command(std::slice::from_ref(first), out);

@@ -70,8 +70,9 @@ pub fn is_instance(constant: Constant, whole: &Type) -> bool {
 /// cell : α →κ (α ref), |α| = ω by the narrowing.
 fn is_cell_instance(whole: &Type) -> Option<()> {
     let (alpha, result) = whole.function()?;
-    let Type::Cell(contents) = &**result else {
-        return None;
+    let contents = match &**result {
+        Type::Cell(contents) => contents,
+        _ => return None,
     };
     (contents == alpha && alpha.is_many()).then_some(())
 }
@@ -79,8 +80,9 @@ fn is_cell_instance(whole: &Type) -> Option<()> {
 /// exch : α ref →κ α →κ' α, |α| = ω by the narrowing.
 fn is_exch_instance(whole: &Type) -> Option<()> {
     let (cell, rest) = whole.function()?;
-    let Type::Cell(alpha) = &**cell else {
-        return None;
+    let alpha = match &**cell {
+        Type::Cell(alpha) => alpha,
+        _ => return None,
     };
     let (new, old) = rest.function()?;
     (new == alpha && old == alpha && alpha.is_many()).then_some(())

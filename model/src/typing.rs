@@ -121,8 +121,9 @@ fn abstraction(
     x: Variable,
     body: &Expression,
 ) -> Option<()> {
-    let Type::Function(multiplicity, alpha, beta) = whole else {
-        return None;
+    let (multiplicity, alpha, beta) = match whole {
+        Type::Function(multiplicity, alpha, beta) => (multiplicity, alpha, beta),
+        _ => return None,
     };
     if *multiplicity == Multiplicity::Many && !gamma.once_is_empty() {
         return None;

@@ -1,5 +1,6 @@
 //! Document 01's causes 1 to 11, each tried over the whole file; the lowest number wins.
 
+use crate::causes;
 use crate::expression::{Expression, Variable};
 use crate::format::{opening_is_sound, table_and_terms};
 use crate::limits;
@@ -36,12 +37,15 @@ pub fn verdict(file: &[u8]) -> Verdict {
 
 /// The causes that ask about bytes, in their order; then those that ask about terms.
 fn examine(file: &[u8]) -> Result<Vec<u8>, u32> {
-    refuse_if(!limits::FILE_BYTES.contains(&file.len()), 1)?;
-    refuse_if(!opening_is_sound(file), 2)?;
-    let (table, terms) = table_and_terms(file).ok_or(3u32)?;
-    let table = Table::read(&entries_of(table)).ok_or(4u32)?;
-    let terms = read_terms(&terms).ok_or(5u32)?;
-    refuse_if(above_the_limits(&terms), 6)?;
+    refuse_if(
+        !limits::FILE_BYTES.contains(&file.len()),
+        causes::FILE_LENGTH,
+    )?;
+    refuse_if(!opening_is_sound(file), causes::OPENING)?;
+    let (table, terms) = table_and_terms(file).ok_or(causes::LAYOUT)?;
+    let table = Table::read(&entries_of(table)).ok_or(causes::TYPE_ENTRY)?;
+    let terms = read_terms(&terms).ok_or(causes::NO_TERM)?;
+    refuse_if(above_the_limits(&terms), causes::TERM_SIZE)?;
     refuse_if_any_unfit(&table, &terms)?;
     let numbers = terms.iter().map(|term| {
         let found = type_of(&table, &Expression::of_nodes(term));
@@ -77,19 +81,38 @@ fn read_terms(parts: &[&[u8]]) -> Option<Vec<Vec<Node>>> {
 /// Cause 6: "nesting or nodes above the limit".
 fn above_the_limits(terms: &[Vec<Node>]) -> bool {
     let nodes: usize = terms.iter().map(Vec::len).sum();
-    let too_deep = |term: &Vec<Node>| standings(term).iter().any(|s| s.nesting > limits::NESTING);
-    nodes > limits::NODES || terms.iter().any(too_deep)
+    let too_deep = |term: &Vec<Node>| {
+        standings(term)
+            .iter()
+            .any(|s| s.nesting > limits::MAX_NESTING)
+    };
+    nodes > limits::MAX_RECIPE_NODES || terms.iter().any(too_deep)
 }
 
 /// Causes 7 to 11 on terms within the limits: the lowest that fits one of them.
 pub fn refuse_if_any_unfit(table: &Table, terms: &[Vec<Node>]) -> Result<(), u32> {
     let bays = terms.len();
-    refuse_if(terms.iter().any(|t| names_nothing(table, bays, t)), 7)?;
-    refuse_if(terms.iter().any(|t| has_unfit_type(table, t)), 8)?;
+    refuse_if(
+        terms.iter().any(|t| names_nothing(table, bays, t)),
+        causes::SCOPE,
+    )?;
+    refuse_if(
+        terms.iter().any(|t| has_unfit_type(table, t)),
+        causes::ANNOTATION,
+    )?;
     let trees: Vec<Expression> = terms.iter().map(|t| Expression::of_nodes(t)).collect();
-    refuse_if(trees.iter().any(|e| type_of(table, e).is_none()), 9)?;
-    refuse_if(trees.iter().any(|e| misuses_once(table, e)), 10)?;
-    refuse_if(trees.iter().any(|e| is_once_at_root(table, e)), 11)
+    refuse_if(
+        trees.iter().any(|e| type_of(table, e).is_none()),
+        causes::TYPE,
+    )?;
+    refuse_if(
+        trees.iter().any(|e| misuses_once(table, e)),
+        causes::LINEARITY,
+    )?;
+    refuse_if(
+        trees.iter().any(|e| is_once_at_root(table, e)),
+        causes::BAY_ONCE,
+    )
 }
 
 /// Cause 7: "index with no lambda, name not below b, type number not below t".
@@ -107,8 +130,10 @@ fn names_nothing(table: &Table, bays: usize, term: &[Node]) -> bool {
 /// narrowing broken".
 fn has_unfit_type(table: &Table, term: &[Node]) -> bool {
     let unfit = |node: &Node| match node {
-        Node::Lambda(t) => table.get(*t).is_none_or(|whole| whole.function().is_none()),
-        Node::Constant(c, t) => table.get(*t).is_none_or(|whole| !is_instance(*c, whole)),
+        Node::Lambda(t) => table
+            .get(*t)
+            .map_or(true, |whole| whole.function().is_none()),
+        Node::Constant(c, t) => table.get(*t).map_or(true, |whole| !is_instance(*c, whole)),
         _ => false,
     };
     term.iter().any(unfit)
@@ -162,7 +187,7 @@ fn misuses_once(table: &Table, e: &Expression) -> bool {
     match e {
         Expression::Lambda(t, x, body) => {
             let once = table.get(*t).and_then(|whole| whole.function());
-            let once = once.is_some_and(|(parameter, _)| parameter.is_once());
+            let once = once.map_or(false, |(parameter, _)| parameter.is_once());
             let misused = once && (uses(*x, body) != 1 || free_under_many(table, *x, body));
             misused || misuses_once(table, body)
         }
@@ -197,7 +222,7 @@ fn free_under_many(table: &Table, x: Variable, e: &Expression) -> bool {
 
 /// Cause 11: "a bay's type has multiplicity once".
 fn is_once_at_root(table: &Table, e: &Expression) -> bool {
-    type_of(table, e).is_some_and(|found| found.is_once())
+    type_of(table, e).map_or(false, |found| found.is_once())
 }
 
 /// The environment of a recipe of that many bays: each setting a cell of num.

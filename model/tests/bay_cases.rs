@@ -3,9 +3,11 @@
 mod common;
 
 use common::*;
+use model::causes;
 use model::format::{bytes_of_hexadecimal, hexadecimal};
 use model::load::{load, starting_image, Loaded};
 use model::nodes::Node;
+use model::rules;
 use model::step::Outcome;
 use model::types::Constant;
 use model::verdict::{verdict, Verdict};
@@ -80,19 +82,22 @@ fn case_k_names() {
     let length = 2 + 6 * 256 + 7 + 253;
     assert_eq!(
         step_first(&with_names(handle.clone(), 254)),
-        Outcome::Rule(4, length)
+        Outcome::Rule(rules::HANDLE_NEW, length)
     );
-    assert_eq!(step_first(&with_names(handle, 255)), Outcome::Refused(15));
+    assert_eq!(
+        step_first(&with_names(handle, 255)),
+        Outcome::Refused(causes::ROOM)
+    );
 }
 
 #[test]
 fn case_k_nodes() {
     let thread = application(constant(Constant::Thread), unit());
     let goes = step_first(&with_image_nodes(thread.clone(), 4_095));
-    assert!(matches!(goes, Outcome::Rule(2, _)));
+    assert!(matches!(goes, Outcome::Rule(rules::THREAD_NEW, _)));
     assert_eq!(
         step_first(&with_image_nodes(thread, 4_096)),
-        Outcome::Refused(15)
+        Outcome::Refused(causes::ROOM)
     );
 }
 
@@ -101,11 +106,11 @@ fn case_l() {
     let applied = [Node::Application, Node::Name(1), Node::Unit];
     assert_eq!(
         step_first(&image_of(&[thread(&applied), used_handle()])),
-        Outcome::Refused(16)
+        Outcome::Refused(causes::USED_HANDLE)
     );
     assert_eq!(
         step_first(&image_of(&[thread(&applied), cell(&[Node::Unit])])),
-        Outcome::Refused(17)
+        Outcome::Refused(causes::WRONG_KIND)
     );
 }
 
@@ -113,11 +118,11 @@ fn case_l() {
 fn a_load_needs_room() {
     let file = recipe(A, "03");
     let mut short = vec![7; 13_825];
-    assert_eq!(load(&file, &mut short), Loaded::Refused(12));
-    assert_eq!(load(&[], &mut short), Loaded::Refused(12));
+    assert_eq!(load(&file, &mut short), Loaded::Refused(causes::BUFFER));
+    assert_eq!(load(&[], &mut short), Loaded::Refused(causes::BUFFER));
     assert!(short.iter().all(|b| *b == 7));
     let mut enough = vec![7; 13_826];
-    assert_eq!(load(&[], &mut enough), Loaded::Refused(1));
+    assert_eq!(load(&[], &mut enough), Loaded::Refused(causes::FILE_LENGTH));
     assert_eq!(load(&file, &mut enough), Loaded::Accepted(vec![0], 18));
     assert!(enough[18..].iter().all(|b| *b == 7));
 }

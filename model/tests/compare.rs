@@ -162,7 +162,7 @@ struct fikarehu_stepped honest_step(const uint8_t *, size_t, uint64_t, uint8_t *
 struct fikarehu_stepped fikarehu_step(const uint8_t *image, size_t image_len, uint64_t thread,
                                       uint8_t *out, size_t out_len) {
     struct fikarehu_stepped answer = honest_step(image, image_len, thread, out, out_len);
-    if (answer.outcome == FIKAREHU_RULE && answer.number == 7 && answer.length < out_len) out[answer.length] ^= 1;
+    if (answer.outcome == FIKAREHU_RULE && answer.number == FIKAREHU_CELL_EXCH && answer.length < out_len) out[answer.length] ^= 1;
     return answer;
 }
 ";

@@ -46,7 +46,8 @@ fn every_constant_and_number_of_bays_comes() {
                 let entry = recipe.entries[usize::from(*t)];
                 kinds[usize::from(entry.kind)] = true;
                 let parameter = recipe.entries[usize::from(entry.p)];
-                under_once += usize::from(parameter.kind == 3 && *node == Node::Lambda(*t));
+                under_once +=
+                    usize::from(parameter.kind == model::table::ONCE && *node == Node::Lambda(*t));
             }
         }
     }

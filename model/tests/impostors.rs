@@ -5,7 +5,7 @@ use model::answers::{
 };
 use model::command::on_deep_stack;
 use model::comparison::Comparison;
-use std::cell::RefCell;
+use std::sync::Mutex;
 
 type Check = fn(&[u8]) -> VerdictAnswer;
 type Load = fn(&[u8], &mut [u8]) -> LoadedAnswer;
@@ -126,9 +126,8 @@ fn a_stepper_that_copies_the_image_and_names_rule_1() {
     }));
 }
 
-thread_local! {
-    static FIRST: RefCell<Option<(SteppedAnswer, Vec<u8>)>> = const { RefCell::new(None) };
-}
+/// The first step that the next test's stepper made.
+static FIRST: Mutex<Option<(SteppedAnswer, Vec<u8>)>> = Mutex::new(None);
 
 #[test]
 fn a_stepper_that_steps_once_and_afterwards_repeats_that_image() {
@@ -137,13 +136,11 @@ fn a_stepper_that_steps_once_and_afterwards_repeats_that_image() {
         if answer.outcome != RULE {
             return answer;
         }
-        FIRST.with(|first| {
-            let mut first = first.borrow_mut();
-            let (old, bytes) =
-                first.get_or_insert_with(|| (answer, out[..answer.length as usize].to_vec()));
-            out[..bytes.len()].copy_from_slice(bytes);
-            *old
-        })
+        let mut first = FIRST.lock().expect("nobody else steps");
+        let (old, bytes) =
+            first.get_or_insert_with(|| (answer, out[..answer.length as usize].to_vec()));
+        out[..bytes.len()].copy_from_slice(bytes);
+        *old
     };
     assert!(is_found(&Impostor {
         step: repeats,

@@ -14,7 +14,7 @@ use model::tool::write::made;
 
 /// The history of a run, and the number of bays.
 fn history(file: &[u8], turns: u64, mut order: Order) -> History {
-    let mut image = vec![0; limits::IMAGE_BYTES];
+    let mut image = vec![0; limits::MAX_IMAGE];
     let loaded = Model.load(file, &mut image).unwrap_or_default();
     image.truncate(loaded.length as usize);
     let bays = loaded.bays as usize;
@@ -22,8 +22,9 @@ fn history(file: &[u8], turns: u64, mut order: Order) -> History {
     let mut history = History::default();
     history.note_vents(0, &ImageView(&runner.image).vents(bays));
     for turn in 1..=turns {
-        let Ok(thread) = runner.next(&mut order) else {
-            break;
+        let thread = match runner.next(&mut order) {
+            Ok(thread) => thread,
+            Err(_) => break,
         };
         let answer = runner.turn(thread);
         history.note_vents(turn, &ImageView(&runner.image).vents(bays));
@@ -93,7 +94,7 @@ fn sixteen_bays() -> Vec<u8> {
         let both = format!("(λx:num. {own}) ({exch} setting{} 1000)", (k + 1) % 16);
         let thread = format!("thread[(num →ω num) →ω num] (λy:num. {both})");
         let awaited = format!("{exch} setting{k} ({thread})");
-        let term = if k.is_multiple_of(3) { awaited } else { both };
+        let term = if k % 3 == 0 { awaited } else { both };
         format!("bay {k} = {term}\n")
     };
     let text: String = (0..16).map(bay).collect();

@@ -3,8 +3,10 @@
 mod common;
 
 use common::*;
+use model::causes;
 use model::config::Component;
 use model::nodes::Node;
+use model::rules;
 use model::step::Outcome;
 use model::types::Constant;
 
@@ -79,22 +81,28 @@ fn reading_6_no_nesting_limit_and_no_names() {
     let deep = application(vec![Node::Lambda(0), Node::Unit], unit());
     assert!(matches!(
         step_first(&with_image_nodes(deep, 4_096)),
-        Outcome::Rule(1, _)
+        Outcome::Rule(rules::BETA, _)
     ));
-    assert_eq!(step_first(&[0, 0]), Outcome::Refused(14));
-    assert_eq!(step_first(&[0]), Outcome::Refused(13));
-    assert_eq!(step_first(&[0, 0, 0]), Outcome::Refused(13));
+    assert_eq!(step_first(&[0, 0]), Outcome::Refused(causes::NO_THREAD));
+    assert_eq!(step_first(&[0]), Outcome::Refused(causes::IMAGE));
+    assert_eq!(step_first(&[0, 0, 0]), Outcome::Refused(causes::IMAGE));
 }
 
 #[test]
 fn reading_7_the_order_of_12_13_14_and_large_numbers() {
     let mut short = vec![0; 13_825];
-    assert_eq!(model::step::step(&[], 9, &mut short), Outcome::Refused(12));
-    assert_eq!(step_thread(&[], 9), Outcome::Refused(13));
+    assert_eq!(
+        model::step::step(&[], 9, &mut short),
+        Outcome::Refused(causes::BUFFER)
+    );
+    assert_eq!(step_thread(&[], 9), Outcome::Refused(causes::IMAGE));
     let image = image_of(&[thread(&unit())]);
     assert_eq!(step_thread(&image, 0), Outcome::Done);
     for number in [1, 256, 65_536, 1 << 32, u64::MAX, u64::MAX - 255] {
-        assert_eq!(step_thread(&image, number), Outcome::Refused(14));
+        assert_eq!(
+            step_thread(&image, number),
+            Outcome::Refused(causes::NO_THREAD)
+        );
     }
 }
 
@@ -111,12 +119,12 @@ fn reading_8_cells_hold_values_in_the_sense_of_a_step() {
     let full = exch(name(1), unit());
     assert_eq!(
         step_first(&image_of(&[thread(&unit()), cell(&full)])),
-        Outcome::Refused(13)
+        Outcome::Refused(causes::IMAGE)
     );
     let thread_unit = application(constant(Constant::Thread), unit());
     assert_eq!(
         step_first(&image_of(&[thread(&unit()), cell(&thread_unit)])),
-        Outcome::Refused(13)
+        Outcome::Refused(causes::IMAGE)
     );
 }
 
@@ -124,15 +132,15 @@ fn reading_8_cells_hold_values_in_the_sense_of_a_step() {
 fn reading_9_what_is_no_cell_in_a_full_exch_is_17() {
     let needing = thread(&exch(name(1), unit()));
     let used = image_of(&[needing.clone(), Component::UsedHandle]);
-    assert_eq!(step_first(&used), Outcome::Refused(17));
+    assert_eq!(step_first(&used), Outcome::Refused(causes::WRONG_KIND));
     let open = image_of(&[needing, Component::OpenHandle(2), Component::Future]);
-    assert_eq!(step_first(&open), Outcome::Refused(17));
+    assert_eq!(step_first(&open), Outcome::Refused(causes::WRONG_KIND));
     let exch_unit = application(constant(Constant::Exch), unit());
     let lambda = vec![Node::Lambda(0), Node::Unit];
     let num = vec![Node::Num(1)];
     for first in [unit(), num, lambda, constant(Constant::Cell), exch_unit] {
         let image = image_of(&[thread(&exch(first, unit()))]);
-        assert_eq!(step_first(&image), Outcome::Refused(17));
+        assert_eq!(step_first(&image), Outcome::Refused(causes::WRONG_KIND));
     }
 }
 
@@ -166,21 +174,21 @@ fn reading_11_rule_3_copies_one_link() {
         thread(&name(2)),
         thread(&constant(Constant::Cell)),
     ]);
-    assert_eq!((rule, after), (3, link));
+    assert_eq!((rule, after), (rules::FUTURE_DEREF, link));
 }
 
 #[test]
 fn reading_12_thread_handle_and_cell_take_any_value() {
     for (constant_tag, rule) in [
-        (Constant::Thread, 2),
-        (Constant::Handle, 4),
-        (Constant::Cell, 6),
+        (Constant::Thread, rules::THREAD_NEW),
+        (Constant::Handle, rules::HANDLE_NEW),
+        (Constant::Cell, rules::CELL_NEW),
     ] {
         let image = image_of(&[thread(&application(constant(constant_tag), unit()))]);
         let (answered, after) = image_after(&image, 0);
         assert_eq!(answered, rule);
-        if rule == 2 {
-            assert_eq!(step_thread(&after, 1), Outcome::Refused(17));
+        if rule == rules::THREAD_NEW {
+            assert_eq!(step_thread(&after, 1), Outcome::Refused(causes::WRONG_KIND));
         }
     }
 }
@@ -191,18 +199,27 @@ fn reading_13_without_room_the_other_answers_stay() {
     let full = |first: Vec<Node>| with_image_nodes(first, 4_096);
     assert_eq!(step_first(&full(unit())), Outcome::Done);
     assert_eq!(step_first(&full(applied(name(0)))), Outcome::Waiting(0));
-    assert_eq!(step_first(&full(applied(unit()))), Outcome::Refused(17));
+    assert_eq!(
+        step_first(&full(applied(unit()))),
+        Outcome::Refused(causes::WRONG_KIND)
+    );
     assert_eq!(
         step_first(&full(applied(constant(Constant::Thread)))),
-        Outcome::Refused(15)
+        Outcome::Refused(causes::ROOM)
     );
-    assert_eq!(step_first(&full(applied(name(1)))), Outcome::Refused(15));
+    assert_eq!(
+        step_first(&full(applied(name(1)))),
+        Outcome::Refused(causes::ROOM)
+    );
     let smaller = full(applied(constant(Constant::Cell)));
-    assert!(matches!(step_first(&smaller), Outcome::Rule(6, _)));
+    assert!(matches!(
+        step_first(&smaller),
+        Outcome::Rule(rules::CELL_NEW, _)
+    ));
     let names = with_names(applied(constant(Constant::Cell)), 256);
-    assert_eq!(step_first(&names), Outcome::Refused(15));
+    assert_eq!(step_first(&names), Outcome::Refused(causes::ROOM));
     let names = with_names(applied(vec![Node::Lambda(0), Node::Unit]), 256);
-    assert!(matches!(step_first(&names), Outcome::Rule(1, _)));
+    assert!(matches!(step_first(&names), Outcome::Rule(rules::BETA, _)));
 }
 
 #[test]
@@ -213,10 +230,13 @@ fn reading_14_a_longer_slice_breaks_a_limit() {
     let mut longest = image_of(&nums);
     assert_eq!(step_first(&longest), Outcome::Done);
     longest.resize(13_827, 3);
-    assert_eq!(step_first(&longest), Outcome::Refused(13));
+    assert_eq!(step_first(&longest), Outcome::Refused(causes::IMAGE));
     assert_eq!(
         step_first(&with_image_nodes(unit(), 4_097)),
-        Outcome::Refused(13)
+        Outcome::Refused(causes::IMAGE)
     );
-    assert_eq!(step_first(&with_names(unit(), 257)), Outcome::Refused(13));
+    assert_eq!(
+        step_first(&with_names(unit(), 257)),
+        Outcome::Refused(causes::IMAGE)
+    );
 }

@@ -8,8 +8,9 @@ use model::run::Run;
 use model::step::Outcome;
 
 fn watch(draw: &mut Draw, file: &[u8], steps: usize, rules: &mut [usize; 8]) {
-    let Some(mut run) = Run::start(file) else {
-        return;
+    let mut run = match Run::start(file) {
+        Some(run) => run,
+        None => return,
     };
     run.values_have_their_types().expect("after the load");
     for _ in 0..steps {

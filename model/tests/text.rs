@@ -91,74 +91,76 @@ fn complaint(text: &str) -> String {
     made(text.as_bytes(), false).expect_err(text)
 }
 
+/// Texts with an error, and the complaint.
+const ERRORS: &[(&str, &str)] = &[
+    ("", ":1:1: expected 'bay 0', found the end of the text"),
+    (
+        "bay 1 = unit",
+        ":1:5: expected '0', the next bay's number, found '1'",
+    ),
+    ("bay 0 unit", ":1:7: expected '=', found 'unit'"),
+    (
+        "bay 0 =",
+        ":2:1: expected a term, found the end of the text",
+    ),
+    (
+        "bay 0 =\n  (unit",
+        ":3:1: expected ')' or an argument, found the end of the text",
+    ),
+    (
+        "bay 0 = λx. x",
+        ":1:11: expected ':' and the variable's type, found '.'",
+    ),
+    ("bay 0 = λx:num x", ":1:16: expected '.', found 'x'"),
+    ("bay 0 = λx:nun. x", ":1:12: expected a type, found 'nun'"),
+    (
+        "bay 0 = λunit:num. 3",
+        ":1:10: expected the name of a variable, found 'unit'",
+    ),
+    ("bay 0 = y", ":1:9: no λ here binds 'y'"),
+    (
+        "bay 0 = 1001",
+        ":1:9: expected a num, at most 1000, found '1001'",
+    ),
+    (
+        "bay 0 = exch setting0",
+        ":1:14: expected '[' and the type of exch, found 'setting0'",
+    ),
+    (
+        "bay 0 = λx:num → num. x",
+        ":1:16: expected an arrow: →1 or →ω (-1> or -w>)",
+    ),
+    (
+        "bay 0 = unit ; unit",
+        ":1:14: there is no sign ';' in a recipe",
+    ),
+    (
+        "bay 0 = unit\nbay 2 = unit",
+        ":2:5: expected '1', the next bay's number, found '2'",
+    ),
+    (
+        "bay 0 : num = unit",
+        ":1:7: the bay's term is of type unit, not num",
+    ),
+    (
+        "types t1 = num",
+        ":1:7: expected 't0', the next type, or 'bay 0', found 't1'",
+    ),
+    (
+        "types t0 = unit t1 = (unit -w> unit) ref",
+        ":1:22: this type has no number yet: list it in a line above",
+    ),
+    (
+        "bay 0 = λx:num. (3 unit)",
+        ":1:18: this is applied, and is num, no function",
+    ),
+    ("bay 0 = λx:t9. x", ":1:12: there is no t9 so far"),
+];
+
 #[test]
 fn errors_have_line_and_column_and_say_what_was_expected() {
-    let cases = [
-        ("", ":1:1: expected 'bay 0', found the end of the text"),
-        (
-            "bay 1 = unit",
-            ":1:5: expected '0', the next bay's number, found '1'",
-        ),
-        ("bay 0 unit", ":1:7: expected '=', found 'unit'"),
-        (
-            "bay 0 =",
-            ":2:1: expected a term, found the end of the text",
-        ),
-        (
-            "bay 0 =\n  (unit",
-            ":3:1: expected ')' or an argument, found the end of the text",
-        ),
-        (
-            "bay 0 = λx. x",
-            ":1:11: expected ':' and the variable's type, found '.'",
-        ),
-        ("bay 0 = λx:num x", ":1:16: expected '.', found 'x'"),
-        ("bay 0 = λx:nun. x", ":1:12: expected a type, found 'nun'"),
-        (
-            "bay 0 = λunit:num. 3",
-            ":1:10: expected the name of a variable, found 'unit'",
-        ),
-        ("bay 0 = y", ":1:9: no λ here binds 'y'"),
-        (
-            "bay 0 = 1001",
-            ":1:9: expected a num, at most 1000, found '1001'",
-        ),
-        (
-            "bay 0 = exch setting0",
-            ":1:14: expected '[' and the type of exch, found 'setting0'",
-        ),
-        (
-            "bay 0 = λx:num → num. x",
-            ":1:16: expected an arrow: →1 or →ω (-1> or -w>)",
-        ),
-        (
-            "bay 0 = unit ; unit",
-            ":1:14: there is no sign ';' in a recipe",
-        ),
-        (
-            "bay 0 = unit\nbay 2 = unit",
-            ":2:5: expected '1', the next bay's number, found '2'",
-        ),
-        (
-            "bay 0 : num = unit",
-            ":1:7: the bay's term is of type unit, not num",
-        ),
-        (
-            "types t1 = num",
-            ":1:7: expected 't0', the next type, or 'bay 0', found 't1'",
-        ),
-        (
-            "types t0 = unit t1 = (unit -w> unit) ref",
-            ":1:22: this type has no number yet: list it in a line above",
-        ),
-        (
-            "bay 0 = λx:num. (3 unit)",
-            ":1:18: this is applied, and is num, no function",
-        ),
-        ("bay 0 = λx:t9. x", ":1:12: there is no t9 so far"),
-    ];
-    for (text, expected) in cases {
-        assert_eq!(complaint(text), expected, "{text}");
+    for (text, expected) in ERRORS {
+        assert_eq!(&complaint(text), expected, "{text}");
     }
 }
 

@@ -1,6 +1,4 @@
--- Document 01, "Bay cases": the proved ones.
+-- Document 01, "Bay cases": the proved ones, and rows for the sentences beside them.
 
--- rows of one table: what check answers
+-- rows of one table
 pub mod Cases
--- rows of one table: what load writes and steps answer
-pub mod Runs

@@ -4,6 +4,7 @@ use mathlib.Core.Bool.{_&&_, and-assoc, Bool, false, true}
 use mathlib.Core.List.{List, [], _∷_}
 use Prim.Native.Nat.{ℕ}
 use lib.Dec.{eqb}
+use Rattle.calculus.specs.Kinds.{cell-type-kind, once-type-kind, unit-entry}
 use Rattle.calculus.specs.Narrowing.{narrowed}
 use Rattle.calculus.specs.Table.{Table}
 use Rattle.calculus.specs.Verdict.{is-cell-type, is-exch-type, is-function-kind, is-handle-type, is-many, is-thread-type, on-cell, on-function, on-once-function}
@@ -35,16 +36,16 @@ pub maps-tests : (x : Entry) (p q : ℕ) → Asks (maps x p q) (is-function-kind
 unfolding maps all
 maps-tests x p q = record { same = refl }
 
-pub handle-tests : (x : Entry) (a : ℕ) → Asks (handle-of x a) (eqb (x .kind) 3 ∷ eqb (x .p) a ∷ eqb (x .q) 0 ∷ [])
+pub handle-tests : (x : Entry) (a : ℕ) → Asks (handle-of x a) (eqb (x .kind) once-type-kind ∷ eqb (x .p) a ∷ eqb (x .q) unit-entry ∷ [])
 unfolding handle-of all
 handle-tests x a = record { same = refl }
 
 -- the tests of a constant's type, whose entry is w; the other entries are those that it names
 abbrev pub cell-type-list : Table → Entry → Entry → List Bool
-cell-type-list T w x = is-function-kind (w .kind) ∷ eqb (x .kind) 2 ∷ eqb (x .p) (w .p) ∷ narrowed T (w .p) ∷ []
+cell-type-list T w x = is-function-kind (w .kind) ∷ eqb (x .kind) cell-type-kind ∷ eqb (x .p) (w .p) ∷ narrowed T (w .p) ∷ []
 
 abbrev pub exch-type-list : Table → Entry → Entry → Entry → List Bool
-exch-type-list T w x y = is-function-kind (w .kind) ∷ eqb (x .kind) 2 ∷ maps y (x .p) (x .p) ∷ narrowed T (x .p) ∷ []
+exch-type-list T w x y = is-function-kind (w .kind) ∷ eqb (x .kind) cell-type-kind ∷ maps y (x .p) (x .p) ∷ narrowed T (x .p) ∷ []
 
 abbrev pub thread-type-list : Table → Entry → Entry → List Bool
 thread-type-list T w x = is-function-kind (w .kind) ∷ maps x (w .q) (w .q) ∷ is-many T (w .q) ∷ []
@@ -65,7 +66,7 @@ module _ (T : Table) (t : ℕ) (w : Entry) (whole : as-entry w ≡ entry-of T t)
   unfolding is-cell-type all
   cell-type-tests x result =
       by (rw (on-function-is T t (λ a r. on-cell T r (λ a′. eqb a′ a) && narrowed T a), ← whole, on-cell-is T (w .q) (λ a′. eqb a′ (w .p)), ← result)
-      (ap (λ b. is-function-kind (w .kind) && b) (and-assoc (eqb (x .kind) 2) (eqb (x .p) (w .p)) (narrowed T (w .p)))))
+      (ap (λ b. is-function-kind (w .kind) && b) (and-assoc (eqb (x .kind) cell-type-kind) (eqb (x .p) (w .p)) (narrowed T (w .p)))))
 
   pub exch-type-tests : (x y : Entry) → as-entry x ≡ entry-of T (w .p) → as-entry y ≡ entry-of T (w .q) →
       Asks (is-exch-type T t) (exch-type-list T w x y)
@@ -99,13 +100,13 @@ module _ (T : Table) (t : ℕ) (w : Entry) (whole : as-entry w ≡ entry-of T t)
   handle-type-tests o i h outer inner handle =
       by (rw (
         on-function-is T t
-            (λ f r. on-function T f λ a g. on-function T g λ h r′. on-once-function T h (λ a′ u. eqb a′ a && eqb u 0) && (eqb r′ r && is-many T a)),
+            (λ f r. on-function T f λ a g. on-function T g λ h r′. on-once-function T h (λ a′ u. eqb a′ a && eqb u unit-entry) && (eqb r′ r && is-many T a)),
         ← whole,
         on-function-is T (w .p)
-            (λ a g. on-function T g λ h r′. on-once-function T h (λ a′ u. eqb a′ a && eqb u 0) && (eqb r′ (w .q) && is-many T a)),
+            (λ a g. on-function T g λ h r′. on-once-function T h (λ a′ u. eqb a′ a && eqb u unit-entry) && (eqb r′ (w .q) && is-many T a)),
         ← outer,
-        on-function-is T (o .q) (λ h r′. on-once-function T h (λ a′ u. eqb a′ (o .p) && eqb u 0) && (eqb r′ (w .q) && is-many T (o .p))),
+        on-function-is T (o .q) (λ h r′. on-once-function T h (λ a′ u. eqb a′ (o .p) && eqb u unit-entry) && (eqb r′ (w .q) && is-many T (o .p))),
         ← inner,
-        on-once-is T (i .p) (λ a′ u. eqb a′ (o .p) && eqb u 0),
+        on-once-is T (i .p) (λ a′ u. eqb a′ (o .p) && eqb u unit-entry),
         ← handle,
       ) refl)

@@ -2,29 +2,30 @@
 use mathlib.Core.Path.{_≡_, refl}
 use mathlib.Core.Bool.{true}
 use Prim.Native.Nat.{suc, zero, ℕ}
+use Rattle.term.specs.Forms.{cell-tag, exch-tag, thread-tag, handle-tag}
 use Rattle.calculus.specs.Table.{Table}
 use Rattle.calculus.specs.Verdict.{annotated, annotated-const, is-cell-type, is-exch-type, is-handle-type, is-thread-type}
 use Rattle.term.specs.Expressions.{leaf-exp, leaf-forms}
 
 module _ (T : Table) (tag arg : ℕ) where
-  pub cell-leaf : tag ≡ 5 → is-cell-type T arg ≡ annotated T (leaf-exp tag arg)
+  pub cell-leaf : tag ≡ cell-tag → is-cell-type T arg ≡ annotated T (leaf-exp tag arg)
   unfolding leaf-exp leaf-forms annotated annotated-const
   cell-leaf e = rw e refl
 
-  pub exch-leaf : tag ≡ 6 → is-exch-type T arg ≡ annotated T (leaf-exp tag arg)
+  pub exch-leaf : tag ≡ exch-tag → is-exch-type T arg ≡ annotated T (leaf-exp tag arg)
   unfolding leaf-exp leaf-forms annotated annotated-const
   exch-leaf e = rw e refl
 
-  pub thread-leaf : tag ≡ 7 → is-thread-type T arg ≡ annotated T (leaf-exp tag arg)
+  pub thread-leaf : tag ≡ thread-tag → is-thread-type T arg ≡ annotated T (leaf-exp tag arg)
   unfolding leaf-exp leaf-forms annotated annotated-const
   thread-leaf e = rw e refl
 
-  pub handle-leaf : tag ≡ 8 → is-handle-type T arg ≡ annotated T (leaf-exp tag arg)
+  pub handle-leaf : tag ≡ handle-tag → is-handle-type T arg ≡ annotated T (leaf-exp tag arg)
   unfolding leaf-exp leaf-forms annotated annotated-const
   handle-leaf e = rw e refl
 
 -- a leaf of any other tag has no annotation
-pub plain-leaf : (T : Table) (tag arg : ℕ) → (tag ≡ 5 → ⊥) → (tag ≡ 6 → ⊥) → (tag ≡ 7 → ⊥) → (tag ≡ 8 → ⊥) → true ≡ annotated T (leaf-exp tag arg)
+pub plain-leaf : (T : Table) (tag arg : ℕ) → (tag ≡ cell-tag → ⊥) → (tag ≡ exch-tag → ⊥) → (tag ≡ thread-tag → ⊥) → (tag ≡ handle-tag → ⊥) → true ≡ annotated T (leaf-exp tag arg)
 unfolding leaf-exp leaf-forms annotated annotated-const
 plain-leaf T zero arg a b c d = refl
 plain-leaf T (suc zero) arg a b c d = refl

@@ -11,9 +11,6 @@ ghost use Rattle.term.specs.Expressions.{leaf-exp};
 ghost use Rattle.recipe_table.specs.Entries.{table-of};
 ghost use Rattle.check_annotations.specs.Nodes.{handle-of, maps};
 
-// Document 01, kinds of entries: "2 cell of p".
-const CELL_KIND: u8 = 2;
-
 // Document 01, the narrowing: contents of multiplicity many.
 fn is_narrowed(table: &[u8], a: u8) -> bool
     ensures { λ r. ⌜ r ≡ narrowed (table-of (now (table .entry))) a ⌝ }
@@ -57,7 +54,7 @@ pub fn is_cell_type(table: &[u8], t: usize) -> bool
     if !check_types::is_function(whole.kind) {
         return false;
     }
-    if result.kind != CELL_KIND {
+    if result.kind != Type::CELL {
         return false;
     }
     if result.p != whole.p {
@@ -77,7 +74,7 @@ pub fn is_exch_type(table: &[u8], t: usize) -> bool
     if !check_types::is_function(whole.kind) {
         return false;
     }
-    if parameter.kind != CELL_KIND {
+    if parameter.kind != Type::CELL {
         return false;
     }
     if !is_from_to(result, parameter.p, parameter.p) {

@@ -1,23 +1,20 @@
 -- One pass decides the four tests.
-use mathlib.Core.Path.{_≡_, ap, ap₂, refl, sym, _∙_}
-use mathlib.Core.Bool.{Bool, _&&_, and-false, cond, false, true}
+use mathlib.Core.Path.{_≡_, ap, ap₂, refl, _∙_}
+use mathlib.Core.Bool.{Bool, _&&_, cond, false, true}
 use mathlib.Core.List.{List, [], _∷_}
-use Prim.Native.Nat.{_*_, _+_, _<_, _≤_, suc, zero, zero-le, ℕ}
-use native.Mathlib.Numerals.{add-one}
+use Prim.Native.Nat.{_+_, _<_, _≤_, suc, zero, ℕ}
 use native.Mathlib.Omega.{arith}
 use lib.Dec.{leb}
-use lib.ListN.{drop, length}
+use lib.ListN.{length}
 use Rattle.calculus.specs.Lists.{each-below, sum-below}
-use Rattle.calculus.specs.Limits.{max-file-length, max-nesting, max-recipe-nodes}
+use Rattle.calculus.specs.Limits.{max-nesting, max-recipe-nodes}
 use Rattle.calculus.specs.Verdict.{annotated, scoped}
 use Rattle.calculus.specs.Theory.Tests.{clash}
 use Rattle.term.specs.Tree.{tree-nodes}
 use Rattle.term.specs.Reader.{first-tree, Got, got, none, one-term, read-term, tree-at, tree-in}
 use Rattle.term.specs.Expressions.{exp-of, nesting, term-at}
-use Rattle.term.proofs.Sizes.{nodes-exp}
 use Rattle.recipe_file.specs.File.{bays, table-bytes, term-bytes}
 use Rattle.recipe_file.specs.FileRule.{FileRule}
-use Rattle.term_scan.specs.declared.Part.{Part}
 use Rattle.term_scan.specs.declared.Part.the-variants.{Nodes, NoTerm}
 use Rattle.term_scan.specs.Extents as extents
 use Rattle.recipe_table.specs.Entries.{table-of, type-table}

@@ -1,5 +1,4 @@
 // Loops over all bays of a recipe: whether each part is one term and how many nodes they have, whether each term passes a test, and the types.
-ghost use mathlib.Core.Bool.{_&&_};
 ghost use mathlib.Core.Path.{_≡_};
 ghost use Prim.Native.Nat.{_<_};
 ghost use Rattle.recipe_file.specs.File.{bays, term-bytes};
@@ -98,13 +97,6 @@ pub fn each_passes(recipe: &[u8], test: Test) -> bool
     true
 }
 
-// Both.
-fn both(a: bool, b: bool) -> bool
-    ensures { λ r. ⌜ r ≡ (a && b) ⌝ }
-{
-    a && b
-}
-
 // Causes 9 and 10 of a bay's term, by the type walk.
 fn walk_bay(recipe: &[u8], bay: usize) -> Walked
     requires { ⌜ ScopedTerms (now recipe) × (bay < bays (now recipe)) ⌝ }
@@ -135,8 +127,8 @@ pub fn types_of(recipe: &[u8]) -> BayTypes
                 numbers: numbers,
             };
         };
-        many = both(many, check_types::many_at(table, number as usize));
-        linear = both(linear, kept);
+        many &= check_types::many_at(table, number as usize);
+        linear &= kept;
         numbers[bay] = number;
         bay += 1;
     }

@@ -7,6 +7,7 @@ use mathlib.Core.List.{List, [], _∷_}
 use Prim.Native.Nat.{_-_, suc, zero, ℕ}
 use lib.Dec.{eqb}
 use lib.ListN.{getD}
+use Rattle.calculus.specs.Kinds.{once-type-kind}
 use Rattle.calculus.specs.Syntax.{Exp}
 use Rattle.calculus.specs.Table.{Table}
 use Rattle.check_linearity.specs.Spend.{Marks, many-mark, spend}
@@ -18,7 +19,7 @@ marks-of (suc above) a = getD a above many-mark ∷ marks-of above a
 
 -- the lowest level in reach, `floor`, is that of the innermost many-lambda: what it is in the body of a lambda of this kind that has level `above`
 unfoldable pub floor-under : ℕ → ℕ → ℕ → ℕ
-floor-under kind floor above = cond (eqb kind 3) floor above
+floor-under kind floor above = cond (eqb kind once-type-kind) floor above
 
 -- what a walk answers: whether the term keeps the rule, and if so the marks that it leaves
 unfoldable pub marks-left : Bool → Marks → Option Marks

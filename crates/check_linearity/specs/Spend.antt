@@ -6,6 +6,7 @@ use mathlib.Core.List.{List, [], _∷_}
 use Prim.Native.Nat.{suc, ℕ}
 use lib.Dec.{eqb, ltb}
 use lib.ListN.{getD, set}
+use Rattle.calculus.specs.Kinds.{once-type-kind}
 use Rattle.calculus.specs.Syntax.{Exp, var, name, const, lam, app, at}
 use Rattle.calculus.specs.Table.{Entry, Table}
 use Rattle.calculus.specs.Verdict.{is-function-kind, is-many}
@@ -31,7 +32,7 @@ new-mark T p = cond (is-many T p) many-mark due-mark
 -- Document 01, "free under a many-lambda": a once-variable may be used if it is one of the `reach` innermost ones. Under a many-lambda that is the
 -- lambda's own variable, under a once-lambda also those that were in reach.
 unfoldable pub reach-under : ℕ → ℕ → ℕ
-reach-under kind reach = cond (eqb kind 3) (suc reach) 1
+reach-under kind reach = cond (eqb kind once-type-kind) (suc reach) 1
 
 -- variable i has this mark and is used
 unfoldable pub spend-variable : ℕ → Marks → ℕ → ℕ → Option Marks
@@ -62,10 +63,11 @@ spend T reach M (const c) = some M
 spend T reach M (lam t e) = spend-lambda T reach M (at T t) (λ reach M. spend T reach M e)
 spend T reach M (app f a) = spend-next (spend T reach M f) (λ M. spend T reach M a)
 
--- cause 10 does not fit a whole term
+-- a term left marks
 unfoldable pub left-over : Option Marks → Bool
 left-over none = false
 left-over (some M) = true
 
+-- cause 10 does not fit a whole term
 unfoldable pub spends : Table → Exp → Bool
 spends T e = left-over (spend T 0 [] e)

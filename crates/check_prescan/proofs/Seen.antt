@@ -1,11 +1,11 @@
 -- What the loop of `glance` knows, and what each of its turns keeps.
 use mathlib.Core.Path.{_≡_, ap, ap₂, refl, sym, _∙_}
-use mathlib.Core.Bool.{Bool, _&&_, cond, false, false≢true, true}
+use mathlib.Core.Bool.{Bool, cond, false, false≢true, true}
 use mathlib.Core.List.{List, [], _∷_}
 use Prim.Native.Nat.{_+_, _-_, _<_, _≤_, suc, zero, ℕ}
 use native.Mathlib.Numerals.{add-one}
 use native.Mathlib.Omega.{arith}
-use lib.Dec.{eqb, leb, ltb}
+use lib.Dec.{eqb, leb}
 use lib.ListN.{drop, getD, length, length-set, set}
 use lib.Seq.{drop-drop, getD-set-other, getD-set-same}
 use Rattle.calculus.specs.Limits.{max-nesting}
@@ -119,7 +119,7 @@ module _ {T : Table} {names : ℕ} {l a b : List ℕ} {waits level lambdas here 
           }
 
     -- a node with subterms
-    pub seen-deep : (h .subterms ≡ 0 → ⊥) → level ≡ 99 → NoTerm ≡ glance T names l
+    pub seen-deep : (h .subterms ≡ 0 → ⊥) → level ≡ max-nesting - 1 → NoTerm ≡ glance T names l
     unfolding node-at
     seen-deep some z = sym (coming-deep T names level lambdas nodes (frames-of waits a b) (drop here l) h is (omega arith) some (node .few)) ∙ s .same
 
@@ -130,7 +130,7 @@ module _ {T : Table} {names : ℕ} {l a b : List ℕ} {waits level lambdas here 
     pub seen-no-type : h .subterms ≡ 1 → lambda-test T names (h .arg) ≡ false → NoTerm ≡ glance T names l
     seen-no-type e f = sym (lambda e ∙ rw f refl)
 
-    pub seen-lambda : h .subterms ≡ 1 → lambda-test T names (h .arg) ≡ true → (level ≡ 99 → ⊥) → Seen T names l a b waits (level + 1) (lambdas + 1) (here + h .size) (nodes + 1)
+    pub seen-lambda : h .subterms ≡ 1 → lambda-test T names (h .arg) ≡ true → (level ≡ max-nesting - 1 → ⊥) → Seen T names l a b waits (level + 1) (lambdas + 1) (here + h .size) (nodes + 1)
     seen-lambda e f not-last = record {
       inside = node .inside;
       few = omega (arith, s .few, node .onward);
@@ -143,7 +143,7 @@ module _ {T : Table} {names : ℕ} {l a b : List ℕ} {waits level lambdas here 
       same = rw (add-one level, add-one lambdas) (sym (lambda e ∙ rw f refl));
     }
 
-    pub seen-two : h .subterms ≡ 2 → (level ≡ 99 → ⊥) →
+    pub seen-two : h .subterms ≡ 2 → (level ≡ max-nesting - 1 → ⊥) →
         Seen T names l (set a waits (level + 1)) (set b waits lambdas) (waits + 1) (level + 1) lambdas (here + h .size) (nodes + 1)
     unfolding node-at
     seen-two e not-last = record {

@@ -6,6 +6,7 @@ use native.Mathlib.Omega.{arith}
 use borrow.Author.Tests.{le-ltb, lt-ltb}
 use lib.Dec.{ltb}
 use lib.ListN.{length}
+use Rattle.term.specs.Forms.{variable-tag, cell-tag, handle-tag, name-tag}
 use Rattle.calculus.specs.Table as calculus
 use Rattle.calculus.specs.Table.{Table}
 use Rattle.calculus.specs.Verdict.{annotated, is-function-kind, on-function, scoped}
@@ -23,7 +24,7 @@ module _ (T : Table) (names lambdas tag arg : ℕ) where
   leaf-test = leaf-stands T names lambdas (leaf-exp tag arg)
 
   -- a leaf that has no annotation
-  plain : {b : Bool} → (5 ≤ tag → tag ≤ 8 → ⊥) → b ≡ scoped (length T) names lambdas (leaf-exp tag arg) → b ≡ leaf-test
+  plain : {b : Bool} → (cell-tag ≤ tag → tag ≤ handle-tag → ⊥) → b ≡ scoped (length T) names lambdas (leaf-exp tag arg) → b ≡ leaf-test
   unfolding leaf-stands
   plain apart e =
       e
@@ -31,23 +32,23 @@ module _ (T : Table) (names lambdas tag arg : ℕ) where
       ∙ ap (λ x. scoped (length T) names lambdas (leaf-exp tag arg) && x)
       (plain-leaf T tag arg (λ z. apart (omega arith) (omega arith)) (λ z. apart (omega arith) (omega arith)) (λ z. apart (omega arith) (omega arith)) (λ z. apart (omega arith) (omega arith)))
 
-  pub variable-stands : tag ≡ 0 → ltb arg lambdas ≡ leaf-test
+  pub variable-stands : tag ≡ variable-tag → ltb arg lambdas ≡ leaf-test
   variable-stands z = plain (λ low high. omega arith) (scoped-variable (length T) names lambdas arg tag z)
 
-  pub name-stands : tag ≡ 9 → ltb arg names ≡ leaf-test
+  pub name-stands : tag ≡ name-tag → ltb arg names ≡ leaf-test
   name-stands z = plain (λ low high. omega arith) (scoped-name (length T) names lambdas arg tag z)
 
-  pub low-stands : (tag ≡ 0 → ⊥) → tag < 5 → true ≡ leaf-test
+  pub low-stands : (tag ≡ variable-tag → ⊥) → tag < cell-tag → true ≡ leaf-test
   low-stands not-0 h = plain (λ low high. omega arith) (scoped-plain (length T) names lambdas arg tag not-0 h)
 
-  pub high-stands : (tag ≡ 9 → ⊥) → 8 < tag → true ≡ leaf-test
+  pub high-stands : (tag ≡ name-tag → ⊥) → handle-tag < tag → true ≡ leaf-test
   high-stands not-9 h = plain (λ low high. omega arith) (scoped-unknown (length T) names lambdas arg tag (omega arith))
 
-  pub op-fails : 5 ≤ tag → tag ≤ 8 → length T ≤ arg → false ≡ leaf-test
+  pub op-fails : cell-tag ≤ tag → tag ≤ handle-tag → length T ≤ arg → false ≡ leaf-test
   unfolding leaf-stands
   op-fails low high h = rw (← (scoped-op (length T) names lambdas arg tag low high), le-ltb arg (length T) h) refl
 
-  pub op-stands : 5 ≤ tag → tag ≤ 8 → arg < length T → annotated T (leaf-exp tag arg) ≡ leaf-test
+  pub op-stands : cell-tag ≤ tag → tag ≤ handle-tag → arg < length T → annotated T (leaf-exp tag arg) ≡ leaf-test
   unfolding leaf-stands
   op-stands low high h = rw (← (scoped-op (length T) names lambdas arg tag low high), lt-ltb arg (length T) h) refl
 

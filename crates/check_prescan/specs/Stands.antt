@@ -3,7 +3,7 @@ use mathlib.Core.Bool.{Bool, _&&_, cond}
 use mathlib.Core.List.{List, [], _∷_}
 use Prim.Native.Nat.{_+_, ℕ}
 use lib.Dec.{leb, ltb}
-use lib.ListN.{drop, length}
+use lib.ListN.{length}
 use Rattle.calculus.specs.Limits.{max-nesting}
 use Rattle.calculus.specs.Syntax.{Exp}
 use Rattle.calculus.specs.Table.{Table}

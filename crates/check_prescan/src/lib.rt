@@ -17,7 +17,7 @@ ghost use Rattle.recipe_table.specs.Entries.{table-of};
 ghost use Rattle.check_prescan.specs.Stands.{ended, glance, leaf-stands};
 
 // The deepest level whose nodes have subterms.
-const LAST_LEVEL: u8 = 99;
+const LAST_LEVEL: u8 = (Recipe::MAX_NESTING - 1) as u8;
 
 // Causes 7 and 8 of a term with no subterm, below so many lambdas.
 fn leaf_stands(

@@ -1,10 +1,15 @@
 -- Causes 5 and 6, by the answers of the loops.
 use mathlib.Core.Path.{_∙_, _≡_, refl, sym}
 use mathlib.Core.Bool.{Bool, _||_, cond, false, not, true}
-use mathlib.Core.List.{List}
+use mathlib.Core.List.{List, [], _∷_}
 use Prim.Native.Nat.{_<_, _≤_, ℕ}
 use native.Mathlib.Omega.{arith}
 use lib.Dec.{ltb}
+use borrow.Author.Tests.{not-false}
+use Rattle.recipe_file.proofs.LaidOut.{or-parts}
+use Rattle.calculus.specs.Theory.Lowest.{none-fits}
+use Rattle.calculus.specs.Lowest.{Cause, cause, lowest}
+use Rattle.calculus.specs.Causes.{no-term-cause, term-size-cause}
 use Rattle.calculus.specs.Lists.{each-below, sum-below}
 use Rattle.calculus.specs.Limits.{max-recipe-nodes}
 use Rattle.calculus.specs.Table.{TableRule}
@@ -28,7 +33,10 @@ module _ (s : List ℕ) where
   abbrev total : ℕ
   total = sum-below (bays s) (bay-nodes s)
 
-  by-tests : terms-refusal s ≡ cond (not single) 5 (cond (not (each-passes s Nesting) || ltb max-recipe-nodes total) 6 0)
+  abbrev tests : List Cause
+  tests = cause no-term-cause (not single) ∷ cause term-size-cause (not (each-passes s Nesting) || ltb max-recipe-nodes total) ∷ []
+
+  by-tests : terms-refusal s ≡ lowest tests
   unfolding terms-refusal cause-5 cause-6 bay-single bay-nodes each-passes bay-passes passes
   by-tests = refl
 
@@ -41,19 +49,19 @@ module _ (s : List ℕ) where
       go true e = (refl, cc)
       go false e = absurd (clash (cc))
 
-  pub no-term : NoTerm ≡ nodes-in s → 5 ≡ terms-refusal s
+  pub no-term : NoTerm ≡ nodes-in s → no-term-cause ≡ terms-refusal s
   unfolding nodes-in
   no-term e = go single e refl
     where
-      go : (b : Bool) → NoTerm ≡ cond b (Nodes total) NoTerm → single ≡ b → 5 ≡ terms-refusal s
+      go : (b : Bool) → NoTerm ≡ cond b (Nodes total) NoTerm → single ≡ b → no-term-cause ≡ terms-refusal s
       go true e p = absurd (clash (cc))
       go false e p = rw (by-tests, p) refl
 
   module _ (n : ℕ) (e : Nodes n ≡ nodes-in s) where
-    pub many-nodes : max-recipe-nodes < n → 6 ≡ terms-refusal s
+    pub many-nodes : max-recipe-nodes < n → term-size-cause ≡ terms-refusal s
     many-nodes l = let (p, q) = counted n e in rw (by-tests, p, q, ltb-complete max-recipe-nodes n l) (or (each-passes s Nesting))
       where
-        or : (b : Bool) → _≡_ {A = ℕ} 6 (cond (not b || true) 6 0)
+        or : (b : Bool) → _≡_ {A = ℕ} term-size-cause (cond (not b || true) term-size-cause 0)
         or true = refl
         or false = refl
 
@@ -61,19 +69,15 @@ module _ (s : List ℕ) where
     terms-known l r m = let (p, q) = counted n e in record { laid = l; rule = r; single = p; few = omega arith }
 
     module _ (m : n ≤ max-recipe-nodes) (t : Bool) (f : t ≡ each-passes s Nesting) where
-      pub too-deep : t ≡ false → 6 ≡ terms-refusal s
+      pub too-deep : t ≡ false → term-size-cause ≡ terms-refusal s
       too-deep z = let (p, q) = counted n e in rw (by-tests, p, ← f, z) refl
 
-      pub none-fits : t ≡ true → 0 ≡ terms-refusal s
-      none-fits z = let (p, q) = counted n e in rw (by-tests, p, q, ← f, z, ltb-not max-recipe-nodes n m) refl
+      pub terms-pass : t ≡ true → 0 ≡ terms-refusal s
+      terms-pass z = let (p, q) = counted n e in rw (by-tests, p, q, ← f, z, ltb-not max-recipe-nodes n m) refl
 
 -- where neither fits
 pub neither : (s : List ℕ) → FileRule s → TableRule (type-table s) → terms-refusal s ≡ 0 → Terms s × (each-passes s Nesting ≡ true)
-neither s l r e = go (single s) refl (each-passes s Nesting) refl (ltb max-recipe-nodes (total s)) refl (sym (by-tests s) ∙ e)
-  where
-    go : (a : Bool) → single s ≡ a → (b : Bool) → each-passes s Nesting ≡ b → (c : Bool) → ltb max-recipe-nodes (total s) ≡ c
-        → _≡_ {A = ℕ} (cond (not a) 5 (cond (not b || c) 6 0)) 0 → Terms s × (each-passes s Nesting ≡ true)
-    go true p true q false w z = (record { laid = l; rule = r; single = p; few = ltb-false max-recipe-nodes (total s) w }, q)
-    go true p true q true w z = absurd (omega arith)
-    go true p false q c w z = absurd (omega arith)
-    go false p b q c w z = absurd (omega arith)
+neither s l r e =
+    let (p, (q, u)) = none-fits (tests s) tt (sym (by-tests s) ∙ e) in
+    let (n, w) = or-parts (not (each-passes s Nesting)) (ltb max-recipe-nodes (total s)) q in
+    (record { laid = l; rule = r; single = not-false (single s) p; few = ltb-false max-recipe-nodes (total s) w }, not-false (each-passes s Nesting) n)

@@ -7,6 +7,7 @@ ghost use Rattle.check_spec.specs.Verdict.{refused, verdict-of};
 ghost use Rattle.check_recipe.specs.Refusals.{parts-refusal, terms-refusal};
 use check_bays::Test;
 use check_spec::Verdict;
+use numbers::Cause;
 use numbers::Recipe;
 use term_scan::Part;
 
@@ -27,13 +28,13 @@ fn terms_refusal(recipe: &[u8]) -> u8
     ensures { λ r. ⌜ r ≡ terms-refusal (now (recipe .entry)) ⌝ }
 {
     let Part::Nodes(nodes) = check_bays::count_nodes(recipe) else {
-        return 5;
+        return Cause::NO_TERM;
     };
     if Recipe::MAX_NODES < nodes {
-        return 6;
+        return Cause::TERM_SIZE;
     }
     if !check_bays::each_passes(recipe, Test::Nesting) {
-        return 6;
+        return Cause::TERM_SIZE;
     }
     0
 }
@@ -51,9 +52,9 @@ fn parts_refusal(recipe: &[u8]) -> u8
         return terms;
     }
     if !check_bays::each_passes(recipe, Test::Scope) {
-        return 7;
+        return Cause::SCOPE;
     }
-    8
+    Cause::ANNOTATION
 }
 
 // The verdict on a recipe file: the lowest cause that fits, or the bays' types.
@@ -70,13 +71,13 @@ pub fn check(recipe: &[u8]) -> Verdict
     }
     let found = check_bays::types_of(recipe);
     if !found.each {
-        return refused(9);
+        return refused(Cause::TYPE);
     }
     if !found.linear {
-        return refused(10);
+        return refused(Cause::LINEARITY);
     }
     if !found.many {
-        return refused(11);
+        return refused(Cause::BAY_ONCE);
     }
     let types = found.numbers;
     Verdict {

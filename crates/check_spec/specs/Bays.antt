@@ -1,8 +1,10 @@
 -- Document 01, "one term for each of b = n − 1 bays": the bays' terms; causes 5 and 6.
 use mathlib.Core.Bool.{Bool, _||_, not}
-use mathlib.Core.List.{List}
+use mathlib.Core.List.{List, [], _∷_}
 use Prim.Native.Nat.{ℕ}
 use lib.Dec.{leb, ltb}
+use Rattle.calculus.specs.Causes.{no-term-cause, term-size-cause}
+use Rattle.calculus.specs.Lowest.{Cause, cause}
 use Rattle.calculus.specs.Lists.{tabulate, each-below, sum-below}
 use Rattle.calculus.specs.Syntax.{Exp}
 use Rattle.calculus.specs.Limits.{max-nesting, max-recipe-nodes}
@@ -15,6 +17,7 @@ use Rattle.recipe_file.specs.File.{bays, term-bytes}
 unfoldable pub bay-term : List ℕ → ℕ → Exp
 bay-term s bay = term-at (term-bytes s bay) 0
 
+-- the terms of all bays
 unfoldable pub bay-terms : List ℕ → List Exp
 bay-terms s = tabulate (bays s) (bay-term s)
 
@@ -27,3 +30,7 @@ unfoldable pub cause-6 : List ℕ → Bool
 cause-6 s =
     not (each-below (bays s) (λ bay. leb (nesting (bay-term s bay)) max-nesting))
     || ltb max-recipe-nodes (sum-below (bays s) (λ bay. nodes (bay-term s bay)))
+
+-- causes 5 and 6 with their numbers
+abbrev pub term-causes : List ℕ → List Cause
+term-causes s = cause no-term-cause (cause-5 s) ∷ cause term-size-cause (cause-6 s) ∷ []

@@ -2,31 +2,33 @@
 -- number".
 use mathlib.Core.Bool.{cond}
 use mathlib.Core.Option.{Option, none, some}
-use mathlib.Core.List.{List, []}
+use mathlib.Core.List.{List, [], _++_}
 use Prim.Native.Nat.{ℕ}
 use lib.Dec.{eqb, ltb}
 use lib.ListN.{replicate}
+use Rattle.calculus.specs.Lowest.{lowest}
 use Rattle.calculus.specs.Lists.{tabulate}
 use Rattle.calculus.specs.Limits.{max-bays}
-use Rattle.calculus.specs.Verdict.{type-number, verdict}
-use Rattle.recipe_file.specs.File.{bays, cause-1, cause-2, cause-3}
-use Rattle.recipe_table.specs.Entries.{type-table, cause-4}
+use Rattle.calculus.specs.Verdict.{type-causes, type-number}
+use Rattle.recipe_file.specs.File.{bays}
+use Rattle.recipe_table.specs.Entries.{type-table, table-causes}
 use Rattle.check_spec.specs.declared.Verdict.{Verdict}
-use Rattle.check_spec.specs.Bays.{bay-term, bay-terms, cause-5, cause-6}
+use Rattle.check_spec.specs.Bays.{bay-term, bay-terms, term-causes}
 
 -- the number of the lowest cause that fits, 0 where none does; 7 to 11 are the calculus's
 unfoldable pub refusal : List ℕ → ℕ
-refusal s =
-    cond (cause-1 s) 1 (cond (cause-2 s) 2 (cond (cause-3 s) 3 (cond (cause-4 s) 4 (cond (cause-5 s) 5 (cond (cause-6 s) 6 (verdict (type-table s) (bay-terms s)))))))
+refusal s = lowest (table-causes s ++ (term-causes s ++ type-causes (type-table s) (bay-terms s)))
 
--- the type numbers of the bays; 0 where there is no bay
+-- a number, or 0 where there is none
 unfoldable pub number-in : Option ℕ → ℕ
 number-in none = 0
 number-in (some n) = n
 
+-- the type number of a bay; 0 where there is no such bay
 unfoldable pub bay-type-number : List ℕ → ℕ → ℕ
 bay-type-number s bay = cond (ltb bay (bays s)) (number-in (type-number (type-table s) [] (bay-term s bay))) 0
 
+-- "each bay's type number"
 unfoldable pub bay-type-numbers : List ℕ → List ℕ
 bay-type-numbers s = tabulate max-bays (bay-type-number s)
 
@@ -34,6 +36,7 @@ bay-type-numbers s = tabulate max-bays (bay-type-number s)
 abbrev pub refused : ℕ → Verdict
 refused number = record { refusal = number; bays = 0; types = replicate max-bays 0 }
 
+-- "Accepting answers b and each bay's type number"
 abbrev pub accepted : List ℕ → Verdict
 accepted s = record { refusal = 0; bays = bays s; types = bay-type-numbers s }
 

@@ -1,70 +1,21 @@
--- The type of a term from those of its subterms, and that subterms of a term in scope are in scope.
+-- The type of a term from those of its subterms.
 use mathlib.Core.Path.{_≡_, ap, refl, subst, sym, _∙_}
 use mathlib.Core.Bool.{_&&_, and-false, and-true, false, true}
 use mathlib.Core.Option.{Option, none, some}
 use mathlib.Core.List.{List, _∷_}
-use Prim.Native.Nat.{_+_, _<_, suc, ℕ}
-use native.Mathlib.Numerals.{add-one}
-use native.Mathlib.Omega.{arith}
-use borrow.Author.Tests.{ltb-true}
-use lib.Dec.{ltb}
-use Rattle.calculus.specs.Limits.{byte-values}
-use Rattle.calculus.specs.Syntax.{app, at as entry-at, Exp, lam}
+use Prim.Native.Nat.{_+_, ℕ}
+use Rattle.calculus.specs.Syntax.{at as entry-at}
 use Rattle.calculus.specs.Table.{Entry, Table}
-use Rattle.calculus.specs.Verdict.{applied-number, is-function-kind, lambda-number, on-function, on-number, result-number, scoped, type-number}
-use Rattle.calculus.specs.Theory.Tests.{and-parts, clash}
+use Rattle.calculus.specs.Verdict.{applied-number, is-function-kind, lambda-number, on-function, on-number, result-number, type-number}
+use Rattle.calculus.specs.Theory.Tests.{clash}
 use Rattle.term.specs.declared.Node.{Node}
 use Rattle.term.specs.Reader.{end-at}
-use Rattle.term.specs.Expressions.{leaf-exp, nesting, term-at}
+use Rattle.term.specs.Expressions.{leaf-exp, term-at}
 use Rattle.term.proofs.Views.{LeafAt, OneAt, past-first, TwoAt}
 use Rattle.check_types.specs.declared.Typed.the-variants.{Has, Nothing}
 use Rattle.check_types.specs.Entries.{entry-of}
-use Rattle.check_types.specs.Walk.{HasNumber, TypeReady, ScopedExp, typed-at, typed}
+use Rattle.check_types.specs.Walk.{HasNumber, typed-at, typed}
 use Rattle.check_types.proofs.Entries.{lambda-is, on-function-is, result-is}
-
--- Scope
-
-module _ {count above : ℕ} where
-  scoped-as : {e e′ : Exp} → e ≡ e′ → ScopedExp count above e → ScopedExp count above e′
-  scoped-as is s = subst (ScopedExp count above) is s
-
-  lambda-annotation : {t : ℕ} {e : Exp} → ScopedExp count above (lam t e) → t < byte-values
-  unfolding scoped
-  lambda-annotation {t} {e} s =
-      let (b, i) = and-parts (ltb t count) (scoped count (s .names) (suc above) e) (s .scope) in
-      omega (arith, ltb-true t count b, s .entries)
-
-  lambda-body : {t : ℕ} {e : Exp} → ScopedExp count above (lam t e) → ScopedExp count (above + 1) e
-  unfolding scoped nesting
-  lambda-body {t} {e} s =
-      let (b, i) = and-parts (ltb t count) (scoped count (s .names) (suc above) e) (s .scope) in
-      record { entries = s .entries; nests = omega (arith, s .nests); names = s .names; scope = rw (add-one above) i }
-
-  applied-both : {f a : Exp} → ScopedExp count above (app f a) → ScopedExp count above f × ScopedExp count above a
-  unfolding scoped nesting
-  applied-both {f} {a} s =
-      let (i, j) = and-parts (scoped count (s .names) above f) (scoped count (s .names) above a) (s .scope) in (
-        record { entries = s .entries; nests = omega (arith, s .nests); names = s .names; scope = i },
-        record { entries = s .entries; nests = omega (arith, s .nests); names = s .names; scope = j },
-      )
-
-module _ {l : List ℕ} {at count above : ℕ} {h : Node} (r : TypeReady l at count above) where
-  pub leaf-ready : LeafAt l at h → ScopedExp count above (leaf-exp (h .tag) (h .arg))
-  leaf-ready o = scoped-as (o .term) (r .term)
-
-  pub body-ready : OneAt l at h → TypeReady l (at + h .size) count (above + 1)
-  body-ready o = record { good = o .good; term = lambda-body (scoped-as (o .term) (r .term)) }
-
-  pub annotation-byte : OneAt l at h → h .arg < byte-values
-  annotation-byte o = lambda-annotation (scoped-as (o .term) (r .term))
-
-  pub function-ready : TwoAt l at h → TypeReady l (at + h .size) count above
-  function-ready o = record { good = o .good; term = applied-both (scoped-as (o .term) (r .term)) .0 }
-
-  pub argument-ready : TwoAt l at h → TypeReady l (past-first l at h) count above
-  argument-ready o = record { good = o .second; term = applied-both (scoped-as (o .term) (r .term)) .1 }
-
--- Types
 
 record Found (o : Option ℕ) (n end end′ : ℕ) : Type 0 where
   pub number : o ≡ some n

@@ -9,7 +9,7 @@ use Rattle.calculus.specs.Limits.{max-entries, max-nesting}
 use Rattle.calculus.specs.Syntax.{Exp}
 use Rattle.calculus.specs.Table.{Table}
 use Rattle.calculus.specs.Verdict.{scoped, type-number}
-use Rattle.term.specs.Reader.{end-at, GoodAt}
+use Rattle.term.specs.Reader.{end-at}
 use Rattle.term.specs.Expressions.{nesting, term-at}
 use Rattle.check_types.specs.declared.Typed.{Typed}
 use Rattle.check_types.specs.declared.Typed.the-variants.{Has, Nothing}
@@ -24,6 +24,7 @@ unfoldable pub typed : Option ℕ → ℕ → Typed
 typed none end = Nothing
 typed (some n) end = Has n end
 
+-- document 01, cause 9, of the term at a position
 unfoldable pub typed-at : Table → List ℕ → List ℕ → ℕ → Typed
 typed-at T Δ l at = typed (type-number T Δ (term-at l at)) (end-at l at)
 
@@ -42,8 +43,3 @@ pub record ScopedExp (count above : ℕ) (e : Exp) : Type 0 where
 pub record LeafScoped (above : ℕ) (e : Exp) : Type 0 where
   pub count : ℕ
   pub scoped : ScopedExp count above e
-
--- at a position stands such a term
-pub record TypeReady (l : List ℕ) (at count above : ℕ) : Type 0 where
-  pub good : GoodAt l at
-  pub term : ScopedExp count above (term-at l at)

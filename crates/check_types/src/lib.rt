@@ -41,11 +41,7 @@ pub fn entry_at(table: &[u8], t: usize) -> Entry
             q: table[at + 2],
         };
     }
-    Entry {
-        kind: 0,
-        p: 0,
-        q: 0,
-    }
+    Entry::UNUSED
 }
 
 // Document 01, cause 11: whether a type has multiplicity many, by the bytes of a table.

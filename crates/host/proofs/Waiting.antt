@@ -11,7 +11,7 @@ use Rattle.calculus.specs.Reduction.{number}
 use Rattle.calculus.specs.Step.{Answer, rule, waiting, done, no-thread, used-handle, wrong-kind, step-of, Unready, not-done, not-bound}
 use Rattle.calculus.specs.Limits.{max-image-length, max-names}
 use Rattle.calculus.specs.Image.{image-test, limits-test}
-use Rattle.calculus.specs.Run.{Reply, moved, waits, finished, refuses, reply-of}
+use Rattle.calculus.specs.Reply.{Reply, moved, waits, finished, refuses, reply-of}
 use Rattle.calculus.specs.Theory.Tests.{and-parts, clash}
 use Rattle.calculus.specs.Theory.Lists.{at-bound}
 use Rattle.calculus.specs.Theory.Step.{waiting-iff}

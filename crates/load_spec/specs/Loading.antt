@@ -6,6 +6,7 @@ use Prim.Native.Nat.{ℕ}
 use lib.Dec.{eqb, ltb}
 use lib.ListN.{drop, length, replicate}
 use Rattle.calculus.specs.Limits.{max-bays, max-image-length}
+use Rattle.calculus.specs.Causes.{buffer-cause}
 use Rattle.recipe_file.specs.File.{bays}
 use Rattle.check_spec.specs.Verdict.{bay-type-numbers, refusal}
 use Rattle.load_spec.specs.Starting.{starting-image}
@@ -20,7 +21,7 @@ is-loaded s = record { refusal = 0; bays = bays s; types = bay-type-numbers s; l
 
 -- the number of the lowest cause that fits, 12 being tried first; `room` is the length of the out buffer
 unfoldable pub load-refusal : List ℕ → ℕ → ℕ
-load-refusal s room = cond (ltb room max-image-length) 12 (refusal s)
+load-refusal s room = cond (ltb room max-image-length) buffer-cause (refusal s)
 
 -- what a load answers
 unfoldable pub loaded-of : List ℕ → ℕ → Loaded

@@ -2,11 +2,12 @@
 use mathlib.Core.Path.{_∙_, _≡_, refl, sym}
 use mathlib.Core.Bool.{Bool, false, not, true}
 use mathlib.Core.List.{List}
-use Prim.Native.Nat.{_%_, _<_, _≤_, ℕ}
+use Prim.Native.Nat.{_%_, _*_, _<_, _≤_, ℕ}
 use borrow.Author.Tests.{eq-eqb, ne-eqb}
 use lib.ListN.{getD, length}
-use Rattle.calculus.specs.Limits.{min-file-length, max-file-length, min-parts, max-parts}
-use Rattle.recipe_file.specs.File.{edition, opening, parts, table-part, pair-offset, length-of, outside, cause-1, opens, edition-known, cause-2, pairs-test, table-length-test, cause-3, layout-refusal}
+use Rattle.calculus.specs.Causes.{file-length-cause, opening-cause, layout-cause}
+use Rattle.calculus.specs.Limits.{min-entries, max-entries, min-file-length, max-file-length, min-parts, max-parts}
+use Rattle.recipe_file.specs.File.{edition, opening, parts, table-part, pair-offset, length-of, outside, cause-1, opens, edition-known, cause-2, pairs-test, entry-length, table-length-test, cause-3, layout-refusal}
 use Rattle.recipe_file.proofs.Chains.{pairs-cut}
 use Rattle.recipe_file.proofs.LaidOut.{between}
 
@@ -35,13 +36,13 @@ module _ (s : List ℕ) where
       opening-stands c n e = rw (opened, eq-eqb (getD s 2 0) edition c, e) refl
 
 -- the table's length
-pub no-multiple : (n : ℕ) → (n % 3 ≡ 0 → ⊥) → false ≡ table-length-test n
+pub no-multiple : (n : ℕ) → (n % entry-length ≡ 0 → ⊥) → false ≡ table-length-test n
 unfolding table-length-test
-no-multiple n f = rw (ne-eqb (n % 3) 0 f) refl
+no-multiple n f = rw (ne-eqb (n % entry-length) 0 f) refl
 
-pub multiple : (n : ℕ) → n % 3 ≡ 0 → not (outside 9 768 n) ≡ table-length-test n
+pub multiple : (n : ℕ) → n % entry-length ≡ 0 → not (outside (entry-length * min-entries) (entry-length * max-entries) n) ≡ table-length-test n
 unfolding table-length-test
-multiple n e = rw (eq-eqb (n % 3) 0 e) refl
+multiple n e = rw (eq-eqb (n % entry-length) 0 e) refl
 
 -- cause 3
 module _ (s : List ℕ) (n : ℕ) (e : n ≡ getD s 3 0) where
@@ -67,7 +68,7 @@ module _ (s : List ℕ) (n : ℕ) (e : n ≡ getD s 3 0) where
 
 -- the lowest cause
 module _ (s : List ℕ) (t₁ : Bool) (e₁ : t₁ ≡ outside min-file-length max-file-length (length s)) where
-  pub lowest-1 : t₁ ≡ true → 1 ≡ layout-refusal s
+  pub lowest-1 : t₁ ≡ true → file-length-cause ≡ layout-refusal s
   unfolding layout-refusal cause-1
   lowest-1 f = rw (← e₁, f) refl
 
@@ -76,12 +77,12 @@ module _ (s : List ℕ) (t₁ : Bool) (e₁ : t₁ ≡ outside min-file-length m
     long-enough = between min-file-length max-file-length (length s) (sym e₁ ∙ f₁) .low
 
     module _ (t₂ : Bool) (e₂ : t₂ ≡ cause-2 s) where
-      pub lowest-2 : t₂ ≡ true → 2 ≡ layout-refusal s
+      pub lowest-2 : t₂ ≡ true → opening-cause ≡ layout-refusal s
       unfolding layout-refusal cause-1
       lowest-2 f = rw (← e₁, f₁, ← e₂, f) refl
 
       module _ (f₂ : t₂ ≡ false) (t₃ : Bool) (e₃ : t₃ ≡ cause-3 s) where
-        pub lowest-3 : t₃ ≡ true → 3 ≡ layout-refusal s
+        pub lowest-3 : t₃ ≡ true → layout-cause ≡ layout-refusal s
         unfolding layout-refusal cause-1
         lowest-3 f = rw (← e₁, f₁, ← e₂, f₂, ← e₃, f) refl
 

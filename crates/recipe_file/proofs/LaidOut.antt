@@ -1,16 +1,17 @@
 -- Causes 1 to 3 do not fit exactly when a file is laid out as document 01 says.
 use mathlib.Core.Path.{_∙_, _≡_, ap, refl, sym}
 use mathlib.Core.Logic.{_↔_}
-use mathlib.Core.Bool.{Bool, _||_, cond, false, false≢true, not, true}
+use mathlib.Core.Bool.{Bool, _||_, false, false≢true, not, true}
 use mathlib.Core.List.{List, [], _∷_}
 use Prim.Native.Nat.{_%_, _*_, _-_, _/_, _≤_, ℕ}
 use native.Mathlib.Omega.{arith}
 use borrow.Author.Tests.{eq-eqb, eqb-true, le-ltb, ltb-false, not-false, not-true}
 use lib.Dec.{eqb, ltb}
 use lib.ListN.{getD, length, take}
+use Rattle.calculus.specs.Theory.Lowest.{none-fits}
 use Rattle.calculus.specs.Limits.{min-file-length, max-file-length, min-parts, max-parts, min-entries, max-entries}
 use Rattle.calculus.specs.Theory.Tests.{and-true, and-parts}
-use Rattle.recipe_file.specs.File.{opening, edition, parts, table-part, pair-offset, length-of, outside, cause-1, opens, edition-known, cause-2, pairs-test, entry-length, table-length-test, cause-3, layout-refusal}
+use Rattle.recipe_file.specs.File.{opening, edition, parts, table-part, pair-offset, length-of, outside, cause-1, opens, edition-known, cause-2, pairs-test, entry-length, table-length-test, cause-3, layout-refusal, layout-causes}
 use Rattle.recipe_file.specs.FileRule.{Between, FileRule}
 use Rattle.recipe_file.proofs.Chains.{chain-sound, chain-complete, chain-first, chain-next, chain-last, chain-some, chain}
 
@@ -109,13 +110,7 @@ laid-iff s = (λ e. laid s (e .0) (e .1) (e .2), λ l. (no-cause-1 l, no-cause-2
 -- where the lowest of them is 0, none fits
 pub no-layout-cause : (s : List ℕ) → layout-refusal s ≡ 0 → (cause-1 s ≡ false) × (cause-2 s ≡ false) × (cause-3 s ≡ false)
 unfolding layout-refusal
-no-layout-cause s e = go (cause-1 s) (cause-2 s) (cause-3 s) e
-  where
-    go : (a b c : Bool) → _≡_ {A = ℕ} (cond a 1 (cond b 2 (cond c 3 0))) 0 → (a ≡ false) × (b ≡ false) × (c ≡ false)
-    go true b c e = absurd (omega arith)
-    go false true c e = absurd (omega arith)
-    go false false true e = absurd (omega arith)
-    go false false false e = (refl, refl, refl)
+no-layout-cause s e = let (a, (b, (c, u))) = none-fits (layout-causes s) tt e in (a, b, c)
 
 pub laid-where : (s : List ℕ) (r : ℕ) → r ≡ layout-refusal s → r ≡ 0 → FileRule s
 laid-where s r e z = let (a, b, c) = no-layout-cause s (sym e ∙ z) in laid s a b c

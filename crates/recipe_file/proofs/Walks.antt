@@ -7,12 +7,13 @@ use native.Mathlib.Omega.{arith}
 use borrow.Author.Tests.{eq-eqb, ne-eqb}
 use lib.Dec.{eqb}
 use lib.ListN.{length}
+use Rattle.calculus.specs.Bytes.{two-byte-values}
 use Rattle.recipe_file.specs.File.{pair-offset, offset-of, length-of, pairs-test}
 
 -- of n pairs, pair i is next, and its part is to begin at `at`
 pub record PairsWalked (s : List ℕ) (n i at : ℕ) : Type 0 where
   pub inside : i ≤ n
-  pub near : at ≤ pair-offset n + 65536 * i
+  pub near : at ≤ pair-offset n + two-byte-values * i
   pub same : pairs-test s n 0 (pair-offset n) ≡ pairs-test s (n - i) i at
 
 pub walked-start : (s : List ℕ) (n i at : ℕ) → i ≡ 0 → at ≡ pair-offset n → PairsWalked s n i at
@@ -32,7 +33,7 @@ module _ {s : List ℕ} {n i at : ℕ} (w : PairsWalked s n i at) (h : i < n) (o
     pub walked-empty : size ≡ 0 → false ≡ pairs-test s n 0 (pair-offset n)
     walked-empty z = sym (turn ∙ rw (eq-eqb o at p, ← is-size, z) refl)
 
-    pub walked-next : (size ≡ 0 → ⊥) → size < 65536 → (j to : ℕ) → j ≡ i + 1 → to ≡ at + size → PairsWalked s n j to
+    pub walked-next : (size ≡ 0 → ⊥) → size < two-byte-values → (j to : ℕ) → j ≡ i + 1 → to ≡ at + size → PairsWalked s n j to
     walked-next f b j to e₁ e₂ =
         rw (e₁, e₂) (record {
           inside = omega arith;

@@ -1,10 +1,12 @@
 -- Document 01, "The recipe file": opening, edition, pairs of offset and length, parts; causes 1 to 3 as tests.
-use mathlib.Core.Bool.{Bool, _&&_, _||_, cond, not}
+use mathlib.Core.Bool.{Bool, _&&_, _||_, not}
 use mathlib.Core.List.{List, [], _∷_}
 use Prim.Native.Nat.{_%_, _*_, _+_, _-_, suc, zero, ℕ}
 use lib.Dec.{eqb, ltb}
 use lib.ListN.{drop, getD, length, take}
 use Rattle.calculus.specs.Bytes.{word}
+use Rattle.calculus.specs.Causes.{file-length-cause, opening-cause, layout-cause}
+use Rattle.calculus.specs.Lowest.{Cause, cause, lowest}
 use Rattle.calculus.specs.Limits.{min-file-length, max-file-length, min-parts, max-parts, min-entries, max-entries}
 
 -- document 01, "Bytes 0 and 1 are 4C 46"
@@ -23,9 +25,11 @@ parts s = getD s 3 0
 abbrev pub pair-offset : ℕ → ℕ
 pair-offset i = 4 + 4 * i
 
+-- "pairs of offset and length": the offset that pair i says
 unfoldable pub offset-of : List ℕ → ℕ → ℕ
 offset-of s i = word s (pair-offset i)
 
+-- the length that pair i says
 unfoldable pub length-of : List ℕ → ℕ → ℕ
 length-of s i = word s (pair-offset i + 2)
 
@@ -40,12 +44,15 @@ table-part = 0
 abbrev pub first-term : ℕ
 first-term = 1
 
+-- "b = n − 1 bays"
 unfoldable pub bays : List ℕ → ℕ
 bays s = parts s - first-term
 
+-- the bytes of the type table
 unfoldable pub table-bytes : List ℕ → List ℕ
 table-bytes s = part s table-part
 
+-- the bytes of a bay's term
 unfoldable pub term-bytes : List ℕ → ℕ → List ℕ
 term-bytes s bay = part s (first-term + bay)
 
@@ -57,13 +64,15 @@ outside least most n = ltb n least || ltb most n
 unfoldable pub cause-1 : List ℕ → Bool
 cause-1 s = outside min-file-length max-file-length (length s)
 
--- document 01, cause 2: "first two bytes, edition, or n outside 2 to 17"
+-- "Bytes 0 and 1 are 4C 46" as a test
 unfoldable pub opens : List ℕ → Bool
 opens s = eqb (getD s 0 0) (getD opening 0 0) && eqb (getD s 1 0) (getD opening 1 0)
 
+-- "Byte 2 is the edition, 01" as a test
 unfoldable pub edition-known : List ℕ → Bool
 edition-known s = eqb (getD s 2 0) edition
 
+-- document 01, cause 2: "first two bytes, edition, or n outside 2 to 17"
 unfoldable pub cause-2 : List ℕ → Bool
 cause-2 s = not (opens s) || (not (edition-known s) || outside min-parts max-parts (parts s))
 
@@ -85,6 +94,10 @@ table-length-test n = eqb (n % entry-length) 0 && not (outside (entry-length * m
 unfoldable pub cause-3 : List ℕ → Bool
 cause-3 s = not (pairs-test s (parts s) 0 (pair-offset (parts s))) || not (table-length-test (length-of s table-part))
 
+-- causes 1 to 3 with their numbers
+abbrev pub layout-causes : List ℕ → List Cause
+layout-causes s = cause file-length-cause (cause-1 s) ∷ cause opening-cause (cause-2 s) ∷ cause layout-cause (cause-3 s) ∷ []
+
 -- document 01, "The lowest number that fits wins", for causes 1 to 3; 0 where none fits
 unfoldable pub layout-refusal : List ℕ → ℕ
-layout-refusal s = cond (cause-1 s) 1 (cond (cause-2 s) 2 (cond (cause-3 s) 3 0))
+layout-refusal s = lowest (layout-causes s)

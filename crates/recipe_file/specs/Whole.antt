@@ -4,7 +4,7 @@ use mathlib.Core.Path.{_≡_}
 use mathlib.Core.List.{List, [], _++_, _∷_}
 use Prim.Native.Nat.{_*_, _+_, _<_, _≤_, suc, zero, ℕ}
 use lib.ListN.{getD, length}
-use Rattle.calculus.specs.Bytes.{Bytes, two-bytes}
+use Rattle.calculus.specs.Bytes.{two-bytes}
 use Rattle.calculus.specs.Limits.{max-file-length, min-parts, max-parts, min-entries, max-entries}
 use Rattle.recipe_file.specs.File.{opening, edition, parts, pair-offset, part, table-part, entry-length}
 use Rattle.recipe_file.specs.FileRule.{Between}

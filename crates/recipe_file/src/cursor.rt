@@ -1,6 +1,7 @@
 // Where the walk over the pairs stands.
 ghost use mathlib.Core.Path.{_≡_};
-ghost use Prim.Native.Nat.{_+_, _<_};
+ghost use Prim.Native.Nat.{_*_, _+_, _<_};
+ghost use Rattle.calculus.specs.Bytes.{two-byte-values};
 ghost use Rattle.recipe_file.specs.File.{pair-offset};
 
 // The next pair, and where its part is to begin.
@@ -12,7 +13,7 @@ pub struct Cursor {
 impl Cursor {
     // Before the first of n pairs.
     pub fn new(n: usize) -> Cursor
-        requires { ⌜ n < 65536 ⌝ }
+        requires { ⌜ n < two-byte-values ⌝ }
         ensures { λ r. ⌜ (r .pair ≡ 0) × (r .at ≡ pair-offset n) ⌝ }
     {
         Cursor {
@@ -23,7 +24,7 @@ impl Cursor {
 
     // Behind a pair whose part has this length.
     pub fn past(self, size: usize) -> Cursor
-        requires { ⌜ (self .pair < 65536) × (self .at + size < 4294967296) ⌝ }
+        requires { ⌜ (self .pair < two-byte-values) × (self .at + size < two-byte-values * two-byte-values) ⌝ }
         ensures { λ r. ⌜ (r .pair ≡ self .pair + 1) × (r .at ≡ self .at + size) ⌝ }
     {
         Cursor {

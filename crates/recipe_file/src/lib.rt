@@ -2,8 +2,8 @@
 ghost use mathlib.Core.Path.{_≡_};
 ghost use Prim.Native.Nat.{_+_, _*_, _<_, _≤_};
 ghost use lib.ListN.{length};
-ghost use Rattle.calculus.specs.Bytes.{word};
-ghost use Rattle.calculus.specs.Limits.{min-file-length};
+ghost use Rattle.calculus.specs.Bytes.{two-byte-values};
+ghost use Rattle.calculus.specs.Limits.{byte-values, min-file-length};
 ghost use Rattle.recipe_file.specs.File.{bays, pair-offset, offset-of, length-of, part, table-bytes, term-bytes, outside, cause-2, pairs-test, table-length-test, cause-3, layout-refusal};
 ghost use Rattle.recipe_file.specs.FileRule.{FileRule, HasPart, HasBay};
 
@@ -29,7 +29,7 @@ pub const ENTRY_LENGTH: usize = 3;
 
 // Where pair i stands; behind the last of n pairs the first part begins.
 pub fn pair_offset(i: usize) -> usize
-    requires { ⌜ i < 65536 ⌝ }
+    requires { ⌜ i < two-byte-values ⌝ }
     ensures { λ r. ⌜ r ≡ pair-offset i ⌝ }
 {
     4 + 4 * i
@@ -37,33 +37,25 @@ pub fn pair_offset(i: usize) -> usize
 
 // A byte as a number.
 fn wide(byte: u8) -> usize
-    ensures { λ r. ⌜ (r ≡ byte) × (r < 256) ⌝ }
+    ensures { λ r. ⌜ (r ≡ byte) × (r < byte-values) ⌝ }
 {
     byte as usize
 }
 
-// A two-byte number.
-fn word_at(recipe: &[u8], at: usize) -> usize
-    requires { ⌜ at + 1 < length (now recipe) ⌝ }
-    ensures { λ r. ⌜ (r ≡ word (now (recipe .entry)) at) × (r < 65536) ⌝ }
-{
-    wide(recipe[at]) + 256 * wide(recipe[at + 1])
-}
-
 // The offset that pair i says.
 fn offset_of(recipe: &[u8], i: usize) -> usize
-    requires { ⌜ (i < 256) × (pair-offset (i + 1) ≤ length (now recipe)) ⌝ }
-    ensures { λ r. ⌜ (r ≡ offset-of (now (recipe .entry)) i) × (r < 65536) ⌝ }
+    requires { ⌜ (i < byte-values) × (pair-offset (i + 1) ≤ length (now recipe)) ⌝ }
+    ensures { λ r. ⌜ (r ≡ offset-of (now (recipe .entry)) i) × (r < two-byte-values) ⌝ }
 {
-    word_at(recipe, pair_offset(i))
+    buffer::word_at(recipe, pair_offset(i))
 }
 
 // The length that pair i says.
 fn length_of(recipe: &[u8], i: usize) -> usize
-    requires { ⌜ (i < 256) × (pair-offset (i + 1) ≤ length (now recipe)) ⌝ }
-    ensures { λ r. ⌜ (r ≡ length-of (now (recipe .entry)) i) × (r < 65536) ⌝ }
+    requires { ⌜ (i < byte-values) × (pair-offset (i + 1) ≤ length (now recipe)) ⌝ }
+    ensures { λ r. ⌜ (r ≡ length-of (now (recipe .entry)) i) × (r < two-byte-values) ⌝ }
 {
-    word_at(recipe, pair_offset(i) + 2)
+    buffer::word_at(recipe, pair_offset(i) + 2)
 }
 
 // n is below `least` or above `most`.
@@ -92,7 +84,7 @@ fn opening_breaks(recipe: &[u8]) -> bool
 
 // The parts of n pairs follow each other from the pairs to the end of the file, and none is empty.
 fn pairs_stand(recipe: &[u8], n: usize) -> bool
-    requires { ⌜ (n < 256) × (pair-offset n ≤ length (now recipe)) ⌝ }
+    requires { ⌜ (n < byte-values) × (pair-offset n ≤ length (now recipe)) ⌝ }
     ensures { λ r. ⌜ r ≡ pairs-test (now (recipe .entry)) n 0 (pair-offset n) ⌝ }
 {
     let mut cursor = Cursor::new(n);

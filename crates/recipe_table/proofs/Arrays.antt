@@ -44,7 +44,7 @@ table-of-at (a ∷ b ∷ c ∷ l) (suc i) j e h =
 unfoldable pub filled-to : calculus.Table → ℕ → List Entry
 filled-to T i = map by-value (take i T) ++ replicate (max-entries - i) unused
 
-pub filled-none : (T : calculus.Table) → replicate 256 unused ≡ filled-to T 0
+pub filled-none : (T : calculus.Table) → replicate max-entries unused ≡ filled-to T 0
 unfolding filled-to
 filled-none T = refl
 
@@ -56,11 +56,11 @@ pub filled-more : (T : calculus.Table) (i : ℕ) (x : Entry) → i < length T �
     set (filled-to T i) i x ≡ filled-to T (i + 1)
 unfolding filled-to
 filled-more T i x h b e =
-    let k : 256 - i ≡ suc (256 - (i + 1)) = omega arith in
+    let k : max-entries - i ≡ suc (max-entries - (i + 1)) = omega arith in
     let n : length (map by-value (take i T)) ≡ i = length-map (take i T) by-value ∙ (length-take i T ∙ omega arith) in
     rw (k, add-one i, take-suc T i blank, map-snoc, e)
-    (set-at (map by-value (take i T)) unused (replicate (256 - suc i) unused) x i n
-    ∙ sym (append-snoc (map by-value (take i T)) x (replicate (256 - suc i) unused)))
+    (set-at (map by-value (take i T)) unused (replicate (max-entries - suc i) unused) x i n
+    ∙ sym (append-snoc (map by-value (take i T)) x (replicate (max-entries - suc i) unused)))
 
 pub filled-all : (T : calculus.Table) (i : ℕ) → i ≡ length T → filled-to T i ≡ filled T
 unfolding filled-to filled
@@ -80,9 +80,6 @@ unfolding as-table filled
 as-table-filled T count e =
     let n : length (map by-value T) ≡ count = length-map T by-value ∙ sym e in
     rw (take-at (map by-value T) (replicate (max-entries - length T) unused) count n) (there-and-back T)
-
-pub read-table-is : (l : List ℕ) → as-table (filled (table-of l)) (length l / entry-length) ≡ table-of l
-read-table-is l = as-table-filled (table-of l) (length l / entry-length) (sym (length-table-of l))
 
 at-getD : {A : Type 0} (l : List A) (i : ℕ) (d : A) → i < length l → at l i ≡ some (getD l i d)
 at-getD [] i d h = absurd (omega arith)

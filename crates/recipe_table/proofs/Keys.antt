@@ -5,10 +5,10 @@ use mathlib.Core.List.{List}
 use Prim.Native.Nat.{_+_, _-_, _<_, _≤_, suc, zero, ℕ}
 use native.Mathlib.Numerals.{add-one}
 use native.Mathlib.Omega.{arith}
-use borrow.Author.Tests.{eq-eqb, ne-eqb}
 use lib.Dec.{eqb}
 use lib.ListN.{drop, getD, length, length-set, set}
 use lib.Seq.{getD-set-other, getD-set-same}
+use Rattle.calculus.specs.Limits.{max-entries}
 use Rattle.calculus.specs.Table as calculus
 use Rattle.calculus.specs.Theory.Tests.{and-parts, eqb-sound, eqb-complete}
 use Rattle.recipe_table.specs.declared.Entry.{Entry}
@@ -46,8 +46,8 @@ key-same {x} {y} {k} {m} c d = equal-from _ _ there back
 -- the keys from place i on are those of the entries
 pub record Keyed (a : List Entry) (count : ℕ) (keys : List ℕ) (i : ℕ) : Type 0 where
   pub inside : i ≤ count
-  pub few : count ≤ 256
-  pub room : length keys ≡ 256
+  pub few : count ≤ max-entries
+  pub room : length keys ≡ max-entries
   pub each : (j : ℕ) → i ≤ j → j < count → Coded (as-entry (getD a j unused)) (getD keys j 0)
   pub distinct : distinct-from (as-table a count) i ≡ true
 
@@ -55,7 +55,7 @@ pub keyed-before : {a : List Entry} {count : ℕ} {keys : List ℕ} {i : ℕ} �
 keyed-before {i = i} w l = let z : i - 1 + 1 ≡ i = omega arith in rw z w
 
 module _ (a : List Entry) (count : ℕ) (h : count ≤ length a) where
-  pub keyed-none : (keys : List ℕ) → count ≤ 256 → length keys ≡ 256 → Keyed a count keys count
+  pub keyed-none : (keys : List ℕ) → count ≤ max-entries → length keys ≡ max-entries → Keyed a count keys count
   keyed-none keys few r = record { inside = omega arith; few = few; room = r; each = λ j low high. absurd (omega arith); distinct = distinct-done a count h }
 
   -- where an entry stands again, the table fails

@@ -7,23 +7,24 @@ use native.Mathlib.Omega.{arith}
 use borrow.Author.Tests.{eq-eqb, le-ltb, lt-ltb, ne-eqb}
 use lib.Dec.{eqb, ltb}
 use lib.ListN.{getD, length}
+use Rattle.calculus.specs.Kinds.{num-type-kind, cell-type-kind, many-type-kind, unit-entry, num-entry, setting-entry}
 use Rattle.calculus.specs.Limits.{min-entries}
 use Rattle.calculus.specs.Table as calculus
 use Rattle.recipe_table.specs.declared.Entry.{Entry}
 use Rattle.recipe_table.specs.Filled.{unused, as-entry, as-table, stands-at, first-three}
 use Rattle.recipe_table.proofs.Arrays.{entry-at}
 
-plain : (k kind p q : ℕ) → kind ≤ 1 → calculus.entry-test k kind p q ≡ (eqb p 0 && eqb q 0)
+plain : (k kind p q : ℕ) → kind ≤ num-type-kind → calculus.entry-test k kind p q ≡ (eqb p 0 && eqb q 0)
 unfolding calculus.entry-test
 plain k zero p q h = refl
 plain k (suc zero) p q h = refl
 plain k (suc (suc kind)) p q h = absurd (omega arith)
 
-cell : (k kind p q : ℕ) → kind ≡ 2 → calculus.entry-test k kind p q ≡ (ltb p k && eqb q 0)
+cell : (k kind p q : ℕ) → kind ≡ cell-type-kind → calculus.entry-test k kind p q ≡ (ltb p k && eqb q 0)
 unfolding calculus.entry-test
 cell k kind p q h = rw h refl
 
-function : (k kind p q : ℕ) → 1 < kind → (kind ≡ 2 → ⊥) → kind ≤ 4 → calculus.entry-test k kind p q ≡ (ltb p k && ltb q k)
+function : (k kind p q : ℕ) → num-type-kind < kind → (kind ≡ cell-type-kind → ⊥) → kind ≤ many-type-kind → calculus.entry-test k kind p q ≡ (ltb p k && ltb q k)
 unfolding calculus.entry-test
 function k zero p q h f b = absurd (omega arith)
 function k (suc zero) p q h f b = absurd (omega arith)
@@ -32,7 +33,7 @@ function k (suc (suc (suc zero))) p q h f b = refl
 function k (suc (suc (suc (suc zero)))) p q h f b = refl
 function k (suc (suc (suc (suc (suc kind))))) p q h f b = absurd (omega arith)
 
-pub unknown : (k kind p q : ℕ) → 4 < kind → false ≡ calculus.entry-test k kind p q
+pub unknown : (k kind p q : ℕ) → many-type-kind < kind → false ≡ calculus.entry-test k kind p q
 unfolding calculus.entry-test
 unknown k zero p q h = absurd (omega arith)
 unknown k (suc zero) p q h = absurd (omega arith)
@@ -42,19 +43,19 @@ unknown k (suc (suc (suc (suc zero)))) p q h = absurd (omega arith)
 unknown k (suc (suc (suc (suc (suc kind))))) p q h = refl
 
 module _ (k kind p q : ℕ) where
-  pub plain-zero : kind ≤ 1 → p ≡ 0 → eqb q 0 ≡ calculus.entry-test k kind p q
+  pub plain-zero : kind ≤ num-type-kind → p ≡ 0 → eqb q 0 ≡ calculus.entry-test k kind p q
   plain-zero h e = sym (plain k kind p q h ∙ rw (eq-eqb p 0 e) refl)
 
-  pub plain-not : kind ≤ 1 → (p ≡ 0 → ⊥) → eqb p 0 ≡ calculus.entry-test k kind p q
+  pub plain-not : kind ≤ num-type-kind → (p ≡ 0 → ⊥) → eqb p 0 ≡ calculus.entry-test k kind p q
   plain-not h e = ne-eqb p 0 e ∙ sym (plain k kind p q h ∙ rw (ne-eqb p 0 e) refl)
 
-  pub cell-below : kind ≡ 2 → p < k → eqb q 0 ≡ calculus.entry-test k kind p q
+  pub cell-below : kind ≡ cell-type-kind → p < k → eqb q 0 ≡ calculus.entry-test k kind p q
   cell-below h e = sym (cell k kind p q h ∙ rw (lt-ltb p k e) refl)
 
-  pub cell-not : kind ≡ 2 → k ≤ p → ltb p k ≡ calculus.entry-test k kind p q
+  pub cell-not : kind ≡ cell-type-kind → k ≤ p → ltb p k ≡ calculus.entry-test k kind p q
   cell-not h e = le-ltb p k e ∙ sym (cell k kind p q h ∙ rw (le-ltb p k e) refl)
 
-  module _ (h : 1 < kind) (f : kind ≡ 2 → ⊥) (b : kind ≤ 4) where
+  module _ (h : num-type-kind < kind) (f : kind ≡ cell-type-kind → ⊥) (b : kind ≤ many-type-kind) where
     pub function-below : p < k → ltb q k ≡ calculus.entry-test k kind p q
     function-below e = sym (function k kind p q h f b ∙ rw (lt-ltb p k e) refl)
 
@@ -66,17 +67,17 @@ is-at : (a : List Entry) (count k : ℕ) (x : calculus.Entry) → count ≤ leng
 unfolding calculus.entry-is calculus.test-entry stands-at
 is-at a count k x h l = rw (entry-at a count h k l) refl
 
-module _ (a : List Entry) (t : Bool) (e : t ≡ calculus.same-entry (as-entry (getD a 0 unused)) (calculus.entry 0 0 0)) where
+module _ (a : List Entry) (t : Bool) (e : t ≡ calculus.same-entry (as-entry (getD a unit-entry unused)) calculus.entry-of-unit) where
   pub no-unit : t ≡ false → false ≡ first-three a
   unfolding first-three stands-at
   no-unit f = rw (← e, f) refl
 
-  module _ (p : t ≡ true) (u : Bool) (e′ : u ≡ calculus.same-entry (as-entry (getD a 1 unused)) (calculus.entry 1 0 0)) where
+  module _ (p : t ≡ true) (u : Bool) (e′ : u ≡ calculus.same-entry (as-entry (getD a num-entry unused)) calculus.entry-of-num) where
     pub no-num : u ≡ false → false ≡ first-three a
     unfolding first-three stands-at
     no-num f = rw (← e, p, ← e′, f) refl
 
-    pub cell-third : u ≡ true → calculus.same-entry (as-entry (getD a 2 unused)) (calculus.entry 2 1 0) ≡ first-three a
+    pub cell-third : u ≡ true → calculus.same-entry (as-entry (getD a setting-entry unused)) calculus.entry-of-setting ≡ first-three a
     unfolding first-three stands-at
     cell-third f = rw (← e, p, ← e′, f) refl
 
@@ -86,7 +87,7 @@ module _ (a : List Entry) (count : ℕ) (h : count ≤ length a) (l : min-entrie
       ≡ (calculus.entries-test 0 (as-table a count) && (calculus.distinct-test (as-table a count) && first-three a))
   unfolding calculus.table-test first-three
   rules =
-      rw (is-at a count 0 (calculus.entry 0 0 0) h (omega arith), is-at a count 1 (calculus.entry 1 0 0) h (omega arith), is-at a count 2 (calculus.entry 2 1 0) h (omega arith)) refl
+      rw (is-at a count unit-entry calculus.entry-of-unit h (omega arith), is-at a count num-entry calculus.entry-of-num h (omega arith), is-at a count setting-entry calculus.entry-of-setting h (omega arith)) refl
 
   module _ (t : Bool) (e : t ≡ calculus.entries-test 0 (as-table a count)) where
     pub entry-broken : t ≡ false → false ≡ calculus.table-test (as-table a count)

@@ -1,9 +1,11 @@
 -- Document 01, "The type table has t entries of three bytes: kind, p, q"; cause 4 of a file.
-use mathlib.Core.Bool.{Bool, cond, not}
-use mathlib.Core.List.{List, [], _∷_}
+use mathlib.Core.Bool.{Bool, not}
+use mathlib.Core.List.{List, [], _++_, _∷_}
 use Prim.Native.Nat.{ℕ}
+use Rattle.calculus.specs.Causes.{type-entry-cause}
+use Rattle.calculus.specs.Lowest.{Cause, cause, lowest}
 use Rattle.calculus.specs.Table.{entry, Table, table-test}
-use Rattle.recipe_file.specs.File.{table-bytes, cause-1, cause-2, cause-3}
+use Rattle.recipe_file.specs.File.{table-bytes, layout-causes}
 
 -- the entries that the bytes of a table say; bytes that make no whole entry say none
 unfoldable pub table-of : List ℕ → Table
@@ -20,6 +22,10 @@ type-table s = table-of (table-bytes s)
 unfoldable pub cause-4 : List ℕ → Bool
 cause-4 s = not (table-test (type-table s))
 
+-- causes 1 to 4 with their numbers
+abbrev pub table-causes : List ℕ → List Cause
+table-causes s = layout-causes s ++ (cause type-entry-cause (cause-4 s) ∷ [])
+
 -- document 01, "The lowest number that fits wins", for causes 1 to 4; 0 where none fits
 unfoldable pub table-refusal : List ℕ → ℕ
-table-refusal s = cond (cause-1 s) 1 (cond (cause-2 s) 2 (cond (cause-3 s) 3 (cond (cause-4 s) 4 0)))
+table-refusal s = lowest (table-causes s)

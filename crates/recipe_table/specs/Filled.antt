@@ -4,12 +4,13 @@ use mathlib.Core.List.{List, _++_, map}
 use Prim.Native.Nat.{_-_, ℕ}
 use lib.ListN.{getD, length, replicate, take}
 use Rattle.calculus.specs.Limits.{max-entries}
+use Rattle.calculus.specs.Kinds.{unit-type-kind, unit-entry, num-entry, setting-entry}
 use Rattle.calculus.specs.Table as calculus
 use Rattle.recipe_table.specs.declared.Entry.{Entry}
 
--- what stands behind the entries of a table
+-- "unused entries kept at kind 0": what stands behind the entries of a table
 abbrev pub unused : Entry
-unused = record { kind = 0; p = 0; q = 0 }
+unused = record { kind = unit-type-kind; p = 0; q = 0 }
 
 -- an entry of the code is an entry of the calculus
 abbrev pub as-entry : Entry → calculus.Entry
@@ -27,9 +28,10 @@ as-table a count = map as-entry (take count a)
 unfoldable pub filled : calculus.Table → List Entry
 filled T = map by-value T ++ replicate (max-entries - length T) unused
 
--- document 01, "Entries 0, 1, 2 are unit, num, cell of num", in an array
+-- entry k of an array is this one
 unfoldable pub stands-at : List Entry → ℕ → calculus.Entry → Bool
 stands-at a k x = calculus.same-entry (as-entry (getD a k unused)) x
 
+-- document 01, "Entries 0, 1, 2 are unit, num, cell of num", in an array
 unfoldable pub first-three : List Entry → Bool
-first-three a = stands-at a 0 (calculus.entry 0 0 0) && (stands-at a 1 (calculus.entry 1 0 0) && stands-at a 2 (calculus.entry 2 1 0))
+first-three a = stands-at a unit-entry calculus.entry-of-unit && (stands-at a num-entry calculus.entry-of-num && stands-at a setting-entry calculus.entry-of-setting)

@@ -5,12 +5,13 @@ use mathlib.Core.List.{List}
 use Prim.Native.Nat.{_*_, _+_, _<_, suc, zero, ℕ}
 use lib.Dec.{eqb}
 use lib.ListN.{getD}
+use Rattle.calculus.specs.Bytes.{two-byte-values}
 use Rattle.calculus.specs.Limits.{byte-values}
 use Rattle.calculus.specs.Table.{Entry}
 
 -- a number that says an entry of bytes
 pub record Coded (x : Entry) (key : ℕ) : Type 0 where
-  pub code : key ≡ x .kind + 256 * x .p + 65536 * x .q
+  pub code : key ≡ x .kind + byte-values * x .p + two-byte-values * x .q
   pub kind : x .kind < byte-values
   pub p : x .p < byte-values
 

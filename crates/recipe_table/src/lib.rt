@@ -1,5 +1,4 @@
 // The type table: read by value, and its rules.
-ghost use mathlib.Core.Bool.{_&&_};
 ghost use mathlib.Core.Path.{_≡_};
 ghost use Prim.Native.Nat.{_-_, _≤_, _/_};
 ghost use lib.ListN.{length};
@@ -10,7 +9,9 @@ ghost use Rattle.recipe_file.specs.FileRule.{Between, FileRule};
 ghost use Rattle.recipe_table.specs.Entries.{table-of, type-table, table-refusal};
 ghost use Rattle.recipe_table.specs.Keys.{Coded, absent};
 ghost use Rattle.recipe_table.specs.Filled.{as-entry, as-table, filled, first-three};
+use numbers::Cause;
 use numbers::Recipe;
+use numbers::Type;
 use recipe_file::ENTRY_LENGTH;
 
 // An entry of the type table.
@@ -20,38 +21,48 @@ pub struct Entry {
     pub q: u8,
 }
 
-// An entry that is not used.
-const UNUSED: Entry = Entry {
-    kind: 0,
-    p: 0,
-    q: 0,
-};
+// What one byte, and what two bytes can say.
+const BYTE_VALUES: u32 = 256;
 
-// The first three entries of every table.
-const UNIT: Entry = Entry {
-    kind: 0,
-    p: 0,
-    q: 0,
-};
+const TWO_BYTE_VALUES: u32 = BYTE_VALUES * BYTE_VALUES;
 
-const NUM: Entry = Entry {
-    kind: 1,
-    p: 0,
-    q: 0,
-};
+impl Entry {
+    // The first three entries of every table.
+    pub const UNIT: Entry = Entry {
+        kind: Type::UNIT,
+        p: 0,
+        q: 0,
+    };
 
-const CELL_OF_NUM: Entry = Entry {
-    kind: 2,
-    p: 1,
-    q: 0,
-};
+    pub const NUM: Entry = Entry {
+        kind: Type::NUM,
+        p: 0,
+        q: 0,
+    };
+
+    pub const SETTING: Entry = Entry {
+        kind: Type::CELL,
+        p: Type::NUM_ENTRY,
+        q: 0,
+    };
+
+    // An entry that is not used.
+    pub const UNUSED: Entry = Entry::UNIT;
+}
+
+// Where the first three entries stand.
+const UNIT_AT: usize = Type::UNIT_ENTRY as usize;
+
+const NUM_AT: usize = Type::NUM_ENTRY as usize;
+
+const SETTING_AT: usize = Type::SETTING_ENTRY as usize;
 
 // The entries that the bytes of a table say; unused ones are of kind 0.
 pub fn read_table(bytes: &[u8]) -> [Entry; Recipe::MAX_ENTRIES]
     requires { ⌜ length (now bytes) / entry-length ≤ max-entries ⌝ }
     ensures { λ r. ⌜ r ≡ filled (table-of (now (bytes .entry))) ⌝ }
 {
-    let mut table = [UNUSED; Recipe::MAX_ENTRIES];
+    let mut table = [Entry::UNUSED; Recipe::MAX_ENTRIES];
     let count = bytes.len() / ENTRY_LENGTH;
     let mut i = 0;
     while i < count {
@@ -73,13 +84,13 @@ fn entry_stands(it: Entry, k: usize) -> bool
     let kind = it.kind;
     let p = it.p as usize;
     let q = it.q as usize;
-    if kind <= 1 {
+    if kind <= Type::NUM {
         return p == 0 && q == 0;
     }
-    if kind == 2 {
+    if kind == Type::CELL {
         return p < k && q == 0;
     }
-    if kind <= 4 {
+    if kind <= Type::MANY {
         return p < k && q < k;
     }
     false
@@ -114,14 +125,7 @@ fn entries_stand(table: [Entry; Recipe::MAX_ENTRIES], count: usize) -> bool
 fn key_of(it: Entry) -> u32
     ensures { λ r. ⌜ Coded (as-entry it) r ⌝ }
 {
-    (it.kind as u32) + 256 * (it.p as u32) + 65536 * (it.q as u32)
-}
-
-// Both.
-fn both(a: bool, b: bool) -> bool
-    ensures { λ r. ⌜ r ≡ (a && b) ⌝ }
-{
-    a && b
+    (it.kind as u32) + BYTE_VALUES * (it.p as u32) + TWO_BYTE_VALUES * (it.q as u32)
 }
 
 // No key from a place on is this one. The loop goes to the end, so that it compares several keys at a time.
@@ -132,7 +136,7 @@ fn is_new(keys: &[u32; Recipe::MAX_ENTRIES], from: usize, count: usize, key: u32
     let mut fresh = true;
     let mut j = from;
     while j < count {
-        fresh = both(fresh, keys[j] != key);
+        fresh &= keys[j] != key;
         j += 1;
     }
     fresh
@@ -160,13 +164,13 @@ fn entries_differ(table: [Entry; Recipe::MAX_ENTRIES], count: usize) -> bool
 fn first_stand(table: [Entry; Recipe::MAX_ENTRIES]) -> bool
     ensures { λ r. ⌜ r ≡ first-three table ⌝ }
 {
-    if !is_same(table[0], UNIT) {
+    if !is_same(table[UNIT_AT], Entry::UNIT) {
         return false;
     }
-    if !is_same(table[1], NUM) {
+    if !is_same(table[NUM_AT], Entry::NUM) {
         return false;
     }
-    is_same(table[2], CELL_OF_NUM)
+    is_same(table[SETTING_AT], Entry::SETTING)
 }
 
 // The table keeps its rules.
@@ -210,7 +214,7 @@ pub fn table_refusal(recipe: &[u8]) -> u8
         return layout;
     }
     if !table_stands(table_in(recipe), entry_count(recipe)) {
-        return 4;
+        return Cause::TYPE_ENTRY;
     }
     0
 }

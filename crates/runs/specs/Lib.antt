@@ -1,5 +1,5 @@
--- Document 01, "A run": the third demand, about the very definitions that check, load and step are proved to meet.
+-- Document 01, "A run".
 
--- a run in bytes, and the claim about it
+-- a run in bytes
 pub mod Run
 pub mod Theory

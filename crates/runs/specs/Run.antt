@@ -1,26 +1,22 @@
--- Document 01, "A run", in bytes: "an accepted recipe, its load into a buffer that is long enough, and a list of steps, none or many"; and the third demand, one
--- claim about all of the list. What is accepted and loaded is said by `verdict-of`, `loaded-of` and `out-after-step` of crates verdict and loader, what a step answers and
--- leaves by `outcome-of` and `out-after-step` of crate stepping: the definitions that the contracts of check, load and step cite.
+-- Document 01, "A run", in bytes: "an accepted recipe, its load into a buffer that is long enough, and a list of steps, none or many". What is loaded is said by
+-- `loaded-of` and `out-after-load`, what a step answers and leaves by `outcome-of` and `out-after-step`: the definitions that the contracts of load and step cite.
 use mathlib.Core.Path.{_≡_}
-use mathlib.Core.Logic.{_↔_}
 use mathlib.Core.Option.{some}
 use mathlib.Core.List.{List, [], _∷_, _++_}
-use Prim.Native.Nat.{ℕ, _+_, _<_, _≤_}
+use Prim.Native.Nat.{ℕ, _+_}
 use lib.ListN.{length, take}
 use Rattle.calculus.specs.Types.{LinType}
 use Rattle.calculus.specs.Syntax.{Exp, name, thread-of, open-for, at}
 use Rattle.calculus.specs.Typing.{TypeNumbers}
+use Rattle.calculus.specs.Reduction.{HANDLE-BIND, number}
 use Rattle.calculus.specs.NewTypes.{function-at, new-types}
-use Rattle.calculus.specs.Limits.{max-image-length}
-use Rattle.calculus.specs.Run.{ValuesTyped}
-use Rattle.calculus.specs.Bytes.{Bytes}
-use Rattle.calculus.specs.Table.{type-at}
+use Rattle.calculus.specs.Causes.{room-cause}
+use Rattle.calculus.specs.State.{ValuesTyped}
 use Rattle.calculus.specs.Recipe.{start}
 use Rattle.recipe_table.specs.Entries.{type-table}
 use Rattle.check_spec.specs.Bays.{bay-terms}
-use Rattle.check_spec.specs.Verdict.{verdict-of}
 use Rattle.image.specs.Configuration.{config-of}
-use Rattle.load_spec.specs.Loading as load
+use Rattle.load_spec.specs.Loading.{loaded-of, out-after-load}
 use Rattle.step_spec.specs.declared.Outcome.{Outcome}
 use Rattle.step_spec.specs.declared.Outcome.the-variants.{Rule, Done, Waiting, Refused}
 use Rattle.step_spec.specs.Stepping.{outcome-of, out-after-step}
@@ -45,7 +41,7 @@ unfoldable pub image-left : Outcome → List ℕ → List ℕ → List ℕ
 image-left (Rule rule size) out image = take size out
 image-left Done out image = image
 image-left (Waiting y) out image = image
-image-left (Refused number) out image = image
+image-left (Refused cause) out image = image
 
 abbrev pub left : Step → List ℕ
 left n = image-left (answer n) (out-after-step (n .image) (n .call .thread) (n .call .out)) (n .image)
@@ -55,7 +51,7 @@ unfoldable pub types-by : Outcome → List LinType → List LinType → List Lin
 types-by (Rule rule size) new types = types ++ new
 types-by Done new types = types
 types-by (Waiting y) new types = types
-types-by (Refused number) new types = types
+types-by (Refused cause) new types = types
 
 abbrev pub types-left : TypeNumbers → Step → List LinType
 types-left τ n = types-by (answer n) (new-types τ (config-of (n .image)) (n .call .thread)) (n .types)
@@ -69,7 +65,7 @@ steps τ image types (c ∷ calls) =
 
 -- "A step that answers rule 5 applies the handle whose name is the function at its place"
 abbrev pub Applies : Step → ℕ → Type 0
-Applies n z = (size : ℕ) × (answer n ≡ Rule 5 size) × (function-at (config-of (n .image)) (n .call .thread) ≡ some (name z))
+Applies n z = (size : ℕ) × (answer n ≡ Rule (number HANDLE-BIND) size) × (function-at (config-of (n .image)) (n .call .thread) ≡ some (name z))
 
 -- "and binds the future that is this handle's companion in the image handed in"
 abbrev pub Binds : Step → ℕ → Type 0
@@ -84,40 +80,16 @@ abbrev pub Goes : Outcome → Type 0
 Goes (Rule rule size) = Unit {0}
 Goes Done = Unit {0}
 Goes (Waiting y) = Unit {0}
-Goes (Refused number) = number ≡ 15
+Goes (Refused cause) = cause ≡ room-cause
 
 -- "each cell and finished thread has a value of its type", names so typed
 abbrev pub ValuesTypedIn : TypeNumbers → List ℕ → List LinType → Type 0
 ValuesTypedIn τ image types = ValuesTyped τ (record { names = types; config = config-of image })
 
--- the third demand: "For every run: ..", for the calls from this image with these types
-pub record Demand (τ : TypeNumbers) (image : List ℕ) (types : List LinType) (calls : List Call) : Type 0 where
-  -- "no handle is applied in two of its steps"
-  pub one-application : (z i j : ℕ) (m n : Step) → at (steps τ image types calls) i ≡ some m → at (steps τ image types calls) j ≡ some n → Applies m z → Applies n z → i ≡ j
-  -- "and no future is bound in two"
-  pub one-binding : (y i j : ℕ) (m n : Step) → at (steps τ image types calls) i ≡ some m → at (steps τ image types calls) j ≡ some n → Binds m y → Binds n y → i ≡ j
-  -- "no step answers 13, 16 or 17"
-  pub no-13-16-17 : (i : ℕ) (n : Step) → at (steps τ image types calls) i ≡ some n →
-      (¬ (answer n ≡ Refused 13)) × (¬ (answer n ≡ Refused 16)) × (¬ (answer n ≡ Refused 17))
-  -- "a step answers 12 exactly when its out buffer is under 13,826 bytes"
-  pub twelve : (i : ℕ) (n : Step) → at (steps τ image types calls) i ≡ some n → (answer n ≡ Refused 12) ↔ (length (n .call .out) < max-image-length)
-  -- "otherwise 14 exactly when its number is no thread of the image handed in"
-  pub fourteen : (i : ℕ) (n : Step) → at (steps τ image types calls) i ≡ some n → ¬ (length (n .call .out) < max-image-length) → (answer n ≡ Refused 14) ↔ (¬ IsThread n)
-  -- "and otherwise a rule, done, waiting or 15"
-  pub otherwise : (i : ℕ) (n : Step) → at (steps τ image types calls) i ≡ some n → ¬ (length (n .call .out) < max-image-length) → IsThread n → Goes (answer n)
-  -- "after the load and after every step each cell and finished thread has a value of its type"
-  pub typed-loaded : ValuesTypedIn τ image types
-  pub typed-after : (i : ℕ) (n : Step) → at (steps τ image types calls) i ≡ some n → ValuesTypedIn τ (left n) (types-left τ n)
-
 -- "The first step is handed the image that the load wrote, all of it and no byte beyond": of the recipe in the file, loaded into this out buffer
 abbrev pub image-loaded : List ℕ → List ℕ → List ℕ
-image-loaded file out = take (load.loaded-of file (length out) .length) (load.out-after-load file out)
+image-loaded file out = take (loaded-of file (length out) .length) (out-after-load file out)
 
 -- the types of its names: "cell of num for a setting, the bay's type for its first thread"
 abbrev pub types-loaded : List ℕ → List LinType
 types-loaded file = start (type-table file) (bay-terms file) .names
-
--- document 01, the third demand: "For every run", that is for every accepted recipe, every out buffer that is long enough for its load, and every list of calls
-abbrev pub ThirdDemand : Type 0
-ThirdDemand = (file : List ℕ) → Bytes file → verdict-of file .refusal ≡ 0 → (out : List ℕ) → max-image-length ≤ length out → (calls : List Call) →
-    Demand (type-at (type-table file)) (image-loaded file out) (types-loaded file) calls

@@ -17,7 +17,7 @@ use Rattle.calculus.specs.Reduction.{Rule, BETA, THREAD-NEW, FUTURE-DEREF, HAND
 use Rattle.calculus.specs.Step.{done, no-thread, step-of}
 use Rattle.calculus.specs.Limits.{max-image-length}
 use Rattle.calculus.specs.Image.{nodes-all}
-use Rattle.calculus.specs.Run.{reply-of}
+use Rattle.calculus.specs.Reply.{reply-of}
 use Rattle.calculus.specs.Theory.Tests.{and-parts, and-true, eqb-complete, eqb-sound, ltb-complete, ltb-not, ltb-sound}
 use Rattle.calculus.specs.Theory.Step.{no-thread-iff}
 use Rattle.term.specs.Expressions.{term-at}

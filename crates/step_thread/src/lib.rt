@@ -9,7 +9,7 @@ ghost use mathlib.Core.Path.{_≡_};
 ghost use mathlib.Core.Bool.{true};
 ghost use lib.ListN.{length};
 ghost use Rattle.calculus.specs.Step.{step-of};
-ghost use Rattle.calculus.specs.Run.{reply-of};
+ghost use Rattle.calculus.specs.Reply.{reply-of};
 ghost use Rattle.image.specs.Configuration.{config-of};
 ghost use Rattle.image.specs.Stands.{image-stands};
 ghost use Rattle.step_spec.specs.Stepping.{outcome-of-reply, outcome-of, out-after-step, out-after-reply};

@@ -4,7 +4,7 @@ use mathlib.Core.Bool.{Bool, _&&_, false, true}
 use mathlib.Core.List.{List, [], _∷_}
 use Prim.Native.Nat.{ℕ}
 use lib.Dec.{T}
-use Rattle.calculus.specs.Syntax.{unit, num, op, exch, handle, app, const, Exp, lam, name, var}
+use Rattle.calculus.specs.Syntax.{num, op, exch, handle, app, const, Exp, lam, name, var}
 use Rattle.term.specs.Numbers.{little-endian, value-of}
 use Rattle.term.specs.Forms.{form-of, forms}
 use Rattle.term.specs.Reader.{first-tree, node-of, one-term, read, read-term, tree-at}

@@ -2,18 +2,18 @@
 use mathlib.Core.Path.{_≡_, ap, refl, subst, sym, _∙_}
 use mathlib.Core.Bool.{Bool, or-false, true}
 use mathlib.Core.List.{List, [], _∷_}
-use Prim.Native.Nat.{_<_, _≤_, suc, zero, ℕ}
+use Prim.Native.Nat.{_+_, _-_, _<_, _≤_, suc, zero, ℕ}
 use native.Mathlib.Omega.{arith}
 use borrow.Author.Tests.{leb-true}
 use lib.Dec.{T, eqb, eqb→eq, leb}
 use lib.ListN.{getD, length}
-use Rattle.calculus.specs.Syntax.{Const, unit, num, op, cell, exch, thread, handle, const, name, each-const, each-name, each-var, Exp}
+use Rattle.calculus.specs.Syntax.{Const, unit, num, Op, op, cell, exch, thread, handle, Exp, var, name, const, each-const, each-name, each-var}
 use Rattle.calculus.specs.Names.{count}
 use Rattle.calculus.specs.Limits.{byte-values, max-num}
 use Rattle.calculus.specs.Image.{nodes, WritableConst}
 use Rattle.calculus.specs.Theory.Tests.{clash}
 use Rattle.calculus.specs.Theory.Expressions.{count-other}
-use Rattle.term.specs.Forms.{form-of, forms, in-range, num-tag, subterms-of, tags}
+use Rattle.term.specs.Forms.{form-of, forms, in-range, variable-tag, lambda-tag, application-tag, unit-tag, num-tag, cell-tag, handle-tag, name-tag, subterms-of, tags}
 use Rattle.term.specs.Tree.{InTable, leaf}
 use Rattle.term.specs.Expressions.{const-tree, FitsBytes, leaf-exp, leaf-forms, nesting, op-tag, tree-of}
 use Rattle.term.proofs.Table.{below, end-of-row, every, every-at, Row, _∣_}
@@ -41,18 +41,47 @@ pub leaf-unknown : (tag arg : ℕ) → tags ≤ tag → leaf-exp tag arg ≡ con
 unfolding leaf-exp leaf-forms
 leaf-unknown tag arg h = past-end (leaf-forms arg) (const unit) tag h
 
+-- the leaf of each tag
+pub leaf-variable : (tag arg : ℕ) → tag ≡ variable-tag → leaf-exp tag arg ≡ var arg
+unfolding leaf-exp leaf-forms
+leaf-variable tag arg e = rw e refl
+
+pub leaf-num : (tag arg : ℕ) → tag ≡ num-tag → leaf-exp tag arg ≡ const (num arg)
+unfolding leaf-exp leaf-forms
+leaf-num tag arg e = rw e refl
+
+pub leaf-name : (tag arg : ℕ) → tag ≡ name-tag → leaf-exp tag arg ≡ name arg
+unfolding leaf-exp leaf-forms
+leaf-name tag arg e = rw e refl
+
+-- the other tags below those of the constants with a type
+pub leaf-unit : (tag arg : ℕ) → ¬ (tag ≡ variable-tag) → ¬ (tag ≡ num-tag) → tag < cell-tag → leaf-exp tag arg ≡ const unit
+unfolding leaf-exp leaf-forms
+leaf-unit tag arg not-variable not-num h = below row tag h not-variable not-num
+  where
+    row : Row (λ tag. ¬ (tag ≡ variable-tag) → ¬ (tag ≡ num-tag) → leaf-exp tag arg ≡ const unit) 0 cell-tag
+    row = (λ v n. absurd (v refl)) ∣ (λ v n. refl) ∣ (λ v n. refl) ∣ (λ v n. refl) ∣ (λ v n. absurd (n refl)) ∣ end-of-row
+
+-- the constants with a type
+pub leaf-op : (tag arg : ℕ) → cell-tag ≤ tag → tag ≤ handle-tag → (o : Op) × (leaf-exp tag arg ≡ const (op o arg))
+unfolding leaf-exp leaf-forms
+leaf-op tag arg low high = let e : cell-tag + (tag - cell-tag) ≡ tag = omega arith in subst (λ t. (o : Op) × (leaf-exp t arg ≡ const (op o arg))) e (below row (tag - cell-tag) (omega arith))
+  where
+    row : Row (λ i. (o : Op) × (leaf-exp (cell-tag + i) arg ≡ const (op o arg))) 0 (name-tag - cell-tag)
+    row = (cell, refl) ∣ (exch, refl) ∣ (thread, refl) ∣ (handle, refl) ∣ end-of-row
+
 -- a node with no subterm is the leaf that is written so
 pub leaf-tree : (tag arg : ℕ) → InTable tag arg 0 → tree-of (leaf-exp tag arg) ≡ leaf tag arg
 unfolding leaf-exp leaf-forms tree-of const-tree op-tag form-of forms
 leaf-tree tag arg w = below row tag (w .known) w
   where
-    not-one : InTable 1 arg 0 → ⊥
+    not-one : InTable lambda-tag arg 0 → ⊥
     not-one w = clash (sym (w .shape))
 
-    not-two : InTable 2 arg 0 → ⊥
+    not-two : InTable application-tag arg 0 → ⊥
     not-two w = omega (arith, w .shape)
 
-    unit-operand : InTable 3 arg 0 → arg ≡ 0
+    unit-operand : InTable unit-tag arg 0 → arg ≡ 0
     unit-operand w = omega (arith, w .fits)
 
     row : Row (λ tag. InTable tag arg 0 → tree-of (leaf-exp tag arg) ≡ leaf tag arg) 0 tags
@@ -60,7 +89,7 @@ leaf-tree tag arg w = below row tag (w .known) w
         (λ w. refl) ∣
         (λ w. absurd (not-one w)) ∣
         (λ w. absurd (not-two w)) ∣
-        (λ w. ap (leaf 3) (sym (unit-operand w))) ∣
+        (λ w. ap (leaf unit-tag) (sym (unit-operand w))) ∣
         (λ w. refl) ∣
         (λ w. refl) ∣
         (λ w. refl) ∣
@@ -98,37 +127,37 @@ leaf-fits tag arg w = below row tag (w .known) w
         end-of-row
 
 -- the node with one subterm is the lambda
-lambda-tag : (tag : ℕ) → tag < tags → subterms-of tag ≡ 1 → tag ≡ 1
+one-is-lambda : (tag : ℕ) → tag < tags → subterms-of tag ≡ 1 → tag ≡ lambda-tag
 unfolding form-of forms
-lambda-tag = below row
+one-is-lambda = below row
   where
-    none : (tag : ℕ) → _≡_ {A = ℕ} 0 1 → tag ≡ 1
+    none : (tag : ℕ) → _≡_ {A = ℕ} 0 1 → tag ≡ lambda-tag
     none tag e = absurd (clash e)
 
-    row : Row (λ tag. subterms-of tag ≡ 1 → tag ≡ 1) 0 tags
+    row : Row (λ tag. subterms-of tag ≡ 1 → tag ≡ lambda-tag) 0 tags
     row = (none 0) ∣ (λ e. refl) ∣ (λ e. e) ∣ (none 3) ∣ (none 4) ∣ (none 5) ∣ (none 6) ∣ (none 7) ∣ (none 8) ∣ (none 9) ∣ end-of-row
 
-pub is-lambda : (tag arg : ℕ) → InTable tag arg 1 → (tag ≡ 1) × (arg < byte-values)
+pub is-lambda : (tag arg : ℕ) → InTable tag arg 1 → (tag ≡ lambda-tag) × (arg < byte-values)
 unfolding form-of forms
 is-lambda tag arg w =
-    let e = lambda-tag tag (w .known) (w .shape) in
-    let v : InTable 1 arg 1 = subst (λ x. InTable x arg 1) e w in
+    let e = one-is-lambda tag (w .known) (w .shape) in
+    let v : InTable lambda-tag arg 1 = subst (λ x. InTable x arg 1) e w in
     (e, v .fits)
 
 -- and the node with two is the application
-application-tag : (tag : ℕ) → tag < tags → subterms-of tag ≡ 2 → tag ≡ 2
+two-is-application : (tag : ℕ) → tag < tags → subterms-of tag ≡ 2 → tag ≡ application-tag
 unfolding form-of forms
-application-tag = below row
+two-is-application = below row
   where
-    none : (tag : ℕ) → _≡_ {A = ℕ} 0 2 → tag ≡ 2
+    none : (tag : ℕ) → _≡_ {A = ℕ} 0 2 → tag ≡ application-tag
     none tag e = absurd (omega arith)
 
-    row : Row (λ tag. subterms-of tag ≡ 2 → tag ≡ 2) 0 tags
+    row : Row (λ tag. subterms-of tag ≡ 2 → tag ≡ application-tag) 0 tags
     row = (none 0) ∣ (λ e. e) ∣ (λ e. refl) ∣ (none 3) ∣ (none 4) ∣ (none 5) ∣ (none 6) ∣ (none 7) ∣ (none 8) ∣ (none 9) ∣ end-of-row
 
-pub is-application : (tag arg : ℕ) → InTable tag arg 2 → (tag ≡ 2) × (arg ≡ 0)
+pub is-application : (tag arg : ℕ) → InTable tag arg 2 → (tag ≡ application-tag) × (arg ≡ 0)
 unfolding form-of forms
 is-application tag arg w =
-    let e = application-tag tag (w .known) (w .shape) in
-    let v : InTable 2 arg 2 = subst (λ x. InTable x arg 2) e w in
+    let e = two-is-application tag (w .known) (w .shape) in
+    let v : InTable application-tag arg 2 = subst (λ x. InTable x arg 2) e w in
     (e, omega (arith, v .fits))

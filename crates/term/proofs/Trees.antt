@@ -120,7 +120,7 @@ tree-well-formed (app f a) h =
 -- one byte
 byte : (n : ℕ) → n < byte-values → n ∷ [] ≡ little-endian 1 n
 unfolding little-endian
-byte n h = let e : n ≡ n % 256 = omega arith in ap (λ x. x ∷ []) e
+byte n h = let e : n ≡ n % byte-values = omega arith in ap (λ x. x ∷ []) e
 
 op-bytes : (o : Op) (t : ℕ) → t < byte-values → op-tag o ∷ t ∷ [] ≡ tree-bytes (leaf (op-tag o) t)
 unfolding tree-bytes op-tag form-of forms

@@ -8,28 +8,30 @@ use Rattle.calculus.specs.Names.{count}
 use Rattle.calculus.specs.Limits.{byte-values}
 use Rattle.calculus.specs.Image.{size, Writable}
 use Rattle.term.specs.Numbers.{little-endian}
+use Rattle.term.specs.Forms.{variable-tag, lambda-tag, application-tag, unit-tag, num-tag, cell-tag, exch-tag, thread-tag, handle-tag, name-tag}
 use Rattle.term.specs.Tree.{Tree, leaf, one, two}
 use Rattle.term.specs.Reader.{tree-at}
 
--- document 01, the table of node forms: tags 5 to 8
+-- document 01, the table of node forms: "cell, exch, thread, handle"
 unfoldable pub op-tag : Op → ℕ
-op-tag cell = 5
-op-tag exch = 6
-op-tag thread = 7
-op-tag handle = 8
+op-tag cell = cell-tag
+op-tag exch = exch-tag
+op-tag thread = thread-tag
+op-tag handle = handle-tag
 
--- document 01, "A term is written root first, by this table of node forms"
+-- the bytes of a constant
 unfoldable pub const-bytes : Const → List ℕ
-const-bytes unit = 3 ∷ []
-const-bytes (num n) = 4 ∷ little-endian 2 n
+const-bytes unit = unit-tag ∷ []
+const-bytes (num n) = num-tag ∷ little-endian 2 n
 const-bytes (op o t) = op-tag o ∷ t ∷ []
 
+-- document 01, "A term is written root first, by this table of node forms"
 unfoldable pub bytes : Exp → List ℕ
-bytes (var i) = 0 ∷ i ∷ []
-bytes (lam t e) = 1 ∷ t ∷ bytes e
-bytes (app f a) = 2 ∷ (bytes f ++ bytes a)
+bytes (var i) = variable-tag ∷ i ∷ []
+bytes (lam t e) = lambda-tag ∷ t ∷ bytes e
+bytes (app f a) = application-tag ∷ (bytes f ++ bytes a)
 bytes (const c) = const-bytes c
-bytes (name k) = 9 ∷ k ∷ []
+bytes (name k) = name-tag ∷ k ∷ []
 
 -- what can be written so: indices, type numbers and names in one byte, nums at most 1000
 pub record FitsBytes (e : Exp) : Type 0 where
@@ -44,7 +46,7 @@ nesting (const c) = 1
 nesting (lam t e) = suc (nesting e)
 nesting (app f a) = suc (max (nesting f) (nesting a))
 
--- the leaf that each tag says, where arg is after the tag; 1 and 2 have no leaf
+-- the leaf that each tag says, in the order of the tags, where arg is after the tag; lambda and application have no leaf
 unfoldable pub leaf-forms : ℕ → List Exp
 leaf-forms arg =
     var arg
@@ -59,27 +61,29 @@ leaf-forms arg =
     ∷ name arg
     ∷ []
 
--- the expression that a tree says
+-- the leaf of a tag
 unfoldable pub leaf-exp : ℕ → ℕ → Exp
 leaf-exp tag arg = getD (leaf-forms arg) tag (const unit)
 
+-- the expression that a tree says
 unfoldable pub exp-of : Tree → Exp
 exp-of (leaf tag arg) = leaf-exp tag arg
 exp-of (one tag arg t) = lam arg (exp-of t)
 exp-of (two tag arg t u) = app (exp-of t) (exp-of u)
 
--- and the tree of an expression
+-- the tree of a constant
 unfoldable pub const-tree : Const → Tree
-const-tree unit = leaf 3 0
-const-tree (num n) = leaf 4 n
+const-tree unit = leaf unit-tag 0
+const-tree (num n) = leaf num-tag n
 const-tree (op o t) = leaf (op-tag o) t
 
+-- the tree of an expression
 unfoldable pub tree-of : Exp → Tree
-tree-of (var i) = leaf 0 i
-tree-of (lam t e) = one 1 t (tree-of e)
-tree-of (app f a) = two 2 0 (tree-of f) (tree-of a)
+tree-of (var i) = leaf variable-tag i
+tree-of (lam t e) = one lambda-tag t (tree-of e)
+tree-of (app f a) = two application-tag 0 (tree-of f) (tree-of a)
 tree-of (const c) = const-tree c
-tree-of (name k) = leaf 9 k
+tree-of (name k) = leaf name-tag k
 
 -- the expression whose bytes begin at a position; anything, where there is none
 unfoldable pub term-at : List ℕ → ℕ → Exp

@@ -7,30 +7,60 @@ use lib.ListN.{getD}
 use Rattle.calculus.specs.Limits.{max-num}
 use Rattle.term.specs.declared.Form.{Form}
 
--- the columns "After the tag", as a number of bytes, and "Subterms"
-abbrev pub form : ℕ → ℕ → Form
-form operand subterms = record { operand = operand; subterms = subterms }
+-- the column "Tag"
+abbrev pub variable-tag : ℕ
+variable-tag = 0
 
--- variable, lambda, application, unit, num, cell, exch, thread, handle, name
-unfoldable pub forms : List Form
-forms = form 1 0 ∷ form 1 1 ∷ form 0 2 ∷ form 0 0 ∷ form 2 0 ∷ form 1 0 ∷ form 1 0 ∷ form 1 0 ∷ form 1 0 ∷ form 1 0 ∷ []
+abbrev pub lambda-tag : ℕ
+lambda-tag = 1
+
+abbrev pub application-tag : ℕ
+application-tag = 2
+
+abbrev pub unit-tag : ℕ
+unit-tag = 3
+
+abbrev pub num-tag : ℕ
+num-tag = 4
+
+abbrev pub cell-tag : ℕ
+cell-tag = 5
+
+abbrev pub exch-tag : ℕ
+exch-tag = 6
+
+abbrev pub thread-tag : ℕ
+thread-tag = 7
+
+abbrev pub handle-tag : ℕ
+handle-tag = 8
+
+abbrev pub name-tag : ℕ
+name-tag = 9
 
 -- how many tags there are
 abbrev pub tags : ℕ
 tags = 10
 
+-- the columns "After the tag", as a number of bytes, and "Subterms"
+abbrev pub form : ℕ → ℕ → Form
+form operand subterms = record { operand = operand; subterms = subterms }
+
+-- the rows of the table, in the order of the tags
+unfoldable pub forms : List Form
+forms = form 1 0 ∷ form 1 1 ∷ form 0 2 ∷ form 0 0 ∷ form 2 0 ∷ form 1 0 ∷ form 1 0 ∷ form 1 0 ∷ form 1 0 ∷ form 1 0 ∷ []
+
 -- the form of a tag; of an unknown one, nothing after the tag and no subterm
 unfoldable pub form-of : ℕ → Form
 form-of tag = getD forms tag (form 0 0)
 
+-- what is after a tag, in bytes
 abbrev pub operand-of : ℕ → ℕ
 operand-of tag = form-of tag .operand
 
+-- how many subterms a tag has
 abbrev pub subterms-of : ℕ → ℕ
 subterms-of tag = form-of tag .subterms
-
-abbrev pub num-tag : ℕ
-num-tag = 4
 
 -- document 01, "constants 0 to 1000": a num is in range, and so is every operand of another node
 abbrev pub in-range : ℕ → ℕ → Bool

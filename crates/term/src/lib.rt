@@ -56,7 +56,7 @@ pub enum Front {
 }
 
 // Document 01, the table of node forms, in the order of the tags.
-pub const FORMS: [Form; 10] = [
+pub const FORMS: [Form; Node::TAGS as usize] = [
     Form {
         operand: 1,
         subterms: 0,
@@ -124,7 +124,7 @@ fn operand_of(s: &[u8], n: u8) -> usize
     if n == 1 {
         return s[1] as usize;
     }
-    (s[1] as usize) + 256 * (s[2] as usize)
+    buffer::word_at(s, 1)
 }
 
 pub fn node_of(s: &[u8]) -> Front

@@ -13,8 +13,8 @@ use Rattle.calculus.specs.Syntax.{Exp}
 use Rattle.calculus.specs.Image.{nodes}
 use Rattle.calculus.specs.Theory.Tests.{clash}
 use Rattle.term.specs.Tree.{Tree, tree-nodes, tree-size}
-use Rattle.term.specs.Reader.{end-at, first-rest, first-tree, Good, GoodAt, Got, got, none, read-term, tree-at}
-use Rattle.term.specs.Expressions.{bytes, exp-of, FitsBytes, term-at, tree-of}
+use Rattle.term.specs.Reader.{end-at, first-tree, GoodAt, Got, got, none, read-term, tree-at}
+use Rattle.term.specs.Expressions.{bytes, FitsBytes, term-at, tree-of}
 use Rattle.term.proofs.Reading.{past-term}
 use Rattle.term.proofs.Views.{end-inside, nodes-inside}
 use Rattle.term.proofs.Fronts.{is-good, is-tree}

@@ -1,5 +1,5 @@
 -- Where a term ends that nests no deeper than a limit, by the number of its subterms.
-use mathlib.Core.Path.{_≡_, ap, ap₂, refl, subst, sym, _∙_}
+use mathlib.Core.Path.{_≡_, ap, ap₂, refl, sym, _∙_}
 use mathlib.Core.Bool.{Bool, _&&_, false, true}
 use mathlib.Core.List.{List}
 use Prim.Native.Nat.{_+_, _-_, _≤_, max, suc, zero, ℕ}
@@ -11,10 +11,9 @@ use Rattle.calculus.specs.Theory.Tests.{clash}
 use Rattle.term.specs.declared.Front.the-variants.{Is}
 use Rattle.term.specs.declared.Node.{Node}
 use Rattle.term.specs.Reader.{end-at, GoodAt, node-at}
-use Rattle.term.specs.Expressions.{leaf-exp, nesting, term-at}
+use Rattle.term.specs.Expressions.{nesting, term-at}
 use Rattle.term.proofs.Leaves.{leaf-nesting}
 use Rattle.term.proofs.Views.{LeafAt, node-there, one-from, OneAt, past-first, two-from, TwoAt}
-use Rattle.term_scan.specs.declared.Reach.{Reach}
 use Rattle.term_scan.specs.declared.Reach.the-variants.{End, TooDeep}
 use Rattle.term_scan.specs.Depths.{pick-end, reach}
 

@@ -1,6 +1,6 @@
 -- Terms one after the other on levels: k inside the innermost lambda, then those inside each lambda around it. The law of the loop, by the number of
 -- subterms of the next node.
-use mathlib.Core.Path.{_≡_, ap, ap₂, refl, sym, _∙_}
+use mathlib.Core.Path.{_≡_, refl, sym}
 use mathlib.Core.Bool.{Bool, _&&_, and-assoc, and-false, and-true, false, true}
 use mathlib.Core.List.{List, [], _∷_}
 use Prim.Native.Nat.{suc, zero, ℕ}

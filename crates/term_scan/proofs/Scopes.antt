@@ -9,47 +9,31 @@ use Rattle.calculus.specs.Syntax.{Const, unit, num, op, Each, each-app, each-co
 use Rattle.calculus.specs.Limits.{byte-values, max-num}
 use Rattle.calculus.specs.Image.{constant-test, expression-test, Writable, WritableConst}
 use Rattle.calculus.specs.Verdict.{scoped, scoped-const}
-use Rattle.term.specs.Forms.{tags}
+use Rattle.term.specs.Forms.{variable-tag, cell-tag, handle-tag, name-tag, tags}
 use Rattle.term.specs.Expressions.{leaf-exp, leaf-forms}
 use Rattle.term.proofs.Table.{below, end-of-row, Row, _∣_}
-use Rattle.term.proofs.Leaves.{leaf-unknown}
+use Rattle.term.proofs.Leaves.{leaf-name, leaf-op, leaf-unknown, leaf-variable}
 
 module _ (types names lambdas arg : ℕ) where
-  pub scoped-variable : (tag : ℕ) → tag ≡ 0 → ltb arg lambdas ≡ scoped types names lambdas (leaf-exp tag arg)
-  unfolding scoped leaf-exp leaf-forms
-  scoped-variable tag e = rw e
+  pub scoped-variable : (tag : ℕ) → tag ≡ variable-tag → ltb arg lambdas ≡ scoped types names lambdas (leaf-exp tag arg)
+  unfolding scoped
+  scoped-variable tag e = sym (ap (scoped types names lambdas) (leaf-variable tag arg e))
 
-  pub scoped-name : (tag : ℕ) → tag ≡ 9 → ltb arg names ≡ scoped types names lambdas (leaf-exp tag arg)
-  unfolding scoped leaf-exp leaf-forms
-  scoped-name tag e = rw e
+  pub scoped-name : (tag : ℕ) → tag ≡ name-tag → ltb arg names ≡ scoped types names lambdas (leaf-exp tag arg)
+  unfolding scoped
+  scoped-name tag e = sym (ap (scoped types names lambdas) (leaf-name tag arg e))
 
   -- cell, exch, thread, handle
-  pub scoped-op : (tag : ℕ) → 5 ≤ tag → tag ≤ 8 → ltb arg types ≡ scoped types names lambdas (leaf-exp tag arg)
-  unfolding scoped scoped-const leaf-exp leaf-forms
-  scoped-op tag low high = below row tag (omega arith) low
-    where
-      lower : (tag : ℕ) → tag < 5 → 5 ≤ tag → ltb arg types ≡ scoped types names lambdas (leaf-exp tag arg)
-      lower tag h low = absurd (omega arith)
-
-      row : Row (λ tag. 5 ≤ tag → ltb arg types ≡ scoped types names lambdas (leaf-exp tag arg)) 0 9
-      row =
-          lower 0 (omega arith)
-          ∣ lower 1 (omega arith)
-          ∣ lower 2 (omega arith)
-          ∣ lower 3 (omega arith)
-          ∣ lower 4 (omega arith)
-          ∣ (λ low. refl)
-          ∣ (λ low. refl)
-          ∣ (λ low. refl)
-          ∣ (λ low. refl)
-          ∣ end-of-row
+  pub scoped-op : (tag : ℕ) → cell-tag ≤ tag → tag ≤ handle-tag → ltb arg types ≡ scoped types names lambdas (leaf-exp tag arg)
+  unfolding scoped scoped-const
+  scoped-op tag low high = let (o, is) = leaf-op tag arg low high in sym (ap (scoped types names lambdas) is)
 
   -- lambda, application, unit, num
-  pub scoped-plain : (tag : ℕ) → (tag ≡ 0 → ⊥) → tag < 5 → true ≡ scoped types names lambdas (leaf-exp tag arg)
+  pub scoped-plain : (tag : ℕ) → (tag ≡ variable-tag → ⊥) → tag < cell-tag → true ≡ scoped types names lambdas (leaf-exp tag arg)
   unfolding scoped scoped-const leaf-exp leaf-forms
   scoped-plain tag not-0 high = below row tag high not-0
     where
-      row : Row (λ tag. (tag ≡ 0 → ⊥) → true ≡ scoped types names lambdas (leaf-exp tag arg)) 0 5
+      row : Row (λ tag. (tag ≡ variable-tag → ⊥) → true ≡ scoped types names lambdas (leaf-exp tag arg)) 0 cell-tag
       row = (λ not-0. absurd (not-0 refl)) ∣ (λ not-0. refl) ∣ (λ not-0. refl) ∣ (λ not-0. refl) ∣ (λ not-0. refl) ∣ end-of-row
 
   -- what is no tag

@@ -7,7 +7,7 @@ use model::ffi::Library;
 use model::format::write_parts;
 use model::generate::recipes;
 use model::limits;
-use model::timing::{fastest, Work};
+use model::timing::{fastest, opaque, Work};
 use std::time::Duration;
 
 /// How often each work is measured, and how long at least.
@@ -70,18 +70,18 @@ fn row(call: &str, input: &str, mut works: [Work; 3]) {
 fn check<'a>(implementation: &'a dyn Implementation, corpus: &'a Corpus) -> Work<'a> {
     Box::new(|| {
         for file in &corpus.files {
-            std::hint::black_box(implementation.check(std::hint::black_box(file)));
+            opaque(implementation.check(opaque(file)));
         }
         corpus.files.len() as u64
     })
 }
 
 fn load<'a>(implementation: &'a dyn Implementation, corpus: &'a Corpus) -> Work<'a> {
-    let mut out = vec![0; limits::IMAGE_BYTES];
+    let mut out = vec![0; limits::MAX_IMAGE];
     Box::new(move || {
         for file in &corpus.files {
-            let file = std::hint::black_box(file);
-            std::hint::black_box(implementation.load(file, &mut out));
+            let file = opaque(file);
+            opaque(implementation.load(file, &mut out));
         }
         corpus.files.len() as u64
     })
@@ -90,9 +90,9 @@ fn load<'a>(implementation: &'a dyn Implementation, corpus: &'a Corpus) -> Work<
 /// Steps one thread as far as it goes, then begins again.
 fn step<'a>(implementation: &'a dyn Implementation, start: &'a [u8], thread: u64) -> Work<'a> {
     let mut image = start.to_vec();
-    let mut out = vec![0; limits::IMAGE_BYTES];
+    let mut out = vec![0; limits::MAX_IMAGE];
     Box::new(move || {
-        let stepped = implementation.step(std::hint::black_box(&image), thread, &mut out);
+        let stepped = implementation.step(opaque(&image), thread, &mut out);
         let stepped = stepped.unwrap_or_default();
         image.clear();
         if stepped.outcome == RULE {
@@ -106,7 +106,7 @@ fn step<'a>(implementation: &'a dyn Implementation, start: &'a [u8], thread: u64
 
 /// The starting images of the examples and of some recipes, and an image at the limits.
 fn images() -> Vec<(&'static str, Vec<u8>, u64)> {
-    let mut out = vec![0; limits::IMAGE_BYTES];
+    let mut out = vec![0; limits::MAX_IMAGE];
     let mut image = |file: &[u8]| {
         let loaded = Model.load(file, &mut out).unwrap_or_default();
         out[..loaded.length as usize].to_vec()

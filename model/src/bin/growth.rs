@@ -4,7 +4,7 @@
 use model::answers::{Implementation, Plain};
 use model::ffi::Library;
 use model::format::write_parts;
-use model::timing::{fastest, Work};
+use model::timing::{fastest, opaque, Work};
 use std::fmt::Write as _;
 use std::time::Duration;
 
@@ -23,12 +23,12 @@ struct Curve {
 }
 
 fn check(implementation: &dyn Implementation, file: &[u8]) {
-    std::hint::black_box(implementation.check(std::hint::black_box(file)));
+    opaque(implementation.check(opaque(file)));
 }
 
 fn step(implementation: &dyn Implementation, image: &[u8]) {
     let mut out = [0; IMAGE_BYTES];
-    std::hint::black_box(implementation.step(std::hint::black_box(image), 0, &mut out));
+    opaque(implementation.step(opaque(image), 0, &mut out));
 }
 
 /// An image of threads, one for each expression.
@@ -132,29 +132,32 @@ fn panel(svg: &mut String, left: f64, curve: &Curve, measured: &[(usize, f64, f6
         base + 16.0,
         curve.axis
     );
-    for (color, pick) in [("#1b6ca8", 0), ("#c0562b", 1)] {
-        let points: Vec<String> = measured
-            .iter()
-            .map(|&(size, library, plain)| {
-                format!(
-                    "{:.1},{:.1}",
-                    x(size),
-                    y(if pick == 0 { library } else { plain })
-                )
-            })
-            .collect();
-        let _ = writeln!(
-            svg,
-            "<polyline points='{}' fill='none' stroke='{color}' stroke-width='2'/>",
-            points.join(" ")
-        );
-    }
+    let library = measured.iter().map(|m| (x(m.0), y(m.1)));
+    let plain = measured.iter().map(|m| (x(m.0), y(m.2)));
+    line(svg, LIBRARY_COLOR, library);
+    line(svg, PLAIN_COLOR, plain);
+}
+
+const LIBRARY_COLOR: &str = "#1b6ca8";
+const PLAIN_COLOR: &str = "#c0562b";
+
+/// A line through some points.
+fn line(svg: &mut String, color: &str, points: impl Iterator<Item = (f64, f64)>) {
+    let points = points.map(|(x, y)| format!("{x:.1},{y:.1}"));
+    let _ = writeln!(
+        svg,
+        "<polyline points='{}' fill='none' stroke='{color}' stroke-width='2'/>",
+        points.collect::<Vec<_>>().join(" ")
+    );
 }
 
 fn main() {
-    let Some(path) = std::env::args().nth(1) else {
-        eprintln!("use: growth OUT.svg");
-        std::process::exit(1);
+    let path = match std::env::args().nth(1) {
+        Some(path) => path,
+        None => {
+            eprintln!("use: growth OUT.svg");
+            std::process::exit(1);
+        }
     };
     let mut svg = String::from(
         "<svg xmlns='http://www.w3.org/2000/svg' width='960' height='320' font-family='sans-serif' font-size='14'>\n\

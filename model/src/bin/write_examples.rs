@@ -4,9 +4,12 @@ use std::path::PathBuf;
 use std::process::ExitCode;
 
 fn main() -> ExitCode {
-    let Some(folder) = std::env::args_os().nth(1).map(PathBuf::from) else {
-        eprintln!("usage: write_examples FOLDER");
-        return ExitCode::from(2);
+    let folder = match std::env::args_os().nth(1).map(PathBuf::from) {
+        Some(folder) => folder,
+        None => {
+            eprintln!("usage: write_examples FOLDER");
+            return ExitCode::from(2);
+        }
     };
     for example in model::examples::all() {
         let recipe = folder.join(format!("{}.recipe", example.name));

@@ -37,8 +37,8 @@ impl<'a> Maker<'a> {
     fn leaf(&mut self, lambdas: usize) {
         let node = match self.draw.below(6) {
             0 => Node::Unit,
-            1 if self.draw.one_in(3) => Node::Num(limits::NUM),
-            1 => Node::Num(self.draw.below(usize::from(limits::NUM) + 1) as u16),
+            1 if self.draw.one_in(3) => Node::Num(limits::MAX_NUM),
+            1 => Node::Num(self.draw.below(usize::from(limits::MAX_NUM) + 1) as u16),
             2 => Node::Constant(self.draw.pick(&CONSTANTS), self.draw.byte()),
             3 | 4 if lambdas > 0 => Node::Variable(self.draw.below(lambdas.min(256)) as u8),
             _ => Node::Name(self.draw.below(self.names) as u8),
@@ -219,7 +219,7 @@ pub fn outcome_at_limit(draw: &mut Draw) -> Configuration {
     if outcomes.is_empty() {
         return configuration;
     }
-    let wanted = draw.between(limits::IMAGE_NODES - 2, limits::IMAGE_NODES + 2);
+    let wanted = draw.between(limits::MAX_NODES - 2, limits::MAX_NODES + 2);
     let filler = wanted - draw.pick(&outcomes).min(wanted - 1);
     let expression = tree(&large(draw, names, filler));
     configuration.components.push(Component::Thread(expression));
@@ -233,7 +233,7 @@ fn growing(draw: &mut Draw) -> Vec<Node> {
         term.extend([Node::Application, Node::Variable(0)]);
     }
     term.push(Node::Unit);
-    term.extend(std::iter::repeat_n(Node::Lambda(2), draw.between(5, 20)));
+    term.extend(std::iter::repeat(Node::Lambda(2)).take(draw.between(5, 20)));
     term.push(Node::Unit);
     term
 }
@@ -266,8 +266,9 @@ fn grow(draw: &mut Draw, configuration: &mut Configuration, wanted: usize) {
         - configuration.components[chosen]
             .expression()
             .map_or(0, |e| e.size());
-    let Some(room) = wanted.checked_sub(others).filter(|room| *room >= 1) else {
-        return;
+    let room = match wanted.checked_sub(others).filter(|room| *room >= 1) {
+        Some(room) => room,
+        None => return,
     };
     let expression = tree(&large(draw, configuration.names(), room));
     configuration.components[chosen] = Component::Thread(expression);

@@ -2,9 +2,9 @@
 
 use crate::draw::Draw;
 use crate::generate::recipes::Draft;
-use crate::generate::tables::{NUM_NUMBER, SETTING_NUMBER, UNIT_NUMBER};
 use crate::limits;
 use crate::nodes::{standings, Node};
+use crate::table::{NUM_ENTRY, SETTING_ENTRY, UNIT_ENTRY};
 use crate::types::{Constant, Multiplicity};
 
 /// The types that growth needs.
@@ -19,12 +19,12 @@ impl Steps {
     fn new(draft: &mut Draft) -> Option<Steps> {
         let many = Multiplicity::Many;
         let table = &mut draft.table;
-        let num_to_num = table.function(many, NUM_NUMBER, NUM_NUMBER)?;
+        let num_to_num = table.function(many, NUM_ENTRY, NUM_ENTRY)?;
         Some(Steps {
-            unit_to_unit: table.function(many, UNIT_NUMBER, UNIT_NUMBER)?,
+            unit_to_unit: table.function(many, UNIT_ENTRY, UNIT_ENTRY)?,
             num_to_num,
-            num_to_unit: table.function(many, NUM_NUMBER, UNIT_NUMBER)?,
-            exch: table.function(many, SETTING_NUMBER, num_to_num)?,
+            num_to_unit: table.function(many, NUM_ENTRY, UNIT_ENTRY)?,
+            exch: table.function(many, SETTING_ENTRY, num_to_num)?,
         })
     }
 
@@ -71,7 +71,7 @@ fn leaves(draft: &Draft, only_nums: bool) -> Vec<(usize, usize)> {
         let standing = standings(term);
         for (at, (node, here)) in term.iter().zip(standing).enumerate() {
             let wanted = matches!(node, Node::Num(_)) || (*node == Node::Unit && !only_nums);
-            if wanted && here.nesting + 2 <= limits::NESTING {
+            if wanted && here.nesting + 2 <= limits::MAX_NESTING {
                 places.push((bay, at));
             }
         }

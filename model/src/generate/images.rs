@@ -3,6 +3,7 @@
 use crate::draw::Draw;
 use crate::generate::configurations::{configuration, configuration_at_limits, outcome_at_limit};
 use crate::image::write_image;
+use crate::kinds;
 use crate::limits;
 
 /// A slice to step: mostly an image, sometimes a damaged one.
@@ -20,7 +21,8 @@ pub fn image(draw: &mut Draw) -> Vec<u8> {
     made
 }
 
-fn damage(image: &mut Vec<u8>, draw: &mut Draw) {
+/// A slice changed in one place.
+pub fn damage(image: &mut Vec<u8>, draw: &mut Draw) {
     if image.is_empty() {
         return;
     }
@@ -51,8 +53,8 @@ fn raise_a_num(image: &mut [u8]) {
 
 /// A used handle becomes an open one, of a future that has a handle or of any name.
 fn open_a_used_handle(image: &mut [u8], draw: &mut Draw) {
-    let used = names_of_kind(image, 4);
-    let futures = names_of_kind(image, 5);
+    let used = names_of_kind(image, kinds::USED_HANDLE);
+    let futures = names_of_kind(image, kinds::FUTURE);
     if used.is_empty() {
         return;
     }
@@ -62,16 +64,16 @@ fn open_a_used_handle(image: &mut [u8], draw: &mut Draw) {
     } else {
         draw.pick(&futures) as u8
     };
-    let head = limits::COUNT_BYTES + limits::HEAD_BYTES * handle;
-    image[head..head + 2].copy_from_slice(&[3, companion]);
+    let head = limits::FIRST_HEAD + limits::HEAD_LENGTH * handle;
+    image[head..head + 2].copy_from_slice(&[kinds::OPEN_HANDLE, companion]);
 }
 
 /// A field of a head changed a little: kind, companion, offset or length.
 fn damage_head(image: &mut [u8], draw: &mut Draw) {
     let names = usize::from(image[0]).max(1);
     let name = draw.below(names);
-    let field = draw.below(limits::HEAD_BYTES);
-    let at = limits::COUNT_BYTES + limits::HEAD_BYTES * name + field;
+    let field = draw.below(limits::HEAD_LENGTH);
+    let at = limits::FIRST_HEAD + limits::HEAD_LENGTH * name + field;
     let value = draw.below(6) as u8;
     if let Some(byte) = image.get_mut(at) {
         *byte = match draw.below(3) {
@@ -88,7 +90,7 @@ fn lengthen(image: &mut Vec<u8>, draw: &mut Draw) {
     let filler = draw.pick(&[2, 3, 1]);
     image.resize(image.len() + more, filler);
     let names = usize::from(image[0]) + 256 * usize::from(image[1]);
-    let last = limits::COUNT_BYTES + limits::HEAD_BYTES * names;
+    let last = limits::FIRST_HEAD + limits::HEAD_LENGTH * names;
     if names > 0 && last <= image.len() && draw.one_in(2) {
         let old = u16::from_le_bytes([image[last - 2], image[last - 1]]);
         let new = old.wrapping_add(more as u16).to_le_bytes();
@@ -98,13 +100,13 @@ fn lengthen(image: &mut Vec<u8>, draw: &mut Draw) {
 
 /// The names that the heads of a slice give that kind, as far as there are heads.
 fn names_of_kind(image: &[u8], wanted: u8) -> Vec<u64> {
-    let count = image.get(..limits::COUNT_BYTES).unwrap_or(&[0, 0]);
+    let count = image.get(..limits::FIRST_HEAD).unwrap_or(&[0, 0]);
     let names = usize::from(u16::from_le_bytes([count[0], count[1]]));
-    let heads = image.get(limits::COUNT_BYTES..).unwrap_or(&[]);
-    let heads = heads.chunks_exact(limits::HEAD_BYTES).take(names);
-    let kinds = heads.map(|head| head[0]);
+    let heads = image.get(limits::FIRST_HEAD..).unwrap_or(&[]);
+    let heads = heads.chunks_exact(limits::HEAD_LENGTH).take(names);
+    let found = heads.map(|head| head[0]);
     (0..)
-        .zip(kinds)
+        .zip(found)
         .filter(|(_, kind)| *kind == wanted)
         .map(|(name, _)| name)
         .collect()
@@ -114,7 +116,7 @@ fn names_of_kind(image: &[u8], wanted: u8) -> Vec<u64> {
 pub fn thread_number(draw: &mut Draw, image: &[u8]) -> u64 {
     let names = u64::from(image.first().copied().unwrap_or(0));
     let below = draw.below(names as usize + 1) as u64;
-    let threads = names_of_kind(image, 1);
+    let threads = names_of_kind(image, kinds::THREAD);
     match draw.below(30) {
         0 => names,
         1 => below + 256,
@@ -131,10 +133,10 @@ pub fn thread_number(draw: &mut Draw, image: &[u8]) -> u64 {
 pub fn out_length(draw: &mut Draw) -> usize {
     match draw.below(24) {
         0 => 0,
-        1 => limits::IMAGE_BYTES - 1,
-        2 => limits::IMAGE_BYTES + 1,
-        3 => draw.below(limits::IMAGE_BYTES),
-        4 => limits::IMAGE_BYTES + draw.below(5_000),
-        _ => limits::IMAGE_BYTES,
+        1 => limits::MAX_IMAGE - 1,
+        2 => limits::MAX_IMAGE + 1,
+        3 => draw.below(limits::MAX_IMAGE),
+        4 => limits::MAX_IMAGE + draw.below(5_000),
+        _ => limits::MAX_IMAGE,
     }
 }

@@ -4,9 +4,10 @@
 use crate::draw::Draw;
 use crate::format::Recipe;
 use crate::generate::mutants::near_type;
-use crate::generate::tables::{GrowingTable, UNIT_NUMBER};
+use crate::generate::tables::GrowingTable;
 use crate::limits;
 use crate::nodes::Node;
+use crate::table::UNIT_ENTRY;
 use crate::types::{Constant, Multiplicity};
 
 const CONSTANTS: [Constant; 4] = [
@@ -20,7 +21,7 @@ const CONSTANTS: [Constant; 4] = [
 fn instance(draw: &mut Draw, table: &mut GrowingTable, constant: Constant) -> Option<u8> {
     let alpha = table.any(draw);
     let result = if draw.one_in(2) {
-        UNIT_NUMBER
+        UNIT_ENTRY
     } else {
         table.any(draw)
     };
@@ -40,7 +41,7 @@ fn instance(draw: &mut Draw, table: &mut GrowingTable, constant: Constant) -> Op
             table.function(kappa(draw), body, alpha)
         }
         Constant::Handle => {
-            let handle = table.function(Multiplicity::Once, alpha, UNIT_NUMBER)?;
+            let handle = table.function(Multiplicity::Once, alpha, UNIT_ENTRY)?;
             let rest = table.function(kappa(draw), handle, result)?;
             let body = table.function(kappa(draw), alpha, rest)?;
             table.function(kappa(draw), body, result)

@@ -5,7 +5,7 @@ use crate::format::{write_parts, Recipe};
 use crate::generate::recipes::well_typed;
 use crate::limits;
 use crate::nodes::{end_of_term, Node};
-use crate::table::{entry, Entry};
+use crate::table::{entry, Entry, CELL, MANY, ONCE};
 use crate::types::Constant;
 
 /// A recipe changed in one to four places, its layout kept.
@@ -81,8 +81,9 @@ fn some_node(recipe: &Recipe, draw: &mut Draw, wanted: fn(Node) -> bool) -> Opti
 /// Another index, type number, name or value.
 fn change_operand(recipe: &mut Recipe, draw: &mut Draw) {
     let has_operand = |n: Node| !matches!(n, Node::Application | Node::Unit);
-    let Some((bay, at)) = some_node(recipe, draw, has_operand) else {
-        return;
+    let (bay, at) = match some_node(recipe, draw, has_operand) {
+        Some(found) => found,
+        None => return,
     };
     let types = recipe.entries.len();
     let bays = recipe.terms.len();
@@ -103,8 +104,9 @@ fn change_operand(recipe: &mut Recipe, draw: &mut Draw) {
 
 /// A lambda or constant gets a type that differs from its own in one place.
 fn give_near_type(recipe: &mut Recipe, draw: &mut Draw) {
-    let Some((bay, at)) = some_node(recipe, draw, |n| n.type_number().is_some()) else {
-        return;
+    let (bay, at) = match some_node(recipe, draw, |n| n.type_number().is_some()) {
+        Some(found) => found,
+        None => return,
     };
     let number = recipe.terms[bay][at].type_number().unwrap_or(0);
     let levels = draw.below(4);
@@ -116,12 +118,13 @@ fn give_near_type(recipe: &mut Recipe, draw: &mut Draw) {
 
 /// The number of a type that differs from that one in one place, so many levels down.
 pub fn near_type(recipe: &mut Recipe, draw: &mut Draw, number: u8, levels: usize) -> u8 {
-    let Some(mut near) = recipe.entries.get(usize::from(number)).copied() else {
-        return number;
+    let mut near = match recipe.entries.get(usize::from(number)).copied() {
+        Some(near) => near,
+        None => return number,
     };
     let other = draw.below(recipe.entries.len()) as u8;
-    let first = draw.one_in(2) || near.kind < 3;
-    if near.kind < 2 {
+    let first = draw.one_in(2) || near.kind < ONCE;
+    if near.kind < CELL {
         return other;
     }
     match (levels > 0, first) {
@@ -130,8 +133,8 @@ pub fn near_type(recipe: &mut Recipe, draw: &mut Draw, number: u8, levels: usize
         (false, _) => match draw.below(4) {
             0 => near = entry(2, near.p, 0),
             1 => near.p = other,
-            2 if near.kind >= 3 => near.q = other,
-            _ => near.kind = if near.kind == 4 { 3 } else { 4 },
+            2 if near.kind >= ONCE => near.q = other,
+            _ => near.kind = if near.kind == MANY { ONCE } else { MANY },
         },
     }
     number_of(recipe, near)
@@ -172,11 +175,12 @@ fn exchange_constant(recipe: &mut Recipe, draw: &mut Draw) {
 
 /// A subterm stands where another stood.
 fn exchange_subterm(recipe: &mut Recipe, draw: &mut Draw) {
-    let (Some((from, start)), Some((to, at))) = (
+    let (from, start, to, at) = match (
         some_node(recipe, draw, |_| true),
         some_node(recipe, draw, |_| true),
-    ) else {
-        return;
+    ) {
+        (Some((from, start)), Some((to, at))) => (from, start, to, at),
+        _ => return,
     };
     let end = end_of_term(&recipe.terms[from], start);
     let copied = recipe.terms[from][start..end].to_vec();
@@ -186,8 +190,9 @@ fn exchange_subterm(recipe: &mut Recipe, draw: &mut Draw) {
 
 /// A lambda gives way to its body, an application to its function or its argument.
 fn drop_node(recipe: &mut Recipe, draw: &mut Draw) {
-    let Some((bay, at)) = some_node(recipe, draw, |n| n.subterms() > 0) else {
-        return;
+    let (bay, at) = match some_node(recipe, draw, |n| n.subterms() > 0) {
+        Some(found) => found,
+        None => return,
     };
     let term = &mut recipe.terms[bay];
     if term[at].subterms() == 2 {
@@ -204,8 +209,9 @@ fn drop_node(recipe: &mut Recipe, draw: &mut Draw) {
 
 /// A lambda around a subterm, or a subterm applied to another.
 fn wrap(recipe: &mut Recipe, draw: &mut Draw) {
-    let Some((bay, at)) = some_node(recipe, draw, |_| true) else {
-        return;
+    let (bay, at) = match some_node(recipe, draw, |_| true) {
+        Some(found) => found,
+        None => return,
     };
     let number = draw.below(recipe.entries.len()) as u8;
     let around = match draw.below(3) {
@@ -217,8 +223,9 @@ fn wrap(recipe: &mut Recipe, draw: &mut Draw) {
 }
 
 fn replace_leaf(recipe: &mut Recipe, draw: &mut Draw) {
-    let Some((bay, at)) = some_node(recipe, draw, |n| n.subterms() == 0) else {
-        return;
+    let (bay, at) = match some_node(recipe, draw, |n| n.subterms() == 0) {
+        Some(found) => found,
+        None => return,
     };
     let number = draw.below(recipe.entries.len()) as u8;
     recipe.terms[bay][at] = match draw.below(5) {
@@ -237,8 +244,8 @@ fn change_bays(recipe: &mut Recipe, draw: &mut Draw) {
         0 if recipe.terms.len() > 1 => {
             recipe.terms.pop();
         }
-        1 => recipe.terms.resize(limits::BAYS, some),
-        2 if draw.one_in(3) => recipe.terms.resize(limits::BAYS + 1, vec![Node::Unit]),
+        1 => recipe.terms.resize(limits::MAX_BAYS, some),
+        2 if draw.one_in(3) => recipe.terms.resize(limits::MAX_BAYS + 1, vec![Node::Unit]),
         _ => recipe.terms.push(some),
     }
 }

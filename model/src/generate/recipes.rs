@@ -48,6 +48,16 @@ struct Faults {
     beyond: bool,
 }
 
+impl Faults {
+    fn any(draw: &mut Draw) -> Faults {
+        Faults {
+            once_bay: draw.one_in(2),
+            careless: draw.one_in(4),
+            beyond: draw.one_in(3),
+        }
+    }
+}
+
 /// A recipe that is accepted, but for the rare one that grows past the limit of nodes.
 pub fn well_typed(draw: &mut Draw) -> Recipe {
     draft(draw, Faults::default()).finish()
@@ -76,19 +86,26 @@ pub fn several_careless_bays(draw: &mut Draw) -> Recipe {
     draft_as_wished(draw, &wish).finish()
 }
 
+/// A recipe of one to four small bays that may break any of the rules about once and many.
+pub fn small(draw: &mut Draw) -> Recipe {
+    let wish = Wish {
+        bays: draw.between(1, 4),
+        fuel: draw.between(1, 8),
+        deepest: 10,
+        faults: Faults::any(draw),
+    };
+    draft_as_wished(draw, &wish).finish()
+}
+
 /// A recipe that may break any of the rules about once and many.
 pub fn with_faults(draw: &mut Draw) -> Recipe {
-    let faults = Faults {
-        once_bay: draw.one_in(2),
-        careless: draw.one_in(4),
-        beyond: draw.one_in(3),
-    };
+    let faults = Faults::any(draw);
     draft(draw, faults).finish()
 }
 
 fn draft(draw: &mut Draw, faults: Faults) -> Draft {
     let bays = match draw.below(8) {
-        0 => draw.between(1, limits::BAYS),
+        0 => draw.between(1, limits::MAX_BAYS),
         1 => draw.between(2, 4),
         _ => 1,
     };
@@ -149,10 +166,10 @@ pub fn at_a_limit(draw: &mut Draw) -> Recipe {
     };
     let mut made = draft_as_wished(draw, &wish);
     if draw.one_in(2) {
-        grow_to_nesting(&mut made, draw, limits::NESTING + past);
+        grow_to_nesting(&mut made, draw, limits::MAX_NESTING + past);
     }
     if draw.one_in(2) {
-        grow_to_nodes(&mut made, draw, limits::NODES + past);
+        grow_to_nodes(&mut made, draw, limits::MAX_RECIPE_NODES + past);
     }
     if draw.one_in(2) {
         let wanted = *limits::ENTRIES.end() - draw.below(2);
@@ -165,14 +182,14 @@ pub fn at_a_limit(draw: &mut Draw) -> Recipe {
 pub fn largest(draw: &mut Draw) -> Recipe {
     loop {
         let wish = Wish {
-            bays: limits::BAYS,
+            bays: limits::MAX_BAYS,
             fuel: 20,
             deepest: 20,
             faults: Faults::default(),
         };
         let mut made = draft_as_wished(draw, &wish);
-        let nested = grow_to_nesting(&mut made, draw, limits::NESTING);
-        let grown = nested.and_then(|()| grow_to_nodes(&mut made, draw, limits::NODES));
+        let nested = grow_to_nesting(&mut made, draw, limits::MAX_NESTING);
+        let grown = nested.and_then(|()| grow_to_nodes(&mut made, draw, limits::MAX_RECIPE_NODES));
         made.table.fill(draw, *limits::ENTRIES.end());
         if grown.is_some() && made.table.len() == *limits::ENTRIES.end() {
             return made.finish();

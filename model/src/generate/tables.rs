@@ -6,10 +6,6 @@ use crate::table::{entry, Entry, CELL, FIRST_ENTRIES, MANY, ONCE};
 use crate::types::Multiplicity;
 use std::collections::HashMap;
 
-pub const UNIT_NUMBER: u8 = 0;
-pub const NUM_NUMBER: u8 = 1;
-pub const SETTING_NUMBER: u8 = 2;
-
 /// The entries so far, each type once.
 #[derive(Debug, Clone)]
 pub struct GrowingTable {

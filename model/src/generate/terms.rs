@@ -2,9 +2,10 @@
 //! under no many-lambda but its own, unless the maker is careless on purpose.
 
 use crate::draw::Draw;
-use crate::generate::tables::{GrowingTable, NUM_NUMBER, SETTING_NUMBER, UNIT_NUMBER};
+use crate::generate::tables::GrowingTable;
 use crate::limits;
 use crate::nodes::Node;
+use crate::table::{NUM_ENTRY, SETTING_ENTRY, UNIT_ENTRY};
 use crate::types::{Constant, Multiplicity};
 
 /// Makes terms; nodes are written root first as they are chosen.
@@ -88,11 +89,11 @@ impl<'a> TermMaker<'a> {
         if !duties.is_empty() {
             return None;
         }
-        let value = self.draw.between(0, usize::from(limits::NUM)) as u16;
+        let value = self.draw.between(0, usize::from(limits::MAX_NUM)) as u16;
         let node = match goal {
-            UNIT_NUMBER => Node::Unit,
-            NUM_NUMBER => Node::Num(value),
-            SETTING_NUMBER => Node::Name(self.draw.below(self.bays) as u8),
+            UNIT_ENTRY => Node::Unit,
+            NUM_ENTRY => Node::Num(value),
+            SETTING_ENTRY => Node::Name(self.draw.below(self.bays) as u8),
             _ => Node::Constant(self.constant_of(goal)?, goal),
         };
         self.nodes.push(node);
@@ -136,7 +137,7 @@ impl<'a> TermMaker<'a> {
         }
         let (_, handle, end) = self.table.function_parts(rest)?;
         let is_handle =
-            self.table.function_parts(handle) == Some((Multiplicity::Once, a, UNIT_NUMBER));
+            self.table.function_parts(handle) == Some((Multiplicity::Once, a, UNIT_ENTRY));
         (is_handle && end == q && many(a)).then_some(Constant::Handle)
     }
 
@@ -187,7 +188,7 @@ impl<'a> TermMaker<'a> {
         };
         let results = |place: &usize| {
             let parts = self.table.function_parts(self.scope[*place]);
-            parts.is_some_and(|(_, _, result)| result == goal)
+            parts.map_or(false, |(_, _, result)| result == goal)
         };
         let places = 0..self.scope.len();
         let candidates: Vec<usize> = places.filter(|p| usable(p) && results(p)).collect();
@@ -217,7 +218,7 @@ impl<'a> TermMaker<'a> {
     fn new_handle(&mut self, goal: u8, duties: &Duties, nesting: usize) -> Option<()> {
         let alpha = self.future_type();
         let usable = self.handle_multiplicity();
-        let handle = self.table.function(usable, alpha, UNIT_NUMBER)?;
+        let handle = self.table.function(usable, alpha, UNIT_ENTRY)?;
         let inner = self.any_multiplicity();
         let outer = self.multiplicity_for(duties);
         let rest = self.table.function(inner, handle, goal)?;
@@ -316,7 +317,7 @@ impl<'a> TermMaker<'a> {
 
     /// A small term of the type that does the duties one after the other.
     fn simplest(&mut self, goal: u8, duties: Duties, nesting: usize) -> Option<()> {
-        if nesting > limits::NESTING {
+        if nesting > limits::MAX_NESTING {
             return None;
         }
         match duties.split_last() {
@@ -391,7 +392,7 @@ impl<'a> TermMaker<'a> {
     fn simplest_future(&mut self, goal: u8, nesting: usize) -> Option<()> {
         let body = self.table.function(Multiplicity::Many, goal, goal)?;
         let whole = self.table.function(Multiplicity::Many, body, goal)?;
-        if nesting + 2 > limits::NESTING {
+        if nesting + 2 > limits::MAX_NESTING {
             return None;
         }
         self.nodes.push(Node::Application);

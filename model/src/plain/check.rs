@@ -1,15 +1,17 @@
 //! Causes 1 to 4 in their order, then the terms: causes 5 to 8 in one pass, 9 to 11 in another.
 
+use crate::causes;
 use crate::limits;
 use crate::plain::term::scan_term;
 use crate::plain::walk::Walk;
+use crate::table::{CELL, MANY, NUM, ONCE, UNIT};
 
 /// The answer: the refusal or 0, the number of bays, and each bay's type number.
 #[derive(Debug, Clone, Copy, PartialEq, Eq)]
 pub struct Answer {
     pub refusal: u32,
     pub bays: u32,
-    pub types: [u8; limits::BAYS],
+    pub types: [u8; limits::MAX_BAYS],
 }
 
 impl Answer {
@@ -17,7 +19,7 @@ impl Answer {
         Answer {
             refusal,
             bays: 0,
-            types: [0; limits::BAYS],
+            types: [0; limits::MAX_BAYS],
         }
     }
 }
@@ -30,11 +32,11 @@ pub struct PlainTable<'a> {
 
 impl PlainTable<'_> {
     pub fn entries(self) -> usize {
-        self.bytes.len() / limits::ENTRY_BYTES
+        self.bytes.len() / limits::ENTRY_LENGTH
     }
 
     pub fn entry(self, number: u8) -> (u8, u8, u8) {
-        let at = usize::from(number) * limits::ENTRY_BYTES;
+        let at = usize::from(number) * limits::ENTRY_LENGTH;
         (self.bytes[at], self.bytes[at + 1], self.bytes[at + 2])
     }
 }
@@ -49,18 +51,18 @@ pub fn check(file: &[u8]) -> Answer {
 
 fn try_check(file: &[u8]) -> Result<Answer, u32> {
     if !limits::FILE_BYTES.contains(&file.len()) {
-        return Err(1);
+        return Err(causes::FILE_LENGTH);
     }
     let n = usize::from(file[3]);
-    if file[..3] != [0x4C, 0x46, 1] || !limits::PARTS.contains(&n) {
-        return Err(2);
+    if file[..2] != limits::OPENING || file[2] != limits::EDITION || !limits::PARTS.contains(&n) {
+        return Err(causes::OPENING);
     }
     check_pairs(file, n)?;
     let table = PlainTable {
         bytes: part(file, 0),
     };
     if !table_is_sound(table) {
-        return Err(4);
+        return Err(causes::TYPE_ENTRY);
     }
     check_terms(file, n - 1, table)
 }
@@ -78,36 +80,37 @@ pub fn part(file: &[u8], i: usize) -> &[u8] {
 fn check_pairs(file: &[u8], n: usize) -> Result<(), u32> {
     let mut expected = 4 + 4 * n;
     if file.len() < expected {
-        return Err(3);
+        return Err(causes::LAYOUT);
     }
     for i in 0..n {
         let length = number_at(file, 6 + 4 * i);
         if number_at(file, 4 + 4 * i) != expected || length == 0 {
-            return Err(3);
+            return Err(causes::LAYOUT);
         }
         expected += length;
     }
     let table_length = number_at(file, 6);
-    if expected != file.len()
-        || !table_length.is_multiple_of(3)
-        || !(9..=768).contains(&table_length)
-    {
-        return Err(3);
+    if expected != file.len() || !table_length_is_sound(table_length) {
+        return Err(causes::LAYOUT);
     }
     Ok(())
+}
+
+fn table_length_is_sound(length: usize) -> bool {
+    length % limits::ENTRY_LENGTH == 0 && limits::ENTRIES.contains(&(length / limits::ENTRY_LENGTH))
 }
 
 fn table_is_sound(table: PlainTable) -> bool {
     if table.bytes[..9] != [0, 0, 0, 1, 0, 0, 2, 1, 0] {
         return false;
     }
-    let mut keys = [0u32; 256];
-    for (own, e) in table.bytes.chunks_exact(3).enumerate() {
+    let mut keys = [0u32; limits::MAX_ENTRIES];
+    for (own, e) in table.bytes.chunks_exact(limits::ENTRY_LENGTH).enumerate() {
         let (kind, p, q) = (e[0], usize::from(e[1]), usize::from(e[2]));
         let kept = match kind {
-            0 | 1 => p == 0 && q == 0,
-            2 => p < own && q == 0,
-            3 | 4 => p < own && q < own,
+            UNIT | NUM => p == 0 && q == 0,
+            CELL => p < own && q == 0,
+            ONCE | MANY => p < own && q < own,
             _ => false,
         };
         if !kept {
@@ -128,8 +131,8 @@ fn check_terms(file: &[u8], bays: usize, table: PlainTable) -> Result<Answer, u3
         nodes += scanned.nodes;
         lowest = lowest.min(scanned.lowest);
     }
-    if nodes > limits::NODES {
-        return Err(6);
+    if nodes > limits::MAX_RECIPE_NODES {
+        return Err(causes::TERM_SIZE);
     }
     if lowest != u32::MAX {
         return Err(lowest);
@@ -144,14 +147,14 @@ fn walk_terms(file: &[u8], bays: usize, table: PlainTable) -> Result<Answer, u32
     let mut once = false;
     for bay in 0..bays {
         let mut walk = Walk::new(part(file, 1 + bay), table);
-        let found = walk.term().ok_or(9u32)?;
+        let found = walk.term().ok_or(causes::TYPE)?;
         misused |= walk.misused;
-        once |= table.entry(found).0 == 3;
+        once |= table.entry(found).0 == ONCE;
         answer.types[bay] = found;
     }
     match (misused, once) {
-        (true, _) => Err(10),
-        (_, true) => Err(11),
+        (true, _) => Err(causes::LINEARITY),
+        (_, true) => Err(causes::BAY_ONCE),
         _ => Ok(answer),
     }
 }

@@ -1,8 +1,10 @@
 //! Refusal 13 on bytes: one pass over the heads, one over each expression.
 
+use crate::kinds;
 use crate::limits;
 use crate::nodes::FORMS;
 use crate::plain::levels::{Levels, Passed};
+use crate::tags;
 
 /// A sound image and its number of nodes.
 #[derive(Clone, Copy)]
@@ -32,7 +34,7 @@ impl<'a> PlainImage<'a> {
 }
 
 fn head(name: usize) -> usize {
-    limits::COUNT_BYTES + limits::HEAD_BYTES * name
+    limits::FIRST_HEAD + limits::HEAD_LENGTH * name
 }
 
 fn number_at(bytes: &[u8], at: usize) -> usize {
@@ -41,11 +43,11 @@ fn number_at(bytes: &[u8], at: usize) -> usize {
 
 /// The image, if it keeps every rule and limit.
 pub fn read<'a>(levels: &mut ExpressionLevels, bytes: &'a [u8]) -> Option<PlainImage<'a>> {
-    if !(limits::COUNT_BYTES..=limits::IMAGE_BYTES).contains(&bytes.len()) {
+    if !(limits::FIRST_HEAD..=limits::MAX_IMAGE).contains(&bytes.len()) {
         return None;
     }
     let names = number_at(bytes, 0);
-    if names > limits::NAMES || head(names) > bytes.len() {
+    if names > limits::MAX_NAMES || head(names) > bytes.len() {
         return None;
     }
     let mut image = PlainImage {
@@ -55,43 +57,44 @@ pub fn read<'a>(levels: &mut ExpressionLevels, bytes: &'a [u8]) -> Option<PlainI
     };
     check_heads(image)?;
     for name in 0..names {
-        if image.kind(name) <= 2 {
+        if image.kind(name) <= kinds::CELL {
             image.nodes += scan(levels, image.expression(name), names)?;
         }
-        if image.kind(name) == 2 && !crate::plain::place::is_value(image.expression(name)) {
+        if image.kind(name) == kinds::CELL && !crate::plain::place::is_value(image.expression(name))
+        {
             return None;
         }
     }
-    (image.nodes <= limits::IMAGE_NODES).then_some(image)
+    (image.nodes <= limits::MAX_NODES).then_some(image)
 }
 
 /// Kinds, companions, offsets and lengths; each future has exactly one open handle.
 fn check_heads(image: PlainImage) -> Option<()> {
     let mut end = head(image.names);
-    let mut handles = [0u16; limits::NAMES];
+    let mut handles = [0u16; limits::MAX_NAMES];
     for name in 0..image.names {
         let length = number_at(image.bytes, head(name) + 4);
         let (kind, companion) = (image.kind(name), image.companion(name));
         let sound = match kind {
-            1 | 2 => companion == 0,
-            3 => length == 0 && usize::from(companion) < image.names,
-            4 | 5 => length == 0 && companion == 0,
+            kinds::THREAD | kinds::CELL => companion == 0,
+            kinds::OPEN_HANDLE => length == 0 && usize::from(companion) < image.names,
+            kinds::USED_HANDLE | kinds::FUTURE => length == 0 && companion == 0,
             _ => false,
         };
         if !sound || image.offset(name) != end {
             return None;
         }
-        if kind == 3 {
+        if kind == kinds::OPEN_HANDLE {
             handles[usize::from(companion)] += 1;
         }
         end += length;
     }
-    let matched = |name: usize| handles[name] == u16::from(image.kind(name) == 5);
+    let matched = |name: usize| handles[name] == u16::from(image.kind(name) == kinds::FUTURE);
     (end == image.bytes.len() && (0..image.names).all(matched)).then_some(())
 }
 
 /// The levels of a walk over an expression.
-pub type ExpressionLevels = Levels<{ limits::IMAGE_NODES }>;
+pub type ExpressionLevels = Levels<{ limits::MAX_NODES }>;
 
 /// The nodes of bytes that are exactly one term, with its variables bound and names below m.
 fn scan(levels: &mut ExpressionLevels, bytes: &[u8], names: usize) -> Option<usize> {
@@ -104,12 +107,12 @@ fn scan(levels: &mut ExpressionLevels, bytes: &[u8], names: usize) -> Option<usi
         let after = bytes.get(at + 1..at + 1 + form.after)?;
         nodes += 1;
         let sound = match tag {
-            0 => usize::from(after[0]) < levels.lambdas(),
-            4 => u16::from_le_bytes([after[0], after[1]]) <= limits::NUM,
-            9 => usize::from(after[0]) < names,
+            tags::VARIABLE => usize::from(after[0]) < levels.lambdas(),
+            tags::NUM => u16::from_le_bytes([after[0], after[1]]) <= limits::MAX_NUM,
+            tags::NAME => usize::from(after[0]) < names,
             _ => true,
         };
-        if !sound || nodes > limits::IMAGE_NODES {
+        if !sound || nodes > limits::MAX_NODES {
             return None;
         }
         at += 1 + form.after;

@@ -1,5 +1,7 @@
 //! The open levels of a walk over a term's bytes, in place of recursion.
 
+use crate::tags;
+
 /// For each open level the subterms still to come and the lambdas around them; at most `MOST`
 /// levels. Only the levels down to `depth` hold something.
 pub struct Levels<const MOST: usize> {
@@ -46,7 +48,7 @@ impl<const MOST: usize> Levels<MOST> {
                 return Passed::TooDeep;
             }
             self.pending[below] = subterms as u8;
-            self.lambdas[below] = self.lambdas[self.depth] + u16::from(tag == 1);
+            self.lambdas[below] = self.lambdas[self.depth] + u16::from(tag == tags::LAMBDA);
             self.depth = below;
         }
         while self.depth > 0 && self.pending[self.depth] == 0 {

@@ -1,6 +1,7 @@
 //! The place where two values meet, on bytes, in one pass.
 
 use crate::plain::image::measure;
+use crate::tags;
 
 /// Where the application, its argument and its end stand in the expression.
 #[derive(Clone, Copy)]
@@ -21,8 +22,8 @@ impl Place {
 /// Past exch after exch: where an application of something else stands, or nothing for a value.
 fn stuck(bytes: &[u8], from: usize) -> Option<usize> {
     let mut at = from;
-    while bytes[at] == 2 {
-        if bytes[at + 1] != 6 {
+    while bytes[at] == tags::APPLICATION {
+        if bytes[at + 1] != tags::EXCH {
             return Some(at);
         }
         at += 3;

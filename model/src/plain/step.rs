@@ -1,11 +1,14 @@
 //! A step on bytes: which rule, whether there is room, and only then the new image.
 
+use crate::causes;
+use crate::kinds;
 use crate::limits;
 use crate::nodes::FORMS;
 use crate::plain::image::{measure, read, ExpressionLevels, PlainImage};
 use crate::plain::levels::Passed;
 use crate::plain::place::{find, is_value, Place};
 use crate::plain::write::{write, Change};
+use crate::tags;
 
 /// The answer of a step.
 #[derive(Debug, Clone, Copy, PartialEq, Eq)]
@@ -18,20 +21,22 @@ pub enum Stepped {
 
 /// One step of that thread.
 pub fn step(bytes: &[u8], thread: u64, out: &mut [u8]) -> Stepped {
-    if out.len() < limits::IMAGE_BYTES {
-        return Stepped::Refused(12);
+    if out.len() < limits::MAX_IMAGE {
+        return Stepped::Refused(causes::BUFFER);
     }
     let mut levels = ExpressionLevels::new();
-    let Some(image) = read(&mut levels, bytes) else {
-        return Stepped::Refused(13);
+    let image = match read(&mut levels, bytes) {
+        Some(image) => image,
+        None => return Stepped::Refused(causes::IMAGE),
     };
-    if thread >= image.names as u64 || image.kind(thread as usize) != 1 {
-        return Stepped::Refused(14);
+    if thread >= image.names as u64 || image.kind(thread as usize) != kinds::THREAD {
+        return Stepped::Refused(causes::NO_THREAD);
     }
     let thread = thread as usize;
     let expression = image.expression(thread);
-    let Some(place) = find(expression) else {
-        return Stepped::Done;
+    let place = match find(expression) {
+        Some(place) => place,
+        None => return Stepped::Done,
     };
     let change = match decide(image, expression, place) {
         Ok(change) => change,
@@ -39,8 +44,8 @@ pub fn step(bytes: &[u8], thread: u64, out: &mut [u8]) -> Stepped {
     };
     let names = image.names + change.new_names();
     let nodes = nodes_after(&mut levels, image, expression, place, change);
-    if names > limits::NAMES || nodes > limits::IMAGE_NODES {
-        return Stepped::Refused(15);
+    if names > limits::MAX_NAMES || nodes > limits::MAX_NODES {
+        return Stepped::Refused(causes::ROOM);
     }
     let length = write(&mut levels, image, thread, place, change, out);
     Stepped::Rule(change.rule(), length)
@@ -50,23 +55,25 @@ pub fn step(bytes: &[u8], thread: u64, out: &mut [u8]) -> Stepped {
 fn decide(image: PlainImage, expression: &[u8], place: Place) -> Result<Change, Stepped> {
     let function = place.function();
     match expression[function] {
-        1 => Ok(Change::Beta),
-        5 => Ok(Change::CellNew),
-        7 => Ok(Change::ThreadNew),
-        8 => Ok(Change::HandleNew),
-        9 => match decide_name(image, expression, function)? {
+        tags::LAMBDA => Ok(Change::Beta),
+        tags::CELL => Ok(Change::CellNew),
+        tags::THREAD => Ok(Change::ThreadNew),
+        tags::HANDLE => Ok(Change::HandleNew),
+        tags::NAME => match decide_name(image, expression, function)? {
             Some(change) => Ok(change),
             None => decide_handle(image, expression[function + 1]),
         },
-        2 if expression[function + 3] == 9 => {
+        tags::APPLICATION if expression[function + 3] == tags::NAME => {
             let name = expression[function + 4];
             match decide_name(image, expression, function + 3)? {
                 Some(change) => Ok(change),
-                None if image.kind(usize::from(name)) == 2 => Ok(Change::CellExch { cell: name }),
-                None => Err(Stepped::Refused(17)),
+                None if image.kind(usize::from(name)) == kinds::CELL => {
+                    Ok(Change::CellExch { cell: name })
+                }
+                None => Err(Stepped::Refused(causes::WRONG_KIND)),
             }
         }
-        _ => Err(Stepped::Refused(17)),
+        _ => Err(Stepped::Refused(causes::WRONG_KIND)),
     }
 }
 
@@ -74,22 +81,22 @@ fn decide(image: PlainImage, expression: &[u8], place: Place) -> Result<Change, 
 fn decide_name(image: PlainImage, expression: &[u8], at: usize) -> Result<Option<Change>, Stepped> {
     let name = expression[at + 1];
     match image.kind(usize::from(name)) {
-        1 if is_value(image.expression(usize::from(name))) => {
+        kinds::THREAD if is_value(image.expression(usize::from(name))) => {
             Ok(Some(Change::FutureDeref { at, name }))
         }
-        1 | 5 => Err(Stepped::Waiting(name)),
+        kinds::THREAD | kinds::FUTURE => Err(Stepped::Waiting(name)),
         _ => Ok(None),
     }
 }
 
 fn decide_handle(image: PlainImage, name: u8) -> Result<Change, Stepped> {
     match image.kind(usize::from(name)) {
-        3 => Ok(Change::HandleBind {
+        kinds::OPEN_HANDLE => Ok(Change::HandleBind {
             handle: name,
             future: image.companion(usize::from(name)),
         }),
-        4 => Err(Stepped::Refused(16)),
-        _ => Err(Stepped::Refused(17)),
+        kinds::USED_HANDLE => Err(Stepped::Refused(causes::USED_HANDLE)),
+        _ => Err(Stepped::Refused(causes::WRONG_KIND)),
     }
 }
 
@@ -127,7 +134,8 @@ fn uses(levels: &mut ExpressionLevels, body: &[u8]) -> usize {
     loop {
         let tag = body[at];
         let form = &FORMS[usize::from(tag)];
-        places += usize::from(tag == 0 && usize::from(body[at + 1]) == levels.lambdas());
+        places +=
+            usize::from(tag == tags::VARIABLE && usize::from(body[at + 1]) == levels.lambdas());
         at += 1 + form.after;
         if levels.pass(tag, form.subterms) != Passed::More {
             return places;

@@ -2,6 +2,8 @@
 
 use crate::limits;
 use crate::plain::check::PlainTable;
+use crate::table::{self, NUM_ENTRY, SETTING_ENTRY, UNIT_ENTRY};
+use crate::tags;
 
 /// A lambda around the place of the walk.
 #[derive(Clone, Copy)]
@@ -16,7 +18,7 @@ pub struct Walk<'a> {
     bytes: &'a [u8],
     table: PlainTable<'a>,
     at: usize,
-    around: [Around; limits::NESTING],
+    around: [Around; limits::MAX_NESTING],
     lambdas: usize,
     /// Cause 10 fits.
     pub misused: bool,
@@ -33,7 +35,7 @@ impl<'a> Walk<'a> {
             bytes,
             table,
             at: 0,
-            around: [none; limits::NESTING],
+            around: [none; limits::MAX_NESTING],
             lambdas: 0,
             misused: false,
         }
@@ -44,17 +46,17 @@ impl<'a> Walk<'a> {
         let tag = self.bytes[self.at];
         self.at += 1;
         match tag {
-            0 => Some(self.variable()),
-            1 => self.lambda(),
-            2 => self.application(),
-            3 => Some(0),
-            4 => {
+            tags::VARIABLE => Some(self.variable()),
+            tags::LAMBDA => self.lambda(),
+            tags::APPLICATION => self.application(),
+            tags::UNIT => Some(UNIT_ENTRY),
+            tags::NUM => {
                 self.at += 2;
-                Some(1)
+                Some(NUM_ENTRY)
             }
-            9 => {
+            tags::NAME => {
                 self.at += 1;
-                Some(2)
+                Some(SETTING_ENTRY)
             }
             _ => Some(self.operand()),
         }
@@ -78,7 +80,7 @@ impl<'a> Walk<'a> {
         let many = self.many_around();
         let binder = &mut self.around[self.lambdas - 1 - index];
         binder.uses += 1;
-        let once = self.table.entry(binder.parameter).0 == 3;
+        let once = self.table.entry(binder.parameter).0 == table::ONCE;
         self.misused |= once && many > binder.many;
         binder.parameter
     }
@@ -89,12 +91,12 @@ impl<'a> Walk<'a> {
         self.around[self.lambdas] = Around {
             parameter,
             uses: 0,
-            many: self.many_around() + u8::from(kind == 4),
+            many: self.many_around() + u8::from(kind == table::MANY),
         };
         self.lambdas += 1;
         let body = self.term()?;
         self.lambdas -= 1;
-        let once = self.table.entry(parameter).0 == 3;
+        let once = self.table.entry(parameter).0 == table::ONCE;
         self.misused |= once && self.around[self.lambdas].uses != 1;
         (body == result).then_some(whole)
     }
@@ -103,6 +105,6 @@ impl<'a> Walk<'a> {
         let function = self.term()?;
         let argument = self.term()?;
         let (kind, parameter, result) = self.table.entry(function);
-        (kind >= 3 && parameter == argument).then_some(result)
+        (kind >= table::ONCE && parameter == argument).then_some(result)
     }
 }

@@ -1,10 +1,13 @@
 //! The new image after a change, written in one pass; there is room for it.
 
+use crate::kinds;
 use crate::limits;
 use crate::nodes::FORMS;
 use crate::plain::image::{ExpressionLevels, PlainImage};
 use crate::plain::levels::Passed;
 use crate::plain::place::Place;
+use crate::rules;
+use crate::tags;
 
 /// A rule of Fig. 5 with what it needs beyond the place.
 #[derive(Clone, Copy)]
@@ -30,13 +33,13 @@ pub enum Change {
 impl Change {
     pub fn rule(self) -> u8 {
         match self {
-            Change::Beta => 1,
-            Change::ThreadNew => 2,
-            Change::FutureDeref { .. } => 3,
-            Change::HandleNew => 4,
-            Change::HandleBind { .. } => 5,
-            Change::CellNew => 6,
-            Change::CellExch { .. } => 7,
+            Change::Beta => rules::BETA,
+            Change::ThreadNew => rules::THREAD_NEW,
+            Change::FutureDeref { .. } => rules::FUTURE_DEREF,
+            Change::HandleNew => rules::HANDLE_NEW,
+            Change::HandleBind { .. } => rules::HANDLE_BIND,
+            Change::CellNew => rules::CELL_NEW,
+            Change::CellExch { .. } => rules::CELL_EXCH,
         }
     }
 
@@ -65,7 +68,7 @@ impl Writer<'_> {
 
     /// The head of a name whose expression has just been written from `start` on.
     fn head(&mut self, name: usize, kind: u8, companion: u8, start: usize) {
-        let at = limits::COUNT_BYTES + limits::HEAD_BYTES * name;
+        let at = limits::FIRST_HEAD + limits::HEAD_LENGTH * name;
         let length = (self.end - start) as u16;
         self.out[at..at + 2].copy_from_slice(&[kind, companion]);
         self.out[at + 2..at + 4].copy_from_slice(&(start as u16).to_le_bytes());
@@ -80,7 +83,7 @@ impl Writer<'_> {
             let tag = body[at];
             let form = &FORMS[usize::from(tag)];
             let next = at + 1 + form.after;
-            if tag == 0 && usize::from(body[at + 1]) == self.levels.lambdas() {
+            if tag == tags::VARIABLE && usize::from(body[at + 1]) == self.levels.lambdas() {
                 self.put(value);
             } else {
                 self.put(&body[at..next]);
@@ -103,7 +106,7 @@ pub fn write(
     out: &mut [u8],
 ) -> usize {
     let names = image.names + change.new_names();
-    let end = limits::COUNT_BYTES + limits::HEAD_BYTES * names;
+    let end = limits::FIRST_HEAD + limits::HEAD_LENGTH * names;
     let mut writer = Writer { levels, out, end };
     writer.out[..2].copy_from_slice(&(names as u16).to_le_bytes());
     let expression = image.expression(thread);
@@ -112,7 +115,7 @@ pub fn write(
         let start = writer.end;
         let (kind, companion) = if name == thread {
             write_thread(&mut writer, image, expression, place, change);
-            (1, 0)
+            (kinds::THREAD, 0)
         } else {
             write_other(&mut writer, image, name, value, change)
         };
@@ -135,18 +138,18 @@ fn write_thread(
     writer.put(&expression[..place.start]);
     match change {
         Change::Beta => writer.substituted(&expression[place.function() + 2..], value),
-        Change::ThreadNew | Change::CellNew => writer.put(&[9, new]),
+        Change::ThreadNew | Change::CellNew => writer.put(&[tags::NAME, new]),
         Change::FutureDeref { at, name } => {
             writer.put(&expression[place.start..at]);
             writer.put(image.expression(usize::from(name)));
             writer.put(&expression[at + 2..place.end]);
         }
         Change::HandleNew => {
-            writer.put(&[2, 2]);
+            writer.put(&[tags::APPLICATION, tags::APPLICATION]);
             writer.put(value);
-            writer.put(&[9, new, 9, new + 1]);
+            writer.put(&[tags::NAME, new, tags::NAME, new + 1]);
         }
-        Change::HandleBind { .. } => writer.put(&[3]),
+        Change::HandleBind { .. } => writer.put(&[tags::UNIT]),
         Change::CellExch { cell } => writer.put(image.expression(usize::from(cell))),
     }
     writer.put(&expression[place.end..]);
@@ -163,12 +166,12 @@ fn write_other(
     match change {
         Change::HandleBind { future, .. } if usize::from(future) == name => {
             writer.put(value);
-            (1, 0)
+            (kinds::THREAD, 0)
         }
-        Change::HandleBind { handle, .. } if usize::from(handle) == name => (4, 0),
+        Change::HandleBind { handle, .. } if usize::from(handle) == name => (kinds::USED_HANDLE, 0),
         Change::CellExch { cell } if usize::from(cell) == name => {
             writer.put(value);
-            (2, 0)
+            (kinds::CELL, 0)
         }
         _ => {
             writer.put(image.expression(name));
@@ -183,18 +186,18 @@ fn write_new(writer: &mut Writer, first: usize, value: &[u8], change: Change) {
     let new = first as u8;
     match change {
         Change::ThreadNew => {
-            writer.put(&[2]);
+            writer.put(&[tags::APPLICATION]);
             writer.put(value);
-            writer.put(&[9, new]);
-            writer.head(first, 1, 0, start);
+            writer.put(&[tags::NAME, new]);
+            writer.head(first, kinds::THREAD, 0, start);
         }
         Change::CellNew => {
             writer.put(value);
-            writer.head(first, 2, 0, start);
+            writer.head(first, kinds::CELL, 0, start);
         }
         Change::HandleNew => {
-            writer.head(first, 5, 0, start);
-            writer.head(first + 1, 3, new, start);
+            writer.head(first, kinds::FUTURE, 0, start);
+            writer.head(first + 1, kinds::OPEN_HANDLE, new, start);
         }
         _ => {}
     }

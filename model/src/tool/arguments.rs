@@ -69,8 +69,9 @@ impl Form {
 
     /// The value of an option, read as a `T`.
     pub fn value<T: FromStr>(&self, read: &Arguments, name: &str) -> Result<Option<T>, Problem> {
-        let Some(text) = read.value(name) else {
-            return Ok(None);
+        let text = match read.value(name) {
+            Some(text) => text,
+            None => return Ok(None),
         };
         let wrong = || self.wrong(&format!("{name} takes a number, not {text}"));
         text.parse().map(Some).map_err(|_| wrong())

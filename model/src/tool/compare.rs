@@ -87,8 +87,9 @@ fn compare(
 fn compare_recipe(pair: &mut Pair, draw: &mut Draw, recipe: &[u8]) -> Result<(), Box<Difference>> {
     pair.check(recipe)?;
     let room = images::out_length(draw);
-    let Some(mut image) = pair.load(recipe, room)? else {
-        return Ok(());
+    let mut image = match pair.load(recipe, room)? {
+        Some(image) => image,
+        None => return Ok(()),
     };
     let mut thread = images::thread_number(draw, &image);
     for turn in 1..=draw.between(1, TURNS) {

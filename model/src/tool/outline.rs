@@ -40,8 +40,9 @@ impl Outline {
         let mut above = Vec::with_capacity(nodes.len() + 1);
         let mut coming = vec![ROOT];
         for (at, node) in nodes.iter().enumerate() {
-            let Some(here) = coming.pop() else {
-                break;
+            let here = match coming.pop() {
+                Some(here) => here,
+                None => break,
             };
             above.push(here);
             let below = |way| Above {
@@ -94,17 +95,32 @@ impl Outline {
 /// From how many equal steps on they are written as one.
 const REPEATED: usize = 5;
 
+/// The words cut where two neighbours differ.
+fn runs<'a, 'b>(words: &'a [&'b str]) -> Vec<&'a [&'b str]> {
+    let mut rest = words;
+    let mut runs = Vec::new();
+    while let Some(first) = rest.first() {
+        let equal = rest.iter().take_while(|word| *word == first).count();
+        runs.push(&rest[..equal]);
+        rest = &rest[equal..];
+    }
+    runs
+}
+
+/// Equal steps, one by one or counted.
+fn run_text(run: &[&str]) -> String {
+    match run.len() {
+        count if count >= REPEATED => format!("{}×{count}", run[0]),
+        _ => run.join("."),
+    }
+}
+
 /// "root", "function.body", or with equal steps counted "argument×98.function.body".
 fn written(words: &[&str]) -> String {
     if words.is_empty() {
         return "root".to_owned();
     }
-    let runs = words.chunk_by(|a, b| a == b);
-    let texts = runs.map(|run| match run.len() {
-        count if count >= REPEATED => format!("{}×{count}", run[0]),
-        _ => run.join("."),
-    });
-    let texts: Vec<String> = texts.collect();
+    let texts: Vec<String> = runs(words).into_iter().map(run_text).collect();
     let (first, last) = (
         texts.len().min(MOST / 2),
         texts.len().saturating_sub(MOST / 2),

@@ -1,6 +1,7 @@
 //! How far a long command has come, on standard error: if that is a terminal, or if it was asked.
 
-use std::io::{self, IsTerminal, Write};
+use super::terminal::{is_terminal, STANDARD_ERROR, STANDARD_OUTPUT};
+use std::io::{self, Write};
 use std::time::{Duration, Instant};
 
 const EVERY: Duration = Duration::from_millis(500);
@@ -16,7 +17,7 @@ impl Progress {
     pub fn new(asked: bool) -> Progress {
         Progress {
             asked,
-            on_terminal: io::stderr().is_terminal(),
+            on_terminal: is_terminal(STANDARD_ERROR),
             last: Instant::now(),
             wrote: false,
         }
@@ -25,7 +26,7 @@ impl Progress {
     /// For a command that prints a line for each thing it does: these are enough on a terminal.
     pub fn beside_lines(asked: bool) -> Progress {
         let mut progress = Progress::new(asked);
-        progress.on_terminal &= !io::stdout().is_terminal();
+        progress.on_terminal &= !is_terminal(STANDARD_OUTPUT);
         progress
     }
 

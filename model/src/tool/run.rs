@@ -84,7 +84,7 @@ fn order(given: &Arguments) -> Result<Order, Problem> {
 
 /// The number of bays and the starting image.
 fn load(path: &Path, recipe: &[u8]) -> Result<(usize, Vec<u8>), Problem> {
-    let mut image = vec![0; limits::IMAGE_BYTES];
+    let mut image = vec![0; limits::MAX_IMAGE];
     let loaded = Stepper.load(recipe, &mut image).unwrap_or_default();
     if loaded.refusal == 0 {
         image.truncate(loaded.length as usize);

@@ -2,7 +2,8 @@
 
 use crate::answers::{Implementation, LoadedAnswer, SteppedAnswer, VerdictAnswer};
 use crate::tool::problem::{message, Problem};
-use std::ffi::{c_char, c_int, c_void, CStr, CString};
+use std::ffi::{CStr, CString};
+use std::os::raw::{c_char, c_int, c_void};
 use std::os::unix::ffi::OsStrExt;
 use std::path::Path;
 
@@ -37,15 +38,15 @@ impl SharedLibrary {
         if library.is_null() {
             return Err(cannot(last_error()));
         }
-        let check = symbol(library, c"fikarehu_check");
+        let check = symbol(library, "fikarehu_check");
         let check = check.ok_or_else(|| cannot("it has no fikarehu_check".to_owned()))?;
         // SAFETY: functions of these names have these types, as the header declares them.
         unsafe {
             Ok(SharedLibrary {
                 check: std::mem::transmute::<*mut c_void, Check>(check),
-                load: symbol(library, c"fikarehu_load")
+                load: symbol(library, "fikarehu_load")
                     .map(|found| std::mem::transmute::<*mut c_void, Load>(found)),
-                step: symbol(library, c"fikarehu_step")
+                step: symbol(library, "fikarehu_step")
                     .map(|found| std::mem::transmute::<*mut c_void, Step>(found)),
             })
         }
@@ -63,7 +64,8 @@ impl SharedLibrary {
 }
 
 /// The address of a name in the library.
-fn symbol(library: *mut c_void, name: &CStr) -> Option<*mut c_void> {
+fn symbol(library: *mut c_void, name: &str) -> Option<*mut c_void> {
+    let name = CString::new(name).ok()?;
     // SAFETY: an open library and a text that ends with a zero.
     let found = unsafe { dlsym(library, name.as_ptr()) };
     (!found.is_null()).then_some(found)

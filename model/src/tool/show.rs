@@ -104,10 +104,13 @@ pub fn told(name: &str, fault: &Fault) -> String {
 fn types(texts: &TypeTexts) -> String {
     let mut text = "types\n".to_owned();
     for (number, entry) in (0..=u8::MAX).zip(texts.entries) {
-        let Some(written) = texts.entry(number) else {
-            let bytes = hexadecimal(&entry.bytes());
-            let _ = writeln!(text, "  # t{number} is no type: {bytes}");
-            continue;
+        let written = match texts.entry(number) {
+            Some(written) => written,
+            None => {
+                let bytes = hexadecimal(&entry.bytes());
+                let _ = writeln!(text, "  # t{number} is no type: {bytes}");
+                continue;
+            }
         };
         let line = format!("  t{number} = {written}");
         let full = texts.full(number).filter(|full| *full != written);

@@ -73,9 +73,10 @@ fn wider(term: &str, more: usize) -> String {
 
 /// A load and steps of these threads: the rules answered (0 for none), and the last image.
 pub fn run(file: &[u8], threads: &[u64]) -> (Vec<u8>, Vec<u8>) {
-    let mut out = vec![0; limits::IMAGE_BYTES];
-    let Loaded::Accepted(_, length) = load(file, &mut out) else {
-        panic!("refused");
+    let mut out = vec![0; limits::MAX_IMAGE];
+    let length = match load(file, &mut out) {
+        Loaded::Accepted(_, length) => length,
+        _ => panic!("refused"),
     };
     let mut image = out[..length].to_vec();
     let mut answers = Vec::new();
@@ -97,12 +98,12 @@ pub fn step_first(image: &[u8]) -> Outcome {
 }
 
 pub fn step_thread(image: &[u8], thread: u64) -> Outcome {
-    step(image, thread, &mut vec![0; limits::IMAGE_BYTES])
+    step(image, thread, &mut vec![0; limits::MAX_IMAGE])
 }
 
 /// The image after a step of that thread, which a rule moves.
 pub fn image_after(image: &[u8], thread: u64) -> (u8, Vec<u8>) {
-    let mut out = vec![0; limits::IMAGE_BYTES];
+    let mut out = vec![0; limits::MAX_IMAGE];
     match step(image, thread, &mut out) {
         Outcome::Rule(rule, length) => (rule, out[..length].to_vec()),
         other => panic!("{other:?}"),

@@ -8,7 +8,8 @@ use Rattle.calculus.specs.Syntax.{unit, num, op, cell, exch, thread, han
 use Rattle.calculus.specs.Reduction.{substitute, plug, THREAD-NEW, FUTURE-DEREF, CELL-NEW}
 use Rattle.calculus.specs.Step.{beside, place-app, place, rule, waiting, done, no-thread, when-done, step-call, step-exchange, step-meeting, step-place, step-component, step-of}
 use Rattle.calculus.specs.NewTypes.{function-in, function-of, function-at, result-type, future-and-handle, coming, new-types}
-use Rattle.calculus.specs.Run.{refuses, reply-of, reply, leaves, steps}
+use Rattle.calculus.specs.Reply.{refuses, reply-of}
+use Rattle.calculus.specs.Theory.ConfigRuns.{config-reply, state-left, config-steps}
 use Rattle.calculus.specs.Image.{nodes, sum-in, sum-all, nodes-all, constant-test, expression-test, is-settled, is-awaited, handle-for, handles-for, component-test, each-test, limits-test, image-test}
 use Rattle.calculus.specs.Theory.Cases.{call, answer-number}
 
@@ -24,22 +25,22 @@ abbrev with-thread : Exp
 with-thread = app (const (op thread 0)) (name 0)
 
 case-K :
-    (answer-number (reply (thread-of with-handle ∷ replicate 253 used) (call 0)) ≡ 4) ×
-    (answer-number (reply (thread-of with-handle ∷ replicate 254 used) (call 0)) ≡ 15) ×
+    (answer-number (config-reply (thread-of with-handle ∷ replicate 253 used) (call 0)) ≡ 4) ×
+    (answer-number (config-reply (thread-of with-handle ∷ replicate 254 used) (call 0)) ≡ 15) ×
     (nodes-all (thread-of with-thread ∷ holds (deep 4091) ∷ []) ≡ 4095) ×
-    (answer-number (reply (thread-of with-thread ∷ holds (deep 4091) ∷ []) (call 0)) ≡ 2) ×
-    (answer-number (reply (thread-of with-thread ∷ holds (deep 4092) ∷ []) (call 0)) ≡ 15) ×
-    (answer-number (reply (thread-of with-thread ∷ holds (deep 4092) ∷ []) (record { thread = 7; buffer = 13825 })) ≡ 12) ×
-    (answer-number (reply (thread-of with-thread ∷ holds (deep 4092) ∷ []) (call 1)) ≡ 14) ×
-    (answer-number (reply (thread-of with-thread ∷ holds (deep 4093) ∷ []) (call 1)) ≡ 13)
-unfolding deep steps leaves reply reply-of image-test limits-test each-test component-test expression-test constant-test is-settled is-awaited handle-for handles-for nodes sum-in sum-all step-of step-component step-place step-meeting step-call step-exchange when-done place place-app beside substitute plug function-in function-of function-at result-type future-and-handle coming new-types
+    (answer-number (config-reply (thread-of with-thread ∷ holds (deep 4091) ∷ []) (call 0)) ≡ 2) ×
+    (answer-number (config-reply (thread-of with-thread ∷ holds (deep 4092) ∷ []) (call 0)) ≡ 15) ×
+    (answer-number (config-reply (thread-of with-thread ∷ holds (deep 4092) ∷ []) (record { thread = 7; buffer = 13825 })) ≡ 12) ×
+    (answer-number (config-reply (thread-of with-thread ∷ holds (deep 4092) ∷ []) (call 1)) ≡ 14) ×
+    (answer-number (config-reply (thread-of with-thread ∷ holds (deep 4093) ∷ []) (call 1)) ≡ 13)
+unfolding deep config-steps state-left config-reply reply-of image-test limits-test each-test component-test expression-test constant-test is-settled is-awaited handle-for handles-for nodes sum-in sum-all step-of step-component step-place step-meeting step-call step-exchange when-done place place-app beside substitute plug function-in function-of function-at result-type future-and-handle coming new-types
 case-K = (refl, refl, refl, refl, refl, refl, refl, refl)
 
 -- case L: a used handle, and a cell, applied to unit
 case-L :
-    (reply (thread-of (app (name 1) (const unit)) ∷ used ∷ []) (call 0) ≡ refuses 16) ×
-    (reply (thread-of (app (name 1) (const unit)) ∷ holds (const unit) ∷ []) (call 0) ≡ refuses 17)
-unfolding steps leaves reply reply-of image-test limits-test each-test component-test expression-test constant-test is-settled is-awaited handle-for handles-for nodes sum-in sum-all step-of step-component step-place step-meeting step-call step-exchange when-done place place-app beside substitute plug function-in function-of function-at result-type future-and-handle coming new-types
+    (config-reply (thread-of (app (name 1) (const unit)) ∷ used ∷ []) (call 0) ≡ refuses 16) ×
+    (config-reply (thread-of (app (name 1) (const unit)) ∷ holds (const unit) ∷ []) (call 0) ≡ refuses 17)
+unfolding config-steps state-left config-reply reply-of image-test limits-test each-test component-test expression-test constant-test is-settled is-awaited handle-for handles-for nodes sum-in sum-all step-of step-component step-place step-meeting step-call step-exchange when-done place place-app beside substitute plug function-in function-of function-at result-type future-and-handle coming new-types
 case-L = (refl, refl)
 
 -- each rule and each other answer, where no case above has it
@@ -63,10 +64,10 @@ broken-images :
     (thread-of (var 0) ∷ []) ∷ (thread-of (name 1) ∷ []) ∷ (thread-of (const (num 1001)) ∷ []) ∷ (holds (app (const unit) (const unit)) ∷ []) ∷ (open-for 0 ∷ []) ∷ (awaited ∷ []) ∷
     (awaited ∷ open-for 0 ∷ open-for 0 ∷ []) ∷ replicate 257 used ∷ []
     ) ≡ replicate 8 false
-unfolding steps leaves reply reply-of image-test limits-test each-test component-test expression-test constant-test is-settled is-awaited handle-for handles-for nodes sum-in sum-all step-of step-component step-place step-meeting step-call step-exchange when-done place place-app beside substitute plug function-in function-of function-at result-type future-and-handle coming new-types
+unfolding config-steps state-left config-reply reply-of image-test limits-test each-test component-test expression-test constant-test is-settled is-awaited handle-for handles-for nodes sum-in sum-all step-of step-component step-place step-meeting step-call step-exchange when-done place place-app beside substitute plug function-in function-of function-at result-type future-and-handle coming new-types
 broken-images = refl
 
 -- 13 comes before 14, and 12 before 13
-broken-replies : (reply (awaited ∷ []) (call 0) ≡ refuses 13) × (reply (awaited ∷ []) (record { thread = 0; buffer = 0 }) ≡ refuses 12)
-unfolding steps leaves reply reply-of image-test limits-test each-test component-test expression-test constant-test is-settled is-awaited handle-for handles-for nodes sum-in sum-all step-of step-component step-place step-meeting step-call step-exchange when-done place place-app beside substitute plug function-in function-of function-at result-type future-and-handle coming new-types
+broken-replies : (config-reply (awaited ∷ []) (call 0) ≡ refuses 13) × (config-reply (awaited ∷ []) (record { thread = 0; buffer = 0 }) ≡ refuses 12)
+unfolding config-steps state-left config-reply reply-of image-test limits-test each-test component-test expression-test constant-test is-settled is-awaited handle-for handles-for nodes sum-in sum-all step-of step-component step-place step-meeting step-call step-exchange when-done place place-app beside substitute plug function-in function-of function-at result-type future-and-handle coming new-types
 broken-replies = (refl, refl)

@@ -15,7 +15,9 @@ use Rattle.calculus.specs.Names.{uses}
 use Rattle.calculus.specs.Step.{beside, place-app, place, when-done, step-call, step-exchange, step-meeting, step-place, step-component, step-of}
 use Rattle.calculus.specs.NewTypes.{function-in, function-of, function-at, result-type, future-and-handle, coming, new-types}
 use Rattle.calculus.specs.Limits.{max-image-length}
-use Rattle.calculus.specs.Run.{State, Call, Reply, moved, waits, finished, refuses, reply-of, reply, leaves, after, Step, steps, replied, Binds, Demand}
+use Rattle.calculus.specs.State.{State}
+use Rattle.calculus.specs.Reply.{Reply, moved, waits, finished, refuses, reply-of}
+use Rattle.calculus.specs.Theory.ConfigRuns.{ConfigCall, config-reply, state-left, state-after, ConfigStep, config-steps, config-replied, ConfigBinds, ConfigDemand}
 use Rattle.calculus.specs.Recipe.{loaded, type-found, with-type, bay-types, start, Admitted}
 use Rattle.calculus.specs.Image.{nodes, const-size, size, sum-in, sum-all, image-length, constant-test, expression-test, is-settled, is-awaited, handle-for, handles-for, component-test, each-test, limits-test, image-test, Writable}
 use Rattle.calculus.specs.Table.{entry, Table, cell-reading, function-reading, read-entry, read-at, read-deep, type-at, test-entry, entry-test, entries-test, same-entry, new-to, distinct-test, entry-is, table-test}
@@ -64,7 +66,7 @@ pub record Row : Type 0 where
   pub last : Config
 
 -- a step of thread x
-abbrev pub call : ℕ → Call
+abbrev pub call : ℕ → ConfigCall
 call x = record { thread = x; buffer = max-image-length }
 
 -- a rule's number, or a cause's; 0 for done and waiting
@@ -74,13 +76,13 @@ answer-number (waits y) = 0
 answer-number finished = 0
 answer-number (refuses k) = k
 
-abbrev pub answered : Step → ℕ
-answered n = answer-number (replied n)
+abbrev pub answered : ConfigStep → ℕ
+answered n = answer-number (config-replied n)
 
 -- what a run leaves
-unfoldable end : TypeNumbers → State → List Call → State
+unfoldable end : TypeNumbers → State → List ConfigCall → State
 end τ s [] = s
-end τ s (a ∷ rest) = end τ (after τ s a) rest
+end τ s (a ∷ rest) = end τ (state-after τ s a) rest
 
 -- a refused recipe is not loaded
 abbrev if-accepted : {A : Type 0} → ℕ → List A → List A
@@ -94,7 +96,7 @@ computed r = record {
   verdict-is = verdict (r .table) (r .terms);
   type-numbers = if-accepted (verdict (r .table) (r .terms)) (map (λ e. type-number (r .table) [] e) (r .terms));
   threads = r .threads;
-  rules = map answered (steps (type-at (r .table)) (start (r .table) (r .terms)) (map call (r .threads)));
+  rules = map answered (config-steps (type-at (r .table)) (start (r .table) (r .terms)) (map call (r .threads)));
   last = if-accepted (verdict (r .table) (r .terms)) (end (type-at (r .table)) (start (r .table) (r .terms)) (map call (r .threads)) .config);
 }
 
@@ -125,7 +127,7 @@ rows =
     []
 
 cases : map computed rows ≡ rows
-unfolding computed end verdict every scoped scoped-const annotated annotated-const is-cell-type is-exch-type is-thread-type is-handle-type on-function on-once-function on-cell is-many narrowed test-entry type-number const-number on-number result-number applied-number lambda-number outside-many linear-parameter linear uses loaded type-found with-type bay-types steps leaves reply reply-of image-test limits-test each-test component-test expression-test constant-test is-settled is-awaited handle-for handles-for nodes sum-in sum-all step-of step-component step-place step-meeting step-call step-exchange when-done place place-app beside substitute plug function-in function-of function-at result-type future-and-handle coming new-types type-at read-deep read-at read-entry cell-reading function-reading
+unfolding computed end verdict every scoped scoped-const annotated annotated-const is-cell-type is-exch-type is-thread-type is-handle-type on-function on-once-function on-cell is-many narrowed test-entry type-number const-number on-number result-number applied-number lambda-number outside-many linear-parameter linear uses loaded type-found with-type bay-types config-steps state-left config-reply reply-of image-test limits-test each-test component-test expression-test constant-test is-settled is-awaited handle-for handles-for nodes sum-in sum-all step-of step-component step-place step-meeting step-call step-exchange when-done place place-app beside substitute plug function-in function-of function-at result-type future-and-handle coming new-types type-at read-deep read-at read-entry cell-reading function-reading
 cases = refl
 
 -- case A's image has 18 bytes, as document 01 shows it
@@ -143,19 +145,19 @@ unfolding verdict every scoped scoped-const annotated annotated-const is-cell-ty
 lowest = (refl, refl, refl, refl)
 
 -- case C among steps that answer something else: done, 14, 12
-case-C-answers : map answered (steps (type-at T7) (start T7 (term-C ∷ [])) (call 1 ∷ call 0 ∷ call 1 ∷ record { thread = 1; buffer = 13825 } ∷ call 1 ∷ call 3 ∷ call 1 ∷ call 1 ∷ [])) ≡
+case-C-answers : map answered (config-steps (type-at T7) (start T7 (term-C ∷ [])) (call 1 ∷ call 0 ∷ call 1 ∷ record { thread = 1; buffer = 13825 } ∷ call 1 ∷ call 3 ∷ call 1 ∷ call 1 ∷ [])) ≡
     4 ∷ 14 ∷ 1 ∷ 12 ∷ 1 ∷ 14 ∷ 5 ∷ 0 ∷ []
-unfolding type-number const-number applied-number lambda-number on-function test-entry result-number on-number loaded type-found with-type bay-types steps leaves reply reply-of image-test limits-test each-test component-test expression-test constant-test is-settled is-awaited handle-for handles-for nodes sum-in sum-all step-of step-component step-place step-meeting step-call step-exchange when-done place place-app beside substitute plug function-in function-of function-at result-type future-and-handle coming new-types type-at read-deep read-at read-entry cell-reading function-reading
+unfolding type-number const-number applied-number lambda-number on-function test-entry result-number on-number loaded type-found with-type bay-types config-steps state-left config-reply reply-of image-test limits-test each-test component-test expression-test constant-test is-settled is-awaited handle-for handles-for nodes sum-in sum-all step-of step-component step-place step-meeting step-call step-exchange when-done place place-app beside substitute plug function-in function-of function-at result-type future-and-handle coming new-types type-at read-deep read-at read-entry cell-reading function-reading
 case-C-answers = refl
 
 -- the types of its names
 case-C-names : end (type-at T7) (start T7 (term-C ∷ [])) (replicate 4 (call 1)) .names ≡ ref num-type ∷ unit-type ∷ num-type ∷ fun once num-type unit-type ∷ []
-unfolding end type-number const-number applied-number lambda-number on-function test-entry result-number on-number loaded type-found with-type bay-types steps leaves reply reply-of image-test limits-test each-test component-test expression-test constant-test is-settled is-awaited handle-for handles-for nodes sum-in sum-all step-of step-component step-place step-meeting step-call step-exchange when-done place place-app beside substitute plug function-in function-of function-at result-type future-and-handle coming new-types type-at read-deep read-at read-entry cell-reading function-reading
+unfolding end type-number const-number applied-number lambda-number on-function test-entry result-number on-number loaded type-found with-type bay-types config-steps state-left config-reply reply-of image-test limits-test each-test component-test expression-test constant-test is-settled is-awaited handle-for handles-for nodes sum-in sum-all step-of step-component step-place step-meeting step-call step-exchange when-done place place-app beside substitute plug function-in function-of function-at result-type future-and-handle coming new-types type-at read-deep read-at read-entry cell-reading function-reading
 case-C-names = refl
 
 -- the last of the four applies handle 3 and binds future 2
-case-C-binds : (n : Step) × (at (steps (type-at T7) (start T7 (term-C ∷ [])) (replicate 4 (call 1))) 3 ≡ some n) × Binds n 2
-unfolding type-number const-number applied-number lambda-number on-function test-entry result-number on-number loaded type-found with-type bay-types steps leaves reply reply-of image-test limits-test each-test component-test expression-test constant-test is-settled is-awaited handle-for handles-for nodes sum-in sum-all step-of step-component step-place step-meeting step-call step-exchange when-done place place-app beside substitute plug function-in function-of function-at result-type future-and-handle coming new-types type-at read-deep read-at read-entry cell-reading function-reading
+case-C-binds : (n : ConfigStep) × (at (config-steps (type-at T7) (start T7 (term-C ∷ [])) (replicate 4 (call 1))) 3 ≡ some n) × ConfigBinds n 2
+unfolding type-number const-number applied-number lambda-number on-function test-entry result-number on-number loaded type-found with-type bay-types config-steps state-left config-reply reply-of image-test limits-test each-test component-test expression-test constant-test is-settled is-awaited handle-for handles-for nodes sum-in sum-all step-of step-component step-place step-meeting step-call step-exchange when-done place place-app beside substitute plug function-in function-of function-at result-type future-and-handle coming new-types type-at read-deep read-at read-entry cell-reading function-reading
 case-C-binds = (_, refl, (3, (_, refl, refl), refl))
 
 -- the third demand, of every run of it
@@ -174,5 +176,5 @@ case-C-admitted = record {
         (each-app (each-const (omega arith)) (each-lam (omega arith) (each-lam (omega arith) (each-app (each-var (omega arith)) (each-var (omega arith))))))
     written (suc i) e h = absurd (clash (cc))
 
-case-C-demand : (run : List Call) → Demand (type-at T7) (start T7 (term-C ∷ [])) run
+case-C-demand : (run : List ConfigCall) → ConfigDemand (type-at T7) (start T7 (term-C ∷ [])) run
 case-C-demand = demand case-C-admitted

@@ -8,7 +8,7 @@ use Rattle.calculus.specs.Types.{many, LinType, multiplicity}
 use Rattle.calculus.specs.Syntax.{Exp, at, EachAll}
 use Rattle.calculus.specs.Typing.{NameTypes, Derivation}
 use Rattle.calculus.specs.Image.{ImageRule, Writable}
-use Rattle.calculus.specs.Run.{Call, after, Step, steps, Demand}
+use Rattle.calculus.specs.Theory.ConfigRuns.{ConfigCall, state-after, ConfigStep, config-steps, ConfigDemand}
 use Rattle.calculus.specs.Table.{Table, TableRule, type-at}
 use Rattle.calculus.specs.Verdict.{type-number, verdict}
 use Rattle.calculus.specs.Recipe.{type-found, with-type, bay-types, start, Admitted}
@@ -29,9 +29,9 @@ bays-typed {T} R es accepted = found-typed T es λ i e h.
     let (α, q, d, m, w) = accepted-iff R (length es) e n .0 a in
     (n, α, a .no-cause-9, q, d, m)
 
-module _ {T : Table} {es : List Exp} (a : Admitted T es) (run : List Call) where
+module _ {T : Table} {es : List Exp} (a : Admitted T es) (run : List ConfigCall) where
   -- the third demand
-  pub demand : Demand (type-at T) (start T es) run
+  pub demand : ConfigDemand (type-at T) (start T es) run
   demand = recipe-demand (bays-typed (a .table) es (a .accepted)) (a .written) (a .bays) (a .size) run
       (λ i e h. let (α, d, m, w) = verdict-derived-iff (a .table) es .0 (a .accepted) i e h in w)
 
@@ -40,7 +40,7 @@ module _ {T : Table} {es : List Exp} (a : Admitted T es) (run : List Call) where
   pub image-loaded : ImageRule (start T es .config) × EachAll Writable (start T es .config)
   image-loaded = recipe-loaded (bays-typed (a .table) es (a .accepted)) (a .written) (a .bays) (a .size) run
 
-  pub images : (i : ℕ) (n : Step) → at (steps (type-at T) (start T es) run) i ≡ some n →
+  pub images : (i : ℕ) (n : ConfigStep) → at (config-steps (type-at T) (start T es) run) i ≡ some n →
       (ImageRule (n .before .config) × EachAll Writable (n .before .config)) ×
-      (ImageRule (after (type-at T) (n .before) (n .call) .config) × EachAll Writable (after (type-at T) (n .before) (n .call) .config))
+      (ImageRule (state-after (type-at T) (n .before) (n .call) .config) × EachAll Writable (state-after (type-at T) (n .before) (n .call) .config))
   images = recipe-images (bays-typed (a .table) es (a .accepted)) (a .written) (a .bays) (a .size) run

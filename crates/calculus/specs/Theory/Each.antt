@@ -11,7 +11,8 @@ use Rattle.calculus.specs.Syntax.{unit, Exp, var, name, const, lam, app,
 use Rattle.calculus.specs.Typing.{TypeNumbers}
 use Rattle.calculus.specs.Reduction.{substitute, Context, hole, in-function, in-argument, plug, Rule, Reduces, beta, thread-new, future-deref, future-deref-exch, handle-new, handle-bind, cell-new, cell-exch}
 use Rattle.calculus.specs.Image.{WithinLimits}
-use Rattle.calculus.specs.Run.{State, Call, grown, after, Step, steps}
+use Rattle.calculus.specs.State.{State}
+use Rattle.calculus.specs.Theory.ConfigRuns.{ConfigCall, state-grown, state-after, ConfigStep, config-steps}
 use Rattle.calculus.specs.Theory.Tests.{clash}
 use Rattle.calculus.specs.Theory.Lists.{set-cases, append-cases}
 use Rattle.calculus.specs.Theory.Replies.{after-keeps, run-keeps}
@@ -87,12 +88,12 @@ module _ (Q : Allowed) where
         each-set (set C x (thread-of (plug F w))) y (holds v) (each-set C x (thread-of (plug F w)) a (p .1 w (a y (holds w) g))) (each-argument (p .0))
 
     -- in every state of a run, handed to a step or left by it
-    pub run-each : (τ : TypeNumbers) (s : State) → EachAll Q (s .config) → (run : List Call) (i : ℕ) (n : Step) →
-        at (steps τ s run) i ≡ some n → EachAll Q (n .before .config) × EachAll Q (after τ (n .before) (n .call) .config)
+    pub run-each : (τ : TypeNumbers) (s : State) → EachAll Q (s .config) → (run : List ConfigCall) (i : ℕ) (n : ConfigStep) →
+        at (config-steps τ s run) i ≡ some n → EachAll Q (n .before .config) × EachAll Q (state-after τ (n .before) (n .call) .config)
     run-each τ s w run i n h = let b = run-keeps τ P kept s w run i n h in (b, after-keeps τ P kept (n .before) b (n .call))
       where
         P : State → Type 0
         P u = EachAll Q (u .config)
 
-        kept : (u : State) → P u → (x : ℕ) (r : Rule) (C′ : Config) → Reduces (u .config) x r C′ → WithinLimits C′ → P (grown τ u x C′)
+        kept : (u : State) → P u → (x : ℕ) (r : Rule) (C′ : Config) → Reduces (u .config) x r C′ → WithinLimits C′ → P (state-grown τ u x C′)
         kept u a x r C′ d l = each-step a d

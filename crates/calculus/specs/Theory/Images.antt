@@ -10,7 +10,8 @@ use Rattle.calculus.specs.Syntax.{Const, unit, num, op, Exp, var, name, 
 use Rattle.calculus.specs.Typing.{TypeNumbers}
 use Rattle.calculus.specs.Reduction.{Rule, Reduces}
 use Rattle.calculus.specs.Names.{OnceName}
-use Rattle.calculus.specs.Run.{State, Call, grown, after, Step, steps}
+use Rattle.calculus.specs.State.{State}
+use Rattle.calculus.specs.Theory.ConfigRuns.{ConfigCall, state-grown, state-after, ConfigStep, config-steps}
 use Rattle.calculus.specs.Limits.{max-image-length}
 use Rattle.calculus.specs.Image.{ClosedIn, NumSmall, nodes, const-size, size, sum-in, sum-all, image-length, WithinLimits, ImageRule, WritableConst, Writable}
 use Rattle.calculus.specs.Theory.Tests.{clash}
@@ -117,12 +118,12 @@ Good τ s = SoundState τ s × EachAll Writable (s .config) × WithinLimits (s .
 pub good-image : {τ : TypeNumbers} {s : State} → Good τ s → ImageRule (s .config) × EachAll Writable (s .config)
 good-image (d, a, w) = (sound-image d (λ x c p. in-small c (a x c p)) w, a)
 
-good-kept : (τ : TypeNumbers) (s : State) → Good τ s → (x : ℕ) (r : Rule) (C′ : Config) → Reduces (s .config) x r C′ → WithinLimits C′ → Good τ (grown τ s x C′)
+good-kept : (τ : TypeNumbers) (s : State) → Good τ s → (x : ℕ) (r : Rule) (C′ : Config) → Reduces (s .config) x r C′ → WithinLimits C′ → Good τ (state-grown τ s x C′)
 good-kept τ s g x r C′ d w = (preservation (g .0) d, each-step Writable tt (g .1) d, w)
 
 -- every step of a run is handed an image that keeps its rules, which can be written, and leaves one
-pub run-images : (τ : TypeNumbers) (s : State) → Good τ s → (run : List Call) (i : ℕ) (n : Step) → at (steps τ s run) i ≡ some n →
-    (ImageRule (n .before .config) × EachAll Writable (n .before .config)) × (ImageRule (after τ (n .before) (n .call) .config) × EachAll Writable (after τ (n .before) (n .call) .config))
+pub run-images : (τ : TypeNumbers) (s : State) → Good τ s → (run : List ConfigCall) (i : ℕ) (n : ConfigStep) → at (config-steps τ s run) i ≡ some n →
+    (ImageRule (n .before .config) × EachAll Writable (n .before .config)) × (ImageRule (state-after τ (n .before) (n .call) .config) × EachAll Writable (state-after τ (n .before) (n .call) .config))
 run-images τ s g run i n h =
     let b = run-keeps τ (Good τ) (good-kept τ) s g run i n h in
     (good-image b, good-image (after-keeps τ (Good τ) (good-kept τ) (n .before) b (n .call)))

@@ -11,7 +11,8 @@ use Rattle.calculus.specs.Reduction.{substitute, plug}
 use Rattle.calculus.specs.Names.{uses}
 use Rattle.calculus.specs.Step.{beside, place-app, place, when-done, step-call, step-exchange, step-meeting, step-place, step-component, step-of}
 use Rattle.calculus.specs.NewTypes.{function-in, function-of, function-at, result-type, future-and-handle, coming, new-types}
-use Rattle.calculus.specs.Run.{Call, reply-of, reply, leaves, after, Step, steps}
+use Rattle.calculus.specs.Reply.{reply-of}
+use Rattle.calculus.specs.Theory.ConfigRuns.{ConfigCall, config-reply, state-left, state-after, ConfigStep, config-steps}
 use Rattle.calculus.specs.Recipe.{loaded}
 use Rattle.calculus.specs.Image.{nodes, sum-in, sum-all, constant-test, expression-test, is-settled, is-awaited, handle-for, handles-for, component-test, each-test, limits-test, image-test}
 use Rattle.calculus.specs.Table.{entry, Table, cell-reading, function-reading, read-entry, read-at, read-deep, type-at, test-entry}
@@ -53,14 +54,14 @@ keeps-handle-typed = bay (d-app split-nil (d-const no-once-nil (of-op refl (fig8
     h-right : Split (some (fun once num-type unit-type) ∷ some num-type ∷ []) (none ∷ some num-type ∷ []) (some (fun once num-type unit-type) ∷ some num-type ∷ [])
     h-right = split-right refl (split-both refl split-nil)
 
-keeps-handle-proper : (run : List Call) (i : ℕ) (n : Step) → at (steps (type-at T11) (loaded (keeps-handle ∷ []) (unit-type ∷ [])) run) i ≡ some n →
+keeps-handle-proper : (run : List ConfigCall) (i : ℕ) (n : ConfigStep) → at (config-steps (type-at T11) (loaded (keeps-handle ∷ []) (unit-type ∷ [])) run) i ≡ some n →
     Proper (step-of (n .before .config) (n .call .thread))
 keeps-handle-proper = run-proper (loaded (keeps-handle ∷ []) (unit-type ∷ [])) (start-sound keeps-handle-typed)
 
 -- rule 6 puts handle 3 into cell 4, rule 7 takes it out and leaves the lambda there, rule 5 applies it
 keeps-handle-runs :
-    (map answered (steps (type-at T11) (loaded (keeps-handle ∷ []) (unit-type ∷ [])) (replicate 6 (call 1))) ≡ 4 ∷ 1 ∷ 1 ∷ 6 ∷ 7 ∷ 5 ∷ []) ×
-    ((n : Step) × (at (steps (type-at T11) (loaded (keeps-handle ∷ []) (unit-type ∷ [])) (replicate 6 (call 1))) 4 ≡ some n) ×
-    (at (n .before .config) 4 ≡ some (holds (name 3))) × (at (after (type-at T11) (n .before) (n .call) .config) 4 ≡ some (holds (lam 3 (const unit)))))
-unfolding loaded steps leaves reply reply-of image-test limits-test each-test component-test expression-test constant-test is-settled is-awaited handle-for handles-for nodes sum-in sum-all step-of step-component step-place step-meeting step-call step-exchange when-done place place-app beside substitute plug function-in function-of function-at result-type future-and-handle coming new-types type-at read-deep read-at read-entry cell-reading function-reading
+    (map answered (config-steps (type-at T11) (loaded (keeps-handle ∷ []) (unit-type ∷ [])) (replicate 6 (call 1))) ≡ 4 ∷ 1 ∷ 1 ∷ 6 ∷ 7 ∷ 5 ∷ []) ×
+    ((n : ConfigStep) × (at (config-steps (type-at T11) (loaded (keeps-handle ∷ []) (unit-type ∷ [])) (replicate 6 (call 1))) 4 ≡ some n) ×
+    (at (n .before .config) 4 ≡ some (holds (name 3))) × (at (state-after (type-at T11) (n .before) (n .call) .config) 4 ≡ some (holds (lam 3 (const unit)))))
+unfolding loaded config-steps state-left config-reply reply-of image-test limits-test each-test component-test expression-test constant-test is-settled is-awaited handle-for handles-for nodes sum-in sum-all step-of step-component step-place step-meeting step-call step-exchange when-done place place-app beside substitute plug function-in function-of function-at result-type future-and-handle coming new-types type-at read-deep read-at read-entry cell-reading function-reading
 keeps-handle-runs = (refl, (_, refl, refl, refl))

@@ -9,7 +9,8 @@ use Rattle.calculus.specs.Reduction.{substitute, plug, BETA, FUTURE-DERE
 use Rattle.calculus.specs.Names.{uses}
 use Rattle.calculus.specs.Step.{beside, place-app, place, rule, when-done, step-call, step-exchange, step-meeting, step-place, step-component, step-of}
 use Rattle.calculus.specs.NewTypes.{function-in, function-of, function-at, result-type, future-and-handle, coming, new-types}
-use Rattle.calculus.specs.Run.{reply-of, reply, leaves, steps}
+use Rattle.calculus.specs.Reply.{reply-of}
+use Rattle.calculus.specs.Theory.ConfigRuns.{config-reply, state-left, config-steps}
 use Rattle.calculus.specs.Recipe.{loaded}
 use Rattle.calculus.specs.Image.{nodes, sum-in, sum-all, constant-test, expression-test, is-settled, is-awaited, handle-for, handles-for, component-test, each-test, limits-test, image-test}
 use Rattle.calculus.specs.Table.{entry, Table, test-entry}
@@ -45,9 +46,9 @@ unfolding verdict every scoped scoped-const annotated annotated-const is-cell-ty
 both-refused = (refl, refl)
 
 both-go-wrong : (τ : TypeNumbers) →
-    (map answered (steps τ (loaded (runs-twice ∷ []) (unit-type ∷ [])) (replicate 9 (call 1))) ≡ 4 ∷ 1 ∷ 1 ∷ 1 ∷ 1 ∷ 5 ∷ 1 ∷ 1 ∷ 16 ∷ []) ×
-    (map answered (steps τ (loaded (used-twice ∷ []) (unit-type ∷ [])) (replicate 6 (call 1))) ≡ 4 ∷ 1 ∷ 1 ∷ 5 ∷ 1 ∷ 16 ∷ [])
-unfolding loaded steps leaves reply reply-of image-test limits-test each-test component-test expression-test constant-test is-settled is-awaited handle-for handles-for nodes sum-in sum-all step-of step-component step-place step-meeting step-call step-exchange when-done place place-app beside substitute plug function-in function-of function-at result-type future-and-handle coming new-types
+    (map answered (config-steps τ (loaded (runs-twice ∷ []) (unit-type ∷ [])) (replicate 9 (call 1))) ≡ 4 ∷ 1 ∷ 1 ∷ 1 ∷ 1 ∷ 5 ∷ 1 ∷ 1 ∷ 16 ∷ []) ×
+    (map answered (config-steps τ (loaded (used-twice ∷ []) (unit-type ∷ [])) (replicate 6 (call 1))) ≡ 4 ∷ 1 ∷ 1 ∷ 5 ∷ 1 ∷ 16 ∷ [])
+unfolding loaded config-steps state-left config-reply reply-of image-test limits-test each-test component-test expression-test constant-test is-settled is-awaited handle-for handles-for nodes sum-in sum-all step-of step-component step-place step-meeting step-call step-exchange when-done place place-app beside substitute plug function-in function-of function-at result-type future-and-handle coming new-types
 both-go-wrong τ = (refl, refl)
 
 -- second, following a future "even in argument place": here rule 1 goes, with the name

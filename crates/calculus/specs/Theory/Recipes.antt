@@ -12,7 +12,7 @@ use Rattle.calculus.specs.Syntax.{unit, num, Exp, const, is-const, Compo
 use Rattle.calculus.specs.Typing.{TypeNumbers, NameTypes, of-num, no-once-nil, Derivation, d-const}
 use Rattle.calculus.specs.Narrowing.{NarrowConst, Narrow}
 use Rattle.calculus.specs.Names.{OnceName}
-use Rattle.calculus.specs.Run.{Call, after, Step, steps, Demand}
+use Rattle.calculus.specs.Theory.ConfigRuns.{ConfigCall, state-after, ConfigStep, config-steps, ConfigDemand}
 use Rattle.calculus.specs.Recipe.{setting-types, loaded}
 use Rattle.calculus.specs.Limits.{max-bays, max-recipe-nodes}
 use Rattle.calculus.specs.Image.{nodes, sum-in, sum-all, nodes-all, WithinLimits, ImageRule, Writable}
@@ -80,8 +80,8 @@ start-within es αs p q = record {
 
 -- what holds of every constant of the terms, of unit and of a setting's first value, holds of every constant all through a run
 recipe-each : (Q : Allowed) → Q .constant unit → Q .constant (num 0) → (τ : TypeNumbers) (es : List Exp) (αs : List LinType) →
-    ((i : ℕ) (e : Exp) → at es i ≡ some e → Each Q e) → (run : List Call) (i : ℕ) (n : Step) → at (steps τ (loaded es αs) run) i ≡ some n →
-    EachAll Q (n .before .config) × EachAll Q (after τ (n .before) (n .call) .config)
+    ((i : ℕ) (e : Exp) → at es i ≡ some e → Each Q e) → (run : List ConfigCall) (i : ℕ) (n : ConfigStep) → at (config-steps τ (loaded es αs) run) i ≡ some n →
+    EachAll Q (n .before .config) × EachAll Q (state-after τ (n .before) (n .call) .config)
 recipe-each Q at-unit zero-too τ es αs f = run-each Q at-unit τ (loaded es αs) (start-each Q zero-too es αs f)
 
 module _ {τ : TypeNumbers} {es : List Exp} {αs : List LinType} (b : BaysTyped τ es αs) where
@@ -155,18 +155,18 @@ module _ {τ : TypeNumbers} {es : List Exp} {αs : List LinType} (b : BaysTyped 
   -- document 01's third demand, of terms that can be written and are not too many; and every step is handed an image that breaks no rule and that can
   -- be written
   module _ (written : (i : ℕ) (e : Exp) → at es i ≡ some e → Each Writable e) (bays : length es ≤ max-bays) (size : nodes-all (map thread-of es) ≤ max-recipe-nodes)
-      (run : List Call) where
+      (run : List ConfigCall) where
     start-good : Good τ (loaded es αs)
     start-good = (start-sound, start-each Writable (omega arith) es αs written, start-within es αs bays size)
 
     pub recipe-loaded : ImageRule (loaded es αs .config) × EachAll Writable (loaded es αs .config)
     recipe-loaded = good-image start-good
 
-    pub recipe-images : (i : ℕ) (n : Step) → at (steps τ (loaded es αs) run) i ≡ some n →
-        (ImageRule (n .before .config) × EachAll Writable (n .before .config)) × (ImageRule (after τ (n .before) (n .call) .config) × EachAll Writable (after τ (n .before) (n .call) .config))
+    pub recipe-images : (i : ℕ) (n : ConfigStep) → at (config-steps τ (loaded es αs) run) i ≡ some n →
+        (ImageRule (n .before .config) × EachAll Writable (n .before .config)) × (ImageRule (state-after τ (n .before) (n .call) .config) × EachAll Writable (state-after τ (n .before) (n .call) .config))
     recipe-images = run-images τ (loaded es αs) start-good run
 
-    pub recipe-demand : ((i : ℕ) (e : Exp) → at es i ≡ some e → Narrow τ e) → Demand τ (loaded es αs) run
+    pub recipe-demand : ((i : ℕ) (e : Exp) → at es i ≡ some e → Narrow τ e) → ConfigDemand τ (loaded es αs) run
     recipe-demand narrow = run-demand (loaded es αs) start-sound run (λ i n h. recipe-images i n h .0 .0)
         (start-each (constants (NarrowConst τ)) tt es αs narrow)
         (λ i n h. recipe-each (constants (NarrowConst τ)) tt tt τ es αs narrow run i n h .1)

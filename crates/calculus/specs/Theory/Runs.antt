@@ -16,7 +16,8 @@ use Rattle.calculus.specs.Names.{count, count-in, Outside, OnceNamesOnce
 use Rattle.calculus.specs.Step.{step-of}
 use Rattle.calculus.specs.NewTypes.{function-at}
 use Rattle.calculus.specs.Image.{WithinLimits, ImageRule}
-use Rattle.calculus.specs.Run.{State, Call, grown, leaves, after, Step, steps, Applies, Binds, ValuesTyped, Demand}
+use Rattle.calculus.specs.State.{State, ValuesTyped}
+use Rattle.calculus.specs.Theory.ConfigRuns.{ConfigCall, state-grown, state-left, state-after, ConfigStep, config-steps, ConfigApplies, ConfigBinds, ConfigDemand}
 use Rattle.calculus.specs.Theory.Tests.{clash}
 use Rattle.calculus.specs.Theory.Lists.{set-same, set-other, append-left}
 use Rattle.calculus.specs.Theory.Step.{function-meet}
@@ -126,35 +127,35 @@ module _ {τ : TypeNumbers} (s : State) (d : SoundState τ s) where
   SoundLater : State → Type 0
   SoundLater u = SoundState τ u × Later (s .config) (u .config)
 
-  kept : (u : State) → SoundLater u → (x : ℕ) (r : Rule) (C′ : Config) → Reduces (u .config) x r C′ → WithinLimits C′ → SoundLater (grown τ u x C′)
+  kept : (u : State) → SoundLater u → (x : ℕ) (r : Rule) (C′ : Config) → Reduces (u .config) x r C′ → WithinLimits C′ → SoundLater (state-grown τ u x C′)
   unfolding SoundLater
   kept u p x r C′ q w = (preservation (p .0) q, later-trans (p .1) (later (p .0) q))
 
-  after-sound-later : (a : Call) → SoundState τ (after τ s a) × Later (s .config) (after τ s a .config)
+  after-sound-later : (a : ConfigCall) → SoundState τ (state-after τ s a) × Later (s .config) (state-after τ s a .config)
   unfolding SoundLater
   after-sound-later a = after-keeps τ SoundLater kept s (d, later-same) a
 
-  sound-later : (run : List Call) (i : ℕ) (n : Step) → at (steps τ s run) i ≡ some n → SoundState τ (n .before) × Later (s .config) (n .before .config)
+  sound-later : (run : List ConfigCall) (i : ℕ) (n : ConfigStep) → at (config-steps τ s run) i ≡ some n → SoundState τ (n .before) × Later (s .config) (n .before .config)
   unfolding SoundLater
   sound-later run i n h = run-keeps τ SoundLater kept s (d, later-same) run i n h
 
-pub step-sound-state : (τ : TypeNumbers) (s : State) → SoundState τ s → (run : List Call) (i : ℕ) (n : Step) → at (steps τ s run) i ≡ some n → SoundState τ (n .before)
+pub step-sound-state : (τ : TypeNumbers) (s : State) → SoundState τ s → (run : List ConfigCall) (i : ℕ) (n : ConfigStep) → at (config-steps τ s run) i ≡ some n → SoundState τ (n .before)
 step-sound-state τ s d run i n h = sound-later s d run i n h .0
 
-after-sound : {τ : TypeNumbers} (s : State) → SoundState τ s → (a : Call) → SoundState τ (after τ s a)
+after-sound : {τ : TypeNumbers} (s : State) → SoundState τ s → (a : ConfigCall) → SoundState τ (state-after τ s a)
 after-sound s d a = after-sound-later s d a .0
 
 -- of two, the second is handed something later than the first leaves
-steps-later : (τ : TypeNumbers) (s : State) → SoundState τ s → (run : List Call) (i j : ℕ) (m n : Step) → i < j →
-    at (steps τ s run) i ≡ some m → at (steps τ s run) j ≡ some n → Later (after τ (m .before) (m .call) .config) (n .before .config)
-unfolding steps
+steps-later : (τ : TypeNumbers) (s : State) → SoundState τ s → (run : List ConfigCall) (i j : ℕ) (m n : ConfigStep) → i < j →
+    at (config-steps τ s run) i ≡ some m → at (config-steps τ s run) j ≡ some n → Later (state-after τ (m .before) (m .call) .config) (n .before .config)
+unfolding config-steps
 steps-later τ s d [] i j m n l p q = absurd (clash (cc))
 steps-later τ s d (a ∷ run) i zero m n l p q = absurd (omega arith)
 steps-later τ s d (a ∷ run) zero (suc j) m n l p q =
     let e : record { before = s; call = a } ≡ m = cc in
-    subst (λ (b : Step). Later (after τ (b .before) (b .call) .config) (n .before .config)) e
-    (sound-later (after τ s a) (after-sound s d a) run j n q .1)
-steps-later τ s d (a ∷ run) (suc i) (suc j) m n l p q = steps-later τ (after τ s a) (after-sound s d a) run i j m n (omega arith) p q
+    subst (λ (b : ConfigStep). Later (state-after τ (b .before) (b .call) .config) (n .before .config)) e
+    (sound-later (state-after τ s a) (after-sound s d a) run j n q .1)
+steps-later τ s d (a ∷ run) (suc i) (suc j) m n l p q = steps-later τ (state-after τ s a) (after-sound s d a) run i j m n (omega arith) p q
 
 -- a step by rule 5 uses up the handle at its place, and makes its future a thread
 binding : {τ : TypeNumbers} {S : List LinType} {C C′ : Config} {x : ℕ} {r : Rule} → Sound τ S C → Reduces C x r C′ → number r ≡ 5 →
@@ -169,23 +170,23 @@ binding {C = C} {x = x} s (handle-bind F z y v wv h g) r =
 binding s (cell-new F t v wv h) r = absurd (omega arith)
 binding s (cell-exch F t y v w wv h g) r = absurd (omega arith)
 
-applied-uses-up : (τ : TypeNumbers) (n : Step) → SoundState τ (n .before) → (z : ℕ) → Applies n z →
+applied-uses-up : (τ : TypeNumbers) (n : ConfigStep) → SoundState τ (n .before) → (z : ℕ) → ConfigApplies n z →
     (y : ℕ) × (v : Exp) × (at (n .before .config) z ≡ some (open-for y)) ×
-    (at (after τ (n .before) (n .call) .config) z ≡ some used) × (at (after τ (n .before) (n .call) .config) y ≡ some (thread-of v))
-unfolding leaves
+    (at (state-after τ (n .before) (n .call) .config) z ≡ some used) × (at (state-after τ (n .before) (n .call) .config) y ≡ some (thread-of v))
+unfolding state-left
 applied-uses-up τ n d z (C′, e, f) =
     let (r, k, q, w) = moved-means (n .before .config) (n .call) e in
     let b = binding d q k in
     let q : b .0 ≡ z = let f′ = b .3 in cc in
-    let c : after τ (n .before) (n .call) .config ≡ C′ = rw e in
+    let c : state-after τ (n .before) (n .call) .config ≡ C′ = rw e in
     (b .1, b .2, rw q at (b .4), rw c (rw q at (b .5)), rw c (b .6))
 
 compare-at : (i j : ℕ) → (i ≡ j) ⊎ ((i < j) ⊎ (j < i))
 compare-at i j = elim (decLt i j) [ yes p ↦ inr (inl p) | no q ↦ elim (decLt j i) [ yes p ↦ inr (inr p) | no r ↦ inl (omega arith) ] ]
 
-module _ {τ : TypeNumbers} (s : State) (d : SoundState τ s) (run : List Call) where
-  applied-then-not : (z i j : ℕ) (m n : Step) → at (steps τ s run) i ≡ some m → at (steps τ s run) j ≡ some n →
-      i < j → Applies m z → Applies n z → ⊥
+module _ {τ : TypeNumbers} (s : State) (d : SoundState τ s) (run : List ConfigCall) where
+  applied-then-not : (z i j : ℕ) (m n : ConfigStep) → at (config-steps τ s run) i ≡ some m → at (config-steps τ s run) j ≡ some n →
+      i < j → ConfigApplies m z → ConfigApplies n z → ⊥
   applied-then-not z i j m n p q l am an =
       let a = applied-uses-up τ m (step-sound-state τ s d run i m p) z am in
       let b = applied-uses-up τ n (step-sound-state τ s d run j n q) z an in
@@ -193,8 +194,8 @@ module _ {τ : TypeNumbers} (s : State) (d : SoundState τ s) (run : List Call) 
       let o = b .2 in
       clash (cc)
 
-  bound-then-not : (y i j : ℕ) (m n : Step) → at (steps τ s run) i ≡ some m → at (steps τ s run) j ≡ some n →
-      i < j → Binds m y → Binds n y → ⊥
+  bound-then-not : (y i j : ℕ) (m n : ConfigStep) → at (config-steps τ s run) i ≡ some m → at (config-steps τ s run) j ≡ some n →
+      i < j → ConfigBinds m y → ConfigBinds n y → ⊥
   bound-then-not y i j m n p q l bm bn =
       let a = applied-uses-up τ m (step-sound-state τ s d run i m p) (bm .0) (bm .1) in
       let e : a .0 ≡ y = let g = bm .2 in let g′ = a .2 in cc in
@@ -204,12 +205,12 @@ module _ {τ : TypeNumbers} (s : State) (d : SoundState τ s) (run : List Call) 
       clash (cc)
 
   -- no step meets a used handle or a wrong kind, whatever the contents of cells
-  pub run-proper : (i : ℕ) (n : Step) → at (steps τ s run) i ≡ some n → Proper (step-of (n .before .config) (n .call .thread))
+  pub run-proper : (i : ℕ) (n : ConfigStep) → at (config-steps τ s run) i ≡ some n → Proper (step-of (n .before .config) (n .call .thread))
   run-proper i n p = progress (step-sound-state τ s d run i n p) (n .call .thread)
 
   -- the claim about the whole list, where every step is handed an image that keeps its rules, and every image keeps the narrowing
-  pub run-demand : ((i : ℕ) (n : Step) → at (steps τ s run) i ≡ some n → ImageRule (n .before .config)) → NarrowState τ s →
-      ((i : ℕ) (n : Step) → at (steps τ s run) i ≡ some n → NarrowState τ (after τ (n .before) (n .call))) → Demand τ s run
+  pub run-demand : ((i : ℕ) (n : ConfigStep) → at (config-steps τ s run) i ≡ some n → ImageRule (n .before .config)) → NarrowState τ s →
+      ((i : ℕ) (n : ConfigStep) → at (config-steps τ s run) i ≡ some n → NarrowState τ (state-after τ (n .before) (n .call))) → ConfigDemand τ s run
   run-demand kept narrow-loaded narrow-after = record {
     one-application = λ z i j m n p q am an. elim (compare-at i j) [
       | inl e ↦ e

@@ -1,4 +1,4 @@
--- `annotations::is_handle_of` meets its contract: the tests are those of the definition.
+-- `check_annotations::is_handle_of` meets its contract: the tests are those of the definition.
 use mathlib.Core.Path.{refl}
 use borrow.Author.Tests.{eq-eqb, ne-eqb}
 use Rattle.check_annotations.proofs.Tests.{last, pass, refuse}

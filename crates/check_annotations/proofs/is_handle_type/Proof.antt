@@ -1,4 +1,4 @@
--- `annotations::is_handle_type` meets its contract: the entries are looked up, then tested (proofs/Instances.antt).
+-- `check_annotations::is_handle_type` meets its contract: the entries are looked up, then tested (proofs/Instances.antt).
 use Prim.Native.Nat.{ℕ}
 use borrow.Author.Needs.{needs}
 use borrow.Author.Tests.{eq-eqb, ne-eqb}

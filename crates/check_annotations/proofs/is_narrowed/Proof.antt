@@ -1,4 +1,4 @@
--- `annotations::is_narrowed` meets its contract: it asks for multiplicity many.
+-- `check_annotations::is_narrowed` meets its contract: it asks for multiplicity many.
 use mathlib.Core.Path.{_∙_}
 use borrow.Author.Needs.{needs}
 use Rattle.check_annotations.proofs.Instances.{narrowed-many}

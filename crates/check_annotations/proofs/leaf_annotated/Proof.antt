@@ -1,4 +1,4 @@
--- `annotations::leaf_annotated` meets its contract: a law for each tag (proofs/Leaves.antt).
+-- `check_annotations::leaf_annotated` meets its contract: a law for each tag (proofs/Leaves.antt).
 use mathlib.Core.Path.{_∙_}
 use Rattle.check_annotations.proofs.Leaves.{cell-leaf, exch-leaf, handle-leaf, plain-leaf, thread-leaf}
 use borrow.Author.Needs.{needs}

@@ -1,6 +1,6 @@
--- `bays::bay_passes` meets its contract: each test is that of the walk it calls.
+-- `check_bays::bay_passes` meets its contract: each test is that of the walk it calls.
 use borrow.Author.Needs.{needs}
-use Rattle.check_bays.proofs.Known.{few-nodes, good-part, has-bay}
+use Rattle.check_bays.proofs.Known.{few-nodes, good-part}
 use Rattle.check_bays.proofs.Answers.{nesting-is, scope-is}
 use Rattle.check_bays.proofs.bay_passes.Statement.{statement}
 use Rattle.check_bays.proofs.bay_passes.Tie as tie

@@ -1,4 +1,4 @@
--- `bays::count_nodes` meets its contract. The loop's invariant: the parts passed are terms, and `total` is the sum of their nodes.
+-- `check_bays::count_nodes` meets its contract. The loop's invariant: the parts passed are terms, and `total` is the sum of their nodes.
 use mathlib.Core.Path.{_∙_, sym}
 use Prim.Native.Nat.{_+_, _-_}
 use native.Mathlib.Omega.{arith}

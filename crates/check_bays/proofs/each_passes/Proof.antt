@@ -1,4 +1,4 @@
--- `bays::each_passes` meets its contract. The loop's invariant: the bays passed pass the test.
+-- `check_bays::each_passes` meets its contract. The loop's invariant: the bays passed pass the test.
 use mathlib.Core.Path.{sym}
 use Prim.Native.Nat.{_-_}
 use native.Mathlib.Omega.{arith}

@@ -1,7 +1,7 @@
--- `bays::each_stands` meets its contract. The loop's invariant: the parts passed stand, and `total` is the sum of their nodes.
+-- `check_bays::each_stands` meets its contract. The loop's invariant: the parts passed stand, and `total` is the sum of their nodes.
 use mathlib.Core.Path.{_∙_, ap, sym}
 use mathlib.Core.List.{List}
-use Prim.Native.Nat.{_+_, _-_, _≤_, ℕ}
+use Prim.Native.Nat.{_+_, _-_, ℕ}
 use native.Mathlib.Omega.{arith}
 use borrow.Author.Needs.{needs}
 use lib.ListN.{length}

@@ -1,4 +1,4 @@
--- `bays::types_of` meets its contract. The loop's invariant: the bays passed have types, and their numbers stand in the array.
+-- `check_bays::types_of` meets its contract. The loop's invariant: the bays passed have types, and their numbers stand in the array.
 use mathlib.Core.Path.{_∙_, ap, refl}
 use mathlib.Core.List.{List}
 use Prim.Native.Nat.{_-_, ℕ}
@@ -44,14 +44,8 @@ cast-many-at c = search needs
 many-at-requires : tie.Need-many-at-requires Inv-loop μ-loop
 many-at-requires c κs = search needs
 
-both-requires : tie.Need-both-requires Inv-loop μ-loop
-both-requires c κs = search needs
-
-both-requires-2 : tie.Need-both-requires-2 Inv-loop μ-loop
-both-requires-2 c κs = search needs
-
 array-write-numbers : tie.Need-array-write-numbers Inv-loop μ-loop
-array-write-numbers c = omega (arith, bays-between (c .before .before .before .before .before .before .before .before .before .before .before .before .pre .terms .laid) .high)
+array-write-numbers c = omega (arith, bays-between (c .before .before .before .before .before .before .before .before .before .before .pre .terms .laid) .high)
 
 add-bay : tie.Need-add-bay Inv-loop μ-loop
 add-bay c = search needs
@@ -62,10 +56,10 @@ loop-less c = search needs
 loop-again : tie.Need-loop-again Inv-loop μ-loop
 unfolding type-table
 loop-again c =
-    let l = c .before .before .before .before .before .before .before .before in
-    let number = c .before .before .before .before .number .given in
-    typing-next _ (l .loop .bay) (omega arith) (c .before .before .before .before .before .before .walk-bay .ensures) _ _ _ _ _ _ (l .loop .inv) (number .1)
-    (c .before .before .many-at .ensures ∙ ap (λ (t : List ℕ). is-many (table-of t) (number .0 .0)) (l .before .table-bytes .ensures)) (c .before .both .ensures) (c .both2 .ensures)
+    let l = c .before .before .before .before .before .before in
+    let number = c .before .before .number .given in
+    typing-next _ (l .loop .bay) (omega arith) (c .before .before .before .before .walk-bay .ensures) _ _ _ _ _ _ (l .loop .inv) (number .1)
+    (c .many-at .ensures ∙ ap (λ (t : List ℕ). is-many (table-of t) (number .0 .0)) (l .before .table-bytes .ensures)) refl refl
 
 returns-2 : tie.Need-returns-2 Inv-loop μ-loop
 returns-2 c = typing-all (c .before .loop .inv) (omega arith)
@@ -85,8 +79,6 @@ types-of-spec =
     returns
     cast-many-at
     many-at-requires
-    both-requires
-    both-requires-2
     array-write-numbers
     add-bay
     loop-less

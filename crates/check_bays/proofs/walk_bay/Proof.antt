@@ -1,7 +1,6 @@
--- `bays::walk_bay` meets its contract.
+-- `check_bays::walk_bay` meets its contract.
 use borrow.Author.Needs.{needs}
 use Rattle.check_bays.proofs.Answers.{walked-is, whole}
-use Rattle.check_bays.proofs.Known.{has-bay}
 use Rattle.check_bays.proofs.walk_bay.Statement.{statement}
 use Rattle.check_bays.proofs.walk_bay.Tie as tie
 

@@ -2,19 +2,20 @@
 use mathlib.Core.Path.{_≡_, refl}
 use Prim.Native.Nat.{_+_, suc, zero, ℕ}
 use native.Mathlib.Omega.{arith}
+use Rattle.check_linearity.specs.Spend.{many-mark, due-mark, spent-mark}
 
 -- A term that uses a variable u times makes of its mark the second one. Allowed says that a once-variable may be used here.
 pub data Change (u : ℕ) (Allowed : Type 0) : ℕ → ℕ → Type 0 where
-  stays-many : Change u Allowed 0 0
-  stays-due : u ≡ 0 → Change u Allowed 1 1
-  is-spent : u ≡ 1 → Allowed → Change u Allowed 1 2
+  stays-many : Change u Allowed many-mark many-mark
+  stays-due : u ≡ 0 → Change u Allowed due-mark due-mark
+  is-spent : u ≡ 1 → Allowed → Change u Allowed due-mark spent-mark
   was-spent : {mark : ℕ} → u ≡ 0 → Change u Allowed (suc (suc mark)) (suc (suc mark))
 
 -- a term that uses a variable u times may meet it with this mark
 pub data Fit (u : ℕ) (Allowed : Type 0) : ℕ → Type 0 where
-  fit-many : Fit u Allowed 0
+  fit-many : Fit u Allowed many-mark
   fit-unused : {mark : ℕ} → u ≡ 0 → Fit u Allowed mark
-  fit-due : u ≡ 1 → Allowed → Fit u Allowed 1
+  fit-due : u ≡ 1 → Allowed → Fit u Allowed due-mark
 
 module _ {A : Type 0} where
   pub change-unused : {u : ℕ} (mark : ℕ) → u ≡ 0 → Change u A mark mark
@@ -23,15 +24,15 @@ module _ {A : Type 0} where
   change-unused (suc (suc mark)) z = was-spent z
 
   -- a lambda's variable: a once-variable that is not due any more was used once
-  pub change-due : {u mark : ℕ} → Change u A 1 mark → ¬ (mark ≡ 1) → (u ≡ 1) × A
+  pub change-due : {u mark : ℕ} → Change u A due-mark mark → ¬ (mark ≡ due-mark) → (u ≡ 1) × A
   change-due (stays-due z) n = absurd (n refl)
   change-due (is-spent w a) n = (w, a)
 
-  pub change-not-due : {u mark : ℕ} → Change u A 1 mark → u ≡ 1 → ¬ (mark ≡ 1)
+  pub change-not-due : {u mark : ℕ} → Change u A due-mark mark → u ≡ 1 → ¬ (mark ≡ due-mark)
   change-not-due (stays-due z) w = absurd (omega arith)
   change-not-due (is-spent w′ a) w = λ e. omega arith
 
-  pub change-many : {u mark : ℕ} → Change u A 0 mark → mark ≡ 0
+  pub change-many : {u mark : ℕ} → Change u A many-mark mark → mark ≡ many-mark
   change-many stays-many = refl
 
 module _ {A B : Type 0} where

@@ -6,12 +6,13 @@ use mathlib.Core.List.{[], _∷_}
 use Prim.Native.Nat.{_<_, suc, ℕ}
 use native.Mathlib.Omega.{arith}
 use lib.Dec.{eqb}
+use Rattle.calculus.specs.Kinds.{once-type-kind}
 use Rattle.calculus.specs.Syntax.{Exp, var, name, const, lam, app, at}
 use Rattle.calculus.specs.Names.{uses}
 use Rattle.calculus.specs.Table.{Entry, Table, test-entry}
 use Rattle.calculus.specs.Verdict.{is-function-kind, on-function, on-once-function, is-many, outside-many, linear-parameter}
 use Rattle.calculus.specs.Theory.Tests.{and-true, and-parts, eqb-sound, eqb-complete, eqb-differ}
-use Rattle.check_linearity.specs.Spend.{Marks, new-mark, reach-under, leave, spend-lambda}
+use Rattle.check_linearity.specs.Spend.{Marks, new-mark, reach-under, leave, spend-lambda, many-mark, due-mark}
 use Rattle.check_linearity.specs.Theory.Changes.{Change, change-due, change-not-due, change-many, Fit, fit-many, fit-due}
 
 -- a once-variable with number i may be used in e
@@ -77,7 +78,7 @@ module _ (T : Table) (t : ℕ) (x : Entry) (g : at T t ≡ some x) (reach i : �
 
 pub own-reach : (kind reach : ℕ) → 0 < reach-under kind reach
 unfolding reach-under
-own-reach kind reach = go (eqb kind 3)
+own-reach kind reach = go (eqb kind once-type-kind)
   where
     go : (o : Bool) → 0 < cond o (suc reach) 1
     go true = omega arith
@@ -85,11 +86,11 @@ own-reach kind reach = go (eqb kind 3)
 
 -- the lambda's own variable: the test of it, and its mark before and after the body
 module _ (T : Table) (p : ℕ) (e : Exp) (reach : ℕ) where
-  pub parameter-sound : (mark : ℕ) → Change (uses 0 e) (Allowed T reach e 0) (new-mark T p) mark → ¬ (mark ≡ 1) → linear-parameter T p e ≡ true
+  pub parameter-sound : (mark : ℕ) → Change (uses 0 e) (Allowed T reach e 0) (new-mark T p) mark → ¬ (mark ≡ due-mark) → linear-parameter T p e ≡ true
   unfolding new-mark linear-parameter
   parameter-sound mark c n = go (is-many T p) c
     where
-      go : (m : Bool) → Change (uses 0 e) (Allowed T reach e 0) (cond m 0 1) mark → cond m true (eqb (uses 0 e) 1 && outside-many T 0 e) ≡ true
+      go : (m : Bool) → Change (uses 0 e) (Allowed T reach e 0) (cond m many-mark due-mark) mark → cond m true (eqb (uses 0 e) 1 && outside-many T 0 e) ≡ true
       go true c = refl
       go false c = let (w, a) = change-due c n in and-true (eqb-complete (uses 0 e) 1 w) (a .1)
 
@@ -97,30 +98,30 @@ module _ (T : Table) (p : ℕ) (e : Exp) (reach : ℕ) where
   unfolding new-mark linear-parameter
   parameter-fit l h = go (is-many T p) h
     where
-      go : (m : Bool) → cond m true (eqb (uses 0 e) 1 && outside-many T 0 e) ≡ true → Fit (uses 0 e) (Allowed T reach e 0) (cond m 0 1)
+      go : (m : Bool) → cond m true (eqb (uses 0 e) 1 && outside-many T 0 e) ≡ true → Fit (uses 0 e) (Allowed T reach e 0) (cond m many-mark due-mark)
       go true h = fit-many
       go false h = let (w, o) = and-parts (eqb (uses 0 e) 1) (outside-many T 0 e) h in fit-due (eqb-sound (uses 0 e) 1 w) (l, o)
 
-  pub parameter-left : (mark : ℕ) → linear-parameter T p e ≡ true → Change (uses 0 e) (Allowed T reach e 0) (new-mark T p) mark → ¬ (mark ≡ 1)
+  pub parameter-left : (mark : ℕ) → linear-parameter T p e ≡ true → Change (uses 0 e) (Allowed T reach e 0) (new-mark T p) mark → ¬ (mark ≡ due-mark)
   unfolding new-mark linear-parameter
   parameter-left mark h c = go (is-many T p) h c
     where
-      go : (m : Bool) → cond m true (eqb (uses 0 e) 1 && outside-many T 0 e) ≡ true → Change (uses 0 e) (Allowed T reach e 0) (cond m 0 1) mark → ¬ (mark ≡ 1)
+      go : (m : Bool) → cond m true (eqb (uses 0 e) 1 && outside-many T 0 e) ≡ true → Change (uses 0 e) (Allowed T reach e 0) (cond m many-mark due-mark) mark → ¬ (mark ≡ due-mark)
       go true h c = let z = change-many c in λ d. omega arith
       go false h c = let (w, o) = and-parts (eqb (uses 0 e) 1) (outside-many T 0 e) h in change-not-due c (eqb-sound (uses 0 e) 1 w)
 
 -- leaving a lambda
-pub leave-parts : (o : Option Marks) {M′ : Marks} → leave o ≡ some M′ → (mark : ℕ) × (o ≡ some (mark ∷ M′)) × (¬ (mark ≡ 1))
+pub leave-parts : (o : Option Marks) {M′ : Marks} → leave o ≡ some M′ → (mark : ℕ) × (o ≡ some (mark ∷ M′)) × (¬ (mark ≡ due-mark))
 unfolding leave
 leave-parts none {M′} h = absurd (Option·none-ne-some M′ h)
 leave-parts (some []) {M′} h = absurd (Option·none-ne-some M′ h)
-leave-parts (some (mark ∷ M)) {M′} h = go (eqb mark 1) refl h
+leave-parts (some (mark ∷ M)) {M′} h = go (eqb mark due-mark) refl h
   where
-    go : (d : Bool) → eqb mark 1 ≡ d → cond d none (some M) ≡ some M′ → (m : ℕ) × (some (mark ∷ M) ≡ some (m ∷ M′)) × (¬ (m ≡ 1))
+    go : (d : Bool) → eqb mark due-mark ≡ d → cond d none (some M) ≡ some M′ → (m : ℕ) × (some (mark ∷ M) ≡ some (m ∷ M′)) × (¬ (m ≡ due-mark))
     go true q h = absurd (Option·none-ne-some M′ h)
     go false q h = let s : M ≡ M′ = cc in (mark, cc, λ d. false≢true (sym q ∙ eqb-complete mark 1 d))
 
-pub leave-some : (mark : ℕ) (M : Marks) → ¬ (mark ≡ 1) → leave (some (mark ∷ M)) ≡ some M
+pub leave-some : (mark : ℕ) (M : Marks) → ¬ (mark ≡ due-mark) → leave (some (mark ∷ M)) ≡ some M
 unfolding leave
 leave-some mark M n = rw (eqb-differ mark 1 n)
 

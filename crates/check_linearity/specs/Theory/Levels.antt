@@ -7,6 +7,7 @@ use native.Mathlib.Omega.{arith}
 use lib.Dec.{eqb}
 use lib.ListN.{getD, length, set}
 use lib.Seq.{getD-set-same, getD-set-other}
+use Rattle.calculus.specs.Kinds.{once-type-kind}
 use Rattle.check_linearity.specs.Spend.{Marks, reach-under}
 use Rattle.check_linearity.specs.Levels.{marks-of, floor-under}
 
@@ -54,16 +55,8 @@ marks-set (suc above) a (suc i) x h l =
 -- the variables in reach are those whose level is not below the floor
 pub reach-floor : (kind floor above : ℕ) → floor ≤ above → reach-under kind (above - floor) ≡ suc above - floor-under kind floor above
 unfolding reach-under floor-under
-reach-floor kind floor above h = go (eqb kind 3)
+reach-floor kind floor above h = go (eqb kind once-type-kind)
   where
     go : (o : Bool) → _≡_ {A = ℕ} (cond o (suc (above - floor)) 1) (suc above - cond o floor above)
     go true = omega arith
-    go false = omega arith
-
-pub floor-below : (kind floor above : ℕ) → floor ≤ above → floor-under kind floor above ≤ above
-unfolding floor-under
-floor-below kind floor above h = go (eqb kind 3)
-  where
-    go : (o : Bool) → cond o floor above ≤ above
-    go true = h
     go false = omega arith

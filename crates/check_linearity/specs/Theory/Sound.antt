@@ -13,7 +13,7 @@ use Rattle.calculus.specs.Names.{uses}
 use Rattle.calculus.specs.Table.{Entry, Table}
 use Rattle.calculus.specs.Verdict.{outside-many, linear-parameter, linear}
 use Rattle.calculus.specs.Theory.Tests.{and-true, and-parts, eqb-sound, eqb-complete, eqb-differ, ltb-sound}
-use Rattle.check_linearity.specs.Spend.{Marks, new-mark, reach-under, spend-variable, spend-next, spend}
+use Rattle.check_linearity.specs.Spend.{Marks, new-mark, reach-under, spend-variable, spend-next, spend, many-mark, due-mark, spent-mark}
 use Rattle.check_linearity.specs.Theory.Changes.{Change, stays-many, is-spent, change-unused, change-allowed, change-application}
 use Rattle.check_linearity.specs.Theory.Lambdas.{Allowed, unused-outside, on-function-at, allowed-lambda, parameter-sound, leave-parts, spend-lambda-parts}
 
@@ -27,7 +27,7 @@ spent-nothing : (T : Table) (reach : ℕ) (M : Marks) (e : Exp) → ((i : ℕ) �
 spent-nothing T reach M e z = record { same-length = refl; each = λ i. change-unused (getD M i 0) (z i) }
 
 -- a variable
-marked-below : (M : Marks) (i : ℕ) → getD M i 0 ≡ 1 → i < length M
+marked-below : (M : Marks) (i : ℕ) → getD M i 0 ≡ due-mark → i < length M
 marked-below [] i h = absurd (omega arith)
 marked-below (mark ∷ M) zero h = omega arith
 marked-below (mark ∷ M) (suc i) h = omega (arith, marked-below M i h)
@@ -51,23 +51,23 @@ at-variable T reach M M′ i l others c = record { same-length = l; each = λ j.
 
 spent-variable : (T : Table) (reach : ℕ) (M : Marks) (i : ℕ) {M′ : Marks} → spend-variable reach M i (getD M i 0) ≡ some M′ → Spent T reach M (var i) M′
 unfolding spend-variable outside-many
-spent-variable T reach M i {M′} h = go (eqb (getD M i 0) 0) refl h
+spent-variable T reach M i {M′} h = go (eqb (getD M i 0) many-mark) refl h
   where
-    due : (b : Bool) → (eqb (getD M i 0) 1 && ltb i reach) ≡ b → cond b (some (set M i 2)) none ≡ some M′ → Spent T reach M (var i) M′
+    due : (b : Bool) → (eqb (getD M i 0) due-mark && ltb i reach) ≡ b → cond b (some (set M i spent-mark)) none ≡ some M′ → Spent T reach M (var i) M′
     due true q h =
-        let (d, l) = and-parts (eqb (getD M i 0) 1) (ltb i reach) q in
-        let d′ : getD M i 0 ≡ 1 = eqb-sound (getD M i 0) 1 d in
-        let s : set M i 2 ≡ M′ = cc in
-        rw (← s) (at-variable T reach M (set M i 2) i (length-set M i 2) (λ j n. getD-set-other M i j 2 0 n)
-        (rw (d′, getD-set-same M i 2 0 (marked-below M i d′)) (is-spent (uses-self i) (ltb-sound i reach l, refl))))
+        let (d, l) = and-parts (eqb (getD M i 0) due-mark) (ltb i reach) q in
+        let d′ : getD M i 0 ≡ due-mark = eqb-sound (getD M i 0) due-mark d in
+        let s : set M i spent-mark ≡ M′ = cc in
+        rw (← s) (at-variable T reach M (set M i spent-mark) i (length-set M i spent-mark) (λ j n. getD-set-other M i j spent-mark 0 n)
+        (rw (d′, getD-set-same M i spent-mark 0 (marked-below M i d′)) (is-spent (uses-self i) (ltb-sound i reach l, refl))))
     due false q h = absurd (Option·none-ne-some M′ h)
 
-    go : (b : Bool) → eqb (getD M i 0) 0 ≡ b → cond b (some M) (cond (eqb (getD M i 0) 1 && ltb i reach) (some (set M i 2)) none) ≡ some M′ → Spent T reach M (var i) M′
+    go : (b : Bool) → eqb (getD M i 0) many-mark ≡ b → cond b (some M) (cond (eqb (getD M i 0) due-mark && ltb i reach) (some (set M i spent-mark)) none) ≡ some M′ → Spent T reach M (var i) M′
     go true q h =
-        let z : getD M i 0 ≡ 0 = eqb-sound (getD M i 0) 0 q in
+        let z : getD M i 0 ≡ many-mark = eqb-sound (getD M i 0) many-mark q in
         let s : M ≡ M′ = cc in
         rw (← s) (at-variable T reach M M i refl (λ j n. refl) (rw z stays-many))
-    go false q h = due (eqb (getD M i 0) 1 && ltb i reach) refl h
+    go false q h = due (eqb (getD M i 0) due-mark && ltb i reach) refl h
 
 -- a function, and then its argument
 spent-application : (T : Table) (reach : ℕ) (M M₁ M₂ : Marks) (f a : Exp) → Spent T reach M f M₁ → Spent T reach M₁ a M₂ → Spent T reach M (app f a) M₂

@@ -12,7 +12,7 @@ use Rattle.calculus.specs.Syntax.{Const, Exp, var, name, const, lam, app, at}
 use Rattle.calculus.specs.Table.{Entry, Table, test-entry}
 use Rattle.calculus.specs.Verdict.{is-function-kind, on-function, linear}
 use Rattle.calculus.specs.Theory.Tests.{eqb-differ, ltb-sound, ltb-complete}
-use Rattle.check_linearity.specs.Spend.{Marks, new-mark, spend-variable, spend-next, leave, spend-lambda, spend, left-over, spends}
+use Rattle.check_linearity.specs.Spend.{Marks, new-mark, spend-variable, spend-next, leave, spend-lambda, spend, left-over, spends, many-mark, due-mark, spent-mark}
 use Rattle.check_linearity.specs.Levels.{marks-of, floor-under, marks-left, LinearWalk}
 use Rattle.check_linearity.specs.Theory.Lambdas.{and-true-right, leave-some, spend-lambda-at}
 use Rattle.check_linearity.specs.Theory.Levels.{marks-at, marks-push, marks-pop, marks-set, reach-floor}
@@ -43,30 +43,30 @@ module _ {T : Table} {floor above : ℕ} {a : List ℕ} where
   walked-const c = record { holds = refl }
 
   -- a many-variable
-  pub walked-many : (i : ℕ) → i < above → getD a (above - 1 - i) 0 ≡ 0 → LinearWalk T floor above a (var i) true a
+  pub walked-many : (i : ℕ) → i < above → getD a (above - 1 - i) 0 ≡ many-mark → LinearWalk T floor above a (var i) true a
   unfolding spend spend-variable marks-left
   walked-many i h m = record { holds = rw (marks-at above a i h, m) }
 
   -- a once-variable that is due and in reach
-  pub walked-due : (i : ℕ) → i < above → above ≤ length a → getD a (above - 1 - i) 0 ≡ 1 → floor ≤ above - 1 - i →
-      LinearWalk T floor above a (var i) true (set a (above - 1 - i) 2)
+  pub walked-due : (i : ℕ) → i < above → above ≤ length a → getD a (above - 1 - i) 0 ≡ due-mark → floor ≤ above - 1 - i →
+      LinearWalk T floor above a (var i) true (set a (above - 1 - i) spent-mark)
   unfolding spend spend-variable marks-left
-  walked-due i h l m r = record { holds = rw (marks-at above a i h, m, ltb-complete i (above - floor) (omega arith), marks-set above a i 2 h l) }
+  walked-due i h l m r = record { holds = rw (marks-at above a i h, m, ltb-complete i (above - floor) (omega arith), marks-set above a i spent-mark h l) }
 
   -- a once-variable that is not due, or not in reach
-  pub walked-spent : {a′ : List ℕ} (i : ℕ) → i < above → ¬ (getD a (above - 1 - i) 0 ≡ 0) → ¬ (getD a (above - 1 - i) 0 ≡ 1) →
+  pub walked-spent : {a′ : List ℕ} (i : ℕ) → i < above → ¬ (getD a (above - 1 - i) 0 ≡ many-mark) → ¬ (getD a (above - 1 - i) 0 ≡ due-mark) →
       LinearWalk T floor above a (var i) false a′
   unfolding spend spend-variable marks-left
-  walked-spent i h m d = record { holds = rw (marks-at above a i h, eqb-differ (getD a (above - 1 - i) 0) 0 m, eqb-differ (getD a (above - 1 - i) 0) 1 d) }
+  walked-spent i h m d = record { holds = rw (marks-at above a i h, eqb-differ (getD a (above - 1 - i) 0) many-mark m, eqb-differ (getD a (above - 1 - i) 0) due-mark d) }
 
-  pub walked-past-reach : {a′ : List ℕ} (i : ℕ) → i < above → ¬ (getD a (above - 1 - i) 0 ≡ 0) → above - 1 - i < floor →
+  pub walked-past-reach : {a′ : List ℕ} (i : ℕ) → i < above → ¬ (getD a (above - 1 - i) 0 ≡ many-mark) → above - 1 - i < floor →
       LinearWalk T floor above a (var i) false a′
   unfolding spend spend-variable marks-left
-  walked-past-reach i h m r = record { holds = rw (marks-at above a i h, eqb-differ (getD a (above - 1 - i) 0) 0 m) (go (ltb i (above - floor)) refl) }
+  walked-past-reach i h m r = record { holds = rw (marks-at above a i h, eqb-differ (getD a (above - 1 - i) 0) many-mark m) (go (ltb i (above - floor)) refl) }
     where
-      go : (b : Bool) → ltb i (above - floor) ≡ b → cond (eqb (getD a (above - 1 - i) 0) 1 && b) (some (set (marks-of above a) i 2)) none ≡ none
+      go : (b : Bool) → ltb i (above - floor) ≡ b → cond (eqb (getD a (above - 1 - i) 0) due-mark && b) (some (set (marks-of above a) i spent-mark)) none ≡ none
       go true q = let l : i < above - floor = ltb-sound i (above - floor) q in absurd (omega arith)
-      go false q = rw (and-false (eqb (getD a (above - 1 - i) 0) 1))
+      go false q = rw (and-false (eqb (getD a (above - 1 - i) 0) due-mark))
 
   -- an application: its function fails, or its argument goes on with the array that the function leaves
   pub walked-function : {a₁ a′ : List ℕ} {f : Exp} (g : Exp) → LinearWalk T floor above a f false a₁ → LinearWalk T floor above a (app f g) false a′
@@ -103,13 +103,13 @@ module _ {T : Table} {floor above : ℕ} {a a₁ : List ℕ} {e : Exp} (t : ℕ)
 
   -- its variable is still due
   pub walked-unused : {a′ : List ℕ} → LinearWalk T (floor-under (x .kind) floor above) (above + 1) (set a above (new-mark T (x .p))) e true a₁ →
-      getD a₁ above 0 ≡ 1 → LinearWalk T floor above a (lam t e) false a′
+      getD a₁ above 0 ≡ due-mark → LinearWalk T floor above a (lam t e) false a′
   unfolding marks-left leave
   walked-unused w d = record { holds = body-leaves T floor above a t e x true a₁ g k l room w ∙ rw d }
 
   -- its variable is not due
   pub walked-lambda : LinearWalk T (floor-under (x .kind) floor above) (above + 1) (set a above (new-mark T (x .p))) e true a₁ →
-      ¬ (getD a₁ above 0 ≡ 1) → LinearWalk T floor above a (lam t e) true a₁
+      ¬ (getD a₁ above 0 ≡ due-mark) → LinearWalk T floor above a (lam t e) true a₁
   unfolding marks-left leave
   walked-lambda w n = record { holds = body-leaves T floor above a t e x true a₁ g k l room w ∙ leave-some (getD a₁ above 0) (marks-of above a₁) n }
 

@@ -1,4 +1,4 @@
--- `glance::ended` meets its contract.
+-- `check_prescan::ended` meets its contract.
 use borrow.Author.Tests.{le-ltb, lt-ltb}
 use Rattle.check_prescan.specs.Stands.{ended}
 use Rattle.check_prescan.proofs.ended.Statement.{statement}

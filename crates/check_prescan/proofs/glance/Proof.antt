@@ -1,7 +1,7 @@
--- `glance::glance` meets its contract. The loop's invariant: the terms still to come give the answer (proofs/Seen.antt). The measure: a node takes a byte.
+-- `check_prescan::glance` meets its contract. The loop's invariant: the terms still to come give the answer (proofs/Seen.antt). The measure: a node takes a byte.
 use mathlib.Core.Path.{_≡_, refl, sym, _∙_}
 use mathlib.Core.List.{List}
-use Prim.Native.Nat.{_/_, _-_, _<_, _≤_, ℕ}
+use Prim.Native.Nat.{_/_, _-_, ℕ}
 use native.Mathlib.Omega.{arith}
 use borrow.Author.Needs.{needs}
 use borrow.Author.Tests.{not-false, not-true}

@@ -1,4 +1,4 @@
--- `glance::lambda_stands` meets its contract.
+-- `check_prescan::lambda_stands` meets its contract.
 use mathlib.Core.Path.{_∙_}
 use native.Mathlib.Omega.{arith}
 use borrow.Author.Needs.{needs}

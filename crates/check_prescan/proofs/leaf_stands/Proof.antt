@@ -1,4 +1,4 @@
--- `glance::leaf_stands` meets its contract: a law for the tags of each return (proofs/Tests.antt).
+-- `check_prescan::leaf_stands` meets its contract: a law for the tags of each return (proofs/Tests.antt).
 use mathlib.Core.Path.{_∙_}
 use native.Mathlib.Omega.{arith}
 use Rattle.check_prescan.proofs.Tests.{high-stands, low-stands, name-stands, op-fails, op-stands, variable-stands}

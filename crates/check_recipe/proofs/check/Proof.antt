@@ -1,4 +1,4 @@
--- `checker::check` meets its contract. Behind each cause it is known that the causes up to it do not fit.
+-- `check_recipe::check` meets its contract. Behind each cause it is known that the causes up to it do not fit.
 use mathlib.Core.Path.{_∙_, _≡_}
 use mathlib.Core.Bool.{true}
 use mathlib.Core.List.{List}
@@ -7,7 +7,7 @@ use native.Mathlib.Omega.{arith}
 use borrow.Author.Tests.{not-true, not-false}
 use borrow.Author.Needs.{needs}
 use Rattle.recipe_file.proofs.Inside.{bays-between}
-use Rattle.check_recipe.proofs.Verdicts.{Admitted, admitted, all-pass, file-refused, filed, parts-refused, refused-10, refused-11, refused-9}
+use Rattle.check_recipe.proofs.Verdicts.{Admitted, admitted, all-pass, file-refused, filed, parts-refused, refused-linear, refused-once, refused-untyped}
 use Rattle.check_recipe.proofs.check.Statement.{statement}
 use Rattle.check_recipe.proofs.check.Tie as tie
 
@@ -62,7 +62,7 @@ refused-requires-3 c κs = search needs
 returns-3 : tie.Need-returns-3
 returns-3 c =
     let l = c .before .before .before .before in
-    c .refused3 .ensures ∙ refused-9 (eighth l) (c .before .before .before .types-of .ensures) (not-true _ (c .before .if3 .taken))
+    c .refused3 .ensures ∙ refused-untyped (eighth l) (c .before .before .before .types-of .ensures) (not-true _ (c .before .if3 .taken))
 
 refused-requires-4 : tie.Need-refused-requires-4
 refused-requires-4 c κs = search needs
@@ -71,7 +71,7 @@ returns-4 : tie.Need-returns-4
 returns-4 c =
     let k = c .before .before .before in
     c .refused4 .ensures
-    ∙ refused-10 (eighth (at-8 k)) (k .before .before .types-of .ensures) (not-false _ (k .if3 .left)) (not-true _ (c .before .if4 .taken))
+    ∙ refused-linear (eighth (at-8 k)) (k .before .before .types-of .ensures) (not-false _ (k .if3 .left)) (not-true _ (c .before .if4 .taken))
 
 refused-requires-5 : tie.Need-refused-requires-5
 refused-requires-5 c κs = search needs
@@ -81,7 +81,7 @@ returns-5 c =
     let j = c .before .before .before in
     let k = at-9 j in
     c .refused5 .ensures
-    ∙ refused-11 (eighth (at-8 k)) (k .before .before .types-of .ensures) (not-false _ (k .if3 .left)) (tenth j) (not-true _ (c .before .if5 .taken))
+    ∙ refused-once (eighth (at-8 k)) (k .before .before .types-of .ensures) (not-false _ (k .if3 .left)) (tenth j) (not-true _ (c .before .if5 .taken))
 
 bay-count-requires : tie.Need-bay-count-requires
 bay-count-requires c κs = eighth (at-8 (at-9 (c .before .before .before))) .scoped .terms .laid

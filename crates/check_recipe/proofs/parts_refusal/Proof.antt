@@ -1,7 +1,5 @@
--- `checker::parts_refusal` meets its contract.
+-- `check_recipe::parts_refusal` meets its contract.
 use mathlib.Core.Path.{_∙_, _≡_, sym}
-use mathlib.Core.List.{List}
-use Prim.Native.Nat.{ℕ}
 use borrow.Author.Tests.{not-true, not-false}
 use borrow.Author.Needs.{needs}
 use Rattle.check_recipe.specs.Refusals.{terms-refusal}

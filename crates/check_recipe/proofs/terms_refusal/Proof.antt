@@ -1,8 +1,8 @@
--- `checker::terms_refusal` meets its contract.
+-- `check_recipe::terms_refusal` meets its contract.
 use mathlib.Core.Path.{_∙_, sym}
 use borrow.Author.Tests.{not-true, not-false}
 use borrow.Author.Needs.{needs}
-use Rattle.check_recipe.proofs.Terms.{many-nodes, no-term, none-fits, terms-known, too-deep}
+use Rattle.check_recipe.proofs.Terms.{many-nodes, no-term, terms-known, terms-pass, too-deep}
 use Rattle.check_recipe.proofs.terms_refusal.Statement.{statement}
 use Rattle.check_recipe.proofs.terms_refusal.Tie as tie
 
@@ -34,7 +34,7 @@ returns-3 c =
 
 returns-4 : tie.Need-returns-4
 returns-4 c =
-    none-fits _ _ (sym (c .before .before .before .before .nodes .given .1) ∙ c .before .before .before .before .before .before .count-nodes .ensures) (c .before .before .if1 .left)
+    terms-pass _ _ (sym (c .before .before .before .before .nodes .given .1) ∙ c .before .before .before .before .before .before .count-nodes .ensures) (c .before .before .if1 .left)
     _ (c .before .each-passes .ensures) (not-false _ (c .if2 .left))
 
 pub terms-refusal-spec : {M : Type 1} → statement M

@@ -2,11 +2,12 @@
 -- are the types answered.
 use mathlib.Core.Path.{_∙_, _≡_, ap, refl, sym}
 use mathlib.Core.Logic.{_↔_}
-use mathlib.Core.Bool.{Bool, cond, false, not, true, false≢true}
+use mathlib.Core.Bool.{false, not, true}
 use mathlib.Core.Option.{some}
-use mathlib.Core.List.{List, [], _∷_}
+use mathlib.Core.List.{List, [], _++_, _∷_}
 use Prim.Native.Nat.{_+_, _<_, _≤_, suc, zero, ℕ}
 use native.Mathlib.Omega.{arith}
+use borrow.Author.Tests.{not-false}
 use lib.Dec.{leb, ltb}
 use lib.ListN.{getD, length}
 use Rattle.calculus.specs.Bytes.{Bytes}
@@ -17,11 +18,12 @@ use Rattle.calculus.specs.Typing.{Derivation}
 use Rattle.calculus.specs.Limits.{max-bays, max-nesting, max-recipe-nodes}
 use Rattle.calculus.specs.Image.{nodes}
 use Rattle.calculus.specs.Table.{Table, TableRule, table-test, type-at}
-use Rattle.calculus.specs.Verdict.{verdict}
+use Rattle.calculus.specs.Verdict.{type-causes, verdict}
 use Rattle.calculus.specs.Recipe.{setting-types, Admitted}
 use Rattle.calculus.specs.Theory.Tests.{clash, leb-sound, leb-complete, ltb-complete, ltb-false, ltb-not}
 use Rattle.calculus.specs.Theory.Lists.{at-bound, at-below}
 use Rattle.calculus.specs.Theory.Tabulate.{length-tabulate, tabulate-at, tabulate-parts, tabulate-is, each-below-sound, each-below-complete, nodes-tabulate}
+use Rattle.calculus.specs.Theory.Lowest.{lowest-parts}
 use Rattle.calculus.specs.Theory.TableTest.{table-test-iff}
 use Rattle.calculus.specs.Theory.Verdict.{accepted-iff, verdict-iff, verdict-derived-iff}
 use Rattle.term.specs.Reader.{one-term, read-term}
@@ -31,20 +33,11 @@ use Rattle.recipe_file.specs.File.{bays, first-term, table-bytes, term-bytes, c
 use Rattle.recipe_file.specs.FileRule.{FileRule}
 use Rattle.recipe_file.proofs.LaidOut.{or-parts, or-false, laid-iff}
 use Rattle.recipe_file.proofs.Inside.{length-table-bytes, bays-between}
-use Rattle.recipe_table.specs.Entries.{table-of, type-table, cause-4}
-use Rattle.check_spec.specs.Bays.{bay-term, bay-terms, cause-5, cause-6}
+use Rattle.recipe_table.specs.Entries.{table-of, type-table, cause-4, table-causes}
+use Rattle.check_spec.specs.Bays.{bay-term, bay-terms, cause-5, cause-6, term-causes}
 use Rattle.check_spec.specs.Verdict.{refusal, number-in, bay-type-number, bay-type-numbers}
 use Rattle.check_spec.specs.Recipe.{entry-bytes, Recipe}
 use Rattle.check_spec.specs.Theory.Bays.{part-bytes, entry-bytes-of, table-of-entries}
-
--- the lowest number is 0 where no cause fits
-none-fits : (a : Bool) (k n : ℕ) → ¬ (k ≡ 0) → cond a k n ≡ 0 → (a ≡ false) × (n ≡ 0)
-none-fits true k n d e = absurd (d e)
-none-fits false k n d e = (refl, e)
-
-not-false : (b : Bool) → not b ≡ false → b ≡ true
-not-false true e = refl
-not-false false e = absurd (false≢true (sym e))
 
 -- no cause fits the file
 pub record NoCause (s : List ℕ) : Type 0 where
@@ -57,16 +50,11 @@ pub record NoCause (s : List ℕ) : Type 0 where
   pub not-7-to-11 : verdict (type-table s) (bay-terms s) ≡ 0
 
 pub no-cause-iff : (s : List ℕ) → (refusal s ≡ 0) ↔ NoCause s
-unfolding refusal
+unfolding refusal verdict
 no-cause-iff s = (
   λ e.
-      let (a, e₁) = none-fits (cause-1 s) 1 _ (omega arith) e in
-      let (b, e₂) = none-fits (cause-2 s) 2 _ (omega arith) e₁ in
-      let (c, e₃) = none-fits (cause-3 s) 3 _ (omega arith) e₂ in
-      let (d, e₄) = none-fits (cause-4 s) 4 _ (omega arith) e₃ in
-      let (f, e₅) = none-fits (cause-5 s) 5 _ (omega arith) e₄ in
-      let (g, e₆) = none-fits (cause-6 s) 6 _ (omega arith) e₅ in
-      record { not-1 = a; not-2 = b; not-3 = c; not-4 = d; not-5 = f; not-6 = g; not-7-to-11 = e₆ },
+      let ((a, (b, (c, (d, (f, (g, u)))))), v) = lowest-parts (table-causes s ++ term-causes s) (type-causes (type-table s) (bay-terms s)) tt e in
+      record { not-1 = a; not-2 = b; not-3 = c; not-4 = d; not-5 = f; not-6 = g; not-7-to-11 = v },
   λ n. rw (n .not-1, n .not-2, n .not-3, n .not-4, n .not-5, n .not-6) (n .not-7-to-11),
 )
 

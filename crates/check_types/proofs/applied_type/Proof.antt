@@ -1,4 +1,4 @@
--- `typing::applied_type` meets its contract: the tests are those of the definition.
+-- `check_types::applied_type` meets its contract: the tests are those of the definition.
 use mathlib.Core.Path.{_≡_, sym, _∙_}
 use mathlib.Core.Bool.{false, true}
 use borrow.Author.Needs.{needs}

@@ -1,4 +1,4 @@
--- `typing::entry_at` meets its contract: the three bytes are the entry.
+-- `check_types::entry_at` meets its contract: the three bytes are the entry.
 use Rattle.check_types.proofs.Entries.{bytes-found, bytes-missing}
 use borrow.Author.Needs.{needs}
 use Rattle.check_types.proofs.entry_at.Statement.{statement}

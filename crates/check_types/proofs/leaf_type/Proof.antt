@@ -1,4 +1,4 @@
--- `typing::leaf_type` meets its contract: a law for the tags of each return (proofs/Leaves.antt).
+-- `check_types::leaf_type` meets its contract: a law for the tags of each return (proofs/Leaves.antt).
 use Prim.Native.Nat.{_<_}
 use native.Mathlib.Omega.{arith}
 use Rattle.calculus.specs.Limits.{byte-values}

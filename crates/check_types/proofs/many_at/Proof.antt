@@ -1,4 +1,4 @@
--- `typing::many_at` meets its contract: the first byte is the kind.
+-- `check_types::many_at` meets its contract: the first byte is the kind.
 use Rattle.check_types.proofs.Entries.{bytes-many, bytes-none}
 use borrow.Author.Needs.{needs}
 use Rattle.check_types.proofs.many_at.Statement.{statement}

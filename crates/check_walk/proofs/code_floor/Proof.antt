@@ -1,4 +1,4 @@
--- `usage::code_floor` meets its contract: the tests of the code are those of the definition.
+-- `check_walk::code_floor` meets its contract: the tests of the code are those of the definition.
 use borrow.Author.Tests.{lt-ltb, le-ltb}
 use Rattle.check_walk.specs.Codes.{code-floor}
 use Rattle.check_walk.proofs.code_floor.Statement.{statement}

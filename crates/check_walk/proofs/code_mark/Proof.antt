@@ -1,4 +1,4 @@
--- `usage::code_mark` meets its contract: the tests of the code are those of the definition.
+-- `check_walk::code_mark` meets its contract: the tests of the code are those of the definition.
 use borrow.Author.Tests.{eq-eqb, ne-eqb}
 use Rattle.check_walk.specs.Codes.{code-mark}
 use Rattle.check_walk.proofs.code_mark.Statement.{statement}

@@ -1,4 +1,4 @@
--- `usage::code_of` meets its contract: the mark is that of a variable of the parameter's type.
+-- `check_walk::code_of` meets its contract: the mark is that of a variable of the parameter's type.
 use mathlib.Core.Path.{ap, _∙_}
 use mathlib.Core.Bool.{Bool, cond}
 use Prim.Native.Nat.{ℕ}

@@ -1,4 +1,4 @@
--- `usage::function_code` meets its contract: the tests of the code are those of the definition.
+-- `check_walk::function_code` meets its contract: the tests of the code are those of the definition.
 use borrow.Author.Needs.{needs}
 use borrow.Author.Tests.{eq-eqb, ne-eqb}
 use Rattle.check_walk.specs.Codes.{function-code}

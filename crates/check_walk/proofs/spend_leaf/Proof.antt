@@ -1,4 +1,4 @@
--- `usage::spend_leaf` meets its contract: one law of the pass for each way.
+-- `check_walk::spend_leaf` meets its contract: one law of the pass for each way.
 use mathlib.Core.Path.{refl}
 use native.Mathlib.Omega.{arith}
 use lib.ListN.{length-set}

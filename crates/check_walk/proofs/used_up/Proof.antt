@@ -1,4 +1,4 @@
--- `usage::used_up` meets its contract: both tests are those of the definition.
+-- `check_walk::used_up` meets its contract: both tests are those of the definition.
 use Rattle.check_walk.proofs.used_up.Statement.{statement}
 use Rattle.check_walk.proofs.used_up.Tie as tie
 

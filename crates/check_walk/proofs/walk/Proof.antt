@@ -1,4 +1,4 @@
--- `usage::walk` meets its contract: the walk begins below no lambda.
+-- `check_walk::walk` meets its contract: the walk begins below no lambda.
 use mathlib.Core.Path.{refl}
 use Rattle.check_walk.proofs.Ways.{ready-whole}
 use Rattle.check_walk.proofs.Together.{walked-whole}

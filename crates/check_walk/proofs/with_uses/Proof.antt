@@ -1,4 +1,4 @@
--- `usage::with_uses` meets its contract, case by case.
+-- `check_walk::with_uses` meets its contract, case by case.
 use mathlib.Core.Path.{ap, sym}
 use borrow.Author.Needs.{needs}
 use Rattle.check_types.specs.declared.Typed.{Typed}

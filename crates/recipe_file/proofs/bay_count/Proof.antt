@@ -1,4 +1,4 @@
--- `recipe::bay_count` meets its contract.
+-- `recipe_file::bay_count` meets its contract.
 use native.Mathlib.Omega.{arith}
 use Rattle.recipe_file.specs.File.{parts, bays}
 use borrow.Author.Needs.{needs}

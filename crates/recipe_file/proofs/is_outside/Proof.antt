@@ -1,4 +1,4 @@
--- `recipe::is_outside` meets its contract.
+-- `recipe_file::is_outside` meets its contract.
 use borrow.Author.Tests.{le-ltb, lt-ltb}
 use Rattle.recipe_file.specs.File.{outside}
 use Rattle.recipe_file.proofs.is_outside.Statement.{statement}

@@ -1,4 +1,4 @@
--- `recipe::layout_breaks` meets its contract.
+-- `recipe_file::layout_breaks` meets its contract.
 use mathlib.Core.Path.{_∙_, ap}
 use mathlib.Core.Bool.{not}
 use native.Mathlib.Omega.{arith}

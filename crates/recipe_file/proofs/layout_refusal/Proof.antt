@@ -1,4 +1,4 @@
--- `recipe::layout_refusal` meets its contract.
+-- `recipe_file::layout_refusal` meets its contract.
 use Rattle.recipe_file.proofs.Causes.{lowest-1, long-enough, lowest-2, lowest-3, none-fits}
 use borrow.Author.Needs.{needs}
 use Rattle.recipe_file.proofs.layout_refusal.Statement.{statement}

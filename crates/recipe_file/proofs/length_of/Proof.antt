@@ -1,4 +1,4 @@
--- `recipe::length_of` meets its contract.
+-- `recipe_file::length_of` meets its contract.
 use mathlib.Core.Path.{_∙_, ap}
 use Prim.Native.Nat.{_+_, ℕ}
 use Rattle.recipe_file.specs.File.{length-of}

@@ -1,4 +1,4 @@
--- `recipe::offset_of` meets its contract.
+-- `recipe_file::offset_of` meets its contract.
 use mathlib.Core.Path.{_∙_, ap}
 use Prim.Native.Nat.{ℕ}
 use Rattle.recipe_file.specs.File.{offset-of}

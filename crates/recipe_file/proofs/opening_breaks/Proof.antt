@@ -1,4 +1,4 @@
--- `recipe::opening_breaks` meets its contract.
+-- `recipe_file::opening_breaks` meets its contract.
 use mathlib.Core.Path.{_∙_}
 use Rattle.recipe_file.proofs.Causes.{other-first, other-second, other-edition, opening-stands}
 use borrow.Author.Needs.{needs}

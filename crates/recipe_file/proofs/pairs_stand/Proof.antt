@@ -1,4 +1,4 @@
--- `recipe::pairs_stand` meets its contract. The loop's invariant: the pairs passed keep the layout, so that those still to come decide.
+-- `recipe_file::pairs_stand` meets its contract. The loop's invariant: the pairs passed keep the layout, so that those still to come decide.
 use Prim.Native.Nat.{_-_}
 use borrow.Author.Needs.{needs}
 use Rattle.recipe_file.proofs.Walks.{PairsWalked, walked-start, walked-elsewhere, walked-empty, walked-next, walked-end}

@@ -1,4 +1,4 @@
--- `recipe::part` meets its contract.
+-- `recipe_file::part` meets its contract.
 use native.Mathlib.Nat.{add-sub-cancel-left}
 use native.Mathlib.Omega.{arith}
 use Rattle.recipe_file.specs.File.{part}

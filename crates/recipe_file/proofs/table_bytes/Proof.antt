@@ -1,4 +1,4 @@
--- `recipe::table_bytes` meets its contract.
+-- `recipe_file::table_bytes` meets its contract.
 use Rattle.recipe_file.specs.File.{table-bytes}
 use borrow.Author.Needs.{needs}
 use Rattle.recipe_file.proofs.table_bytes.Statement.{statement}

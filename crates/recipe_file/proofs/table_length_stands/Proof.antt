@@ -1,4 +1,4 @@
--- `recipe::table_length_stands` meets its contract.
+-- `recipe_file::table_length_stands` meets its contract.
 use mathlib.Core.Path.{_∙_, ap}
 use mathlib.Core.Bool.{not}
 use Rattle.recipe_file.proofs.Causes.{no-multiple, multiple}

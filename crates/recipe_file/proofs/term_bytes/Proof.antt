@@ -1,4 +1,4 @@
--- `recipe::term_bytes` meets its contract.
+-- `recipe_file::term_bytes` meets its contract.
 use native.Mathlib.Omega.{arith}
 use Rattle.recipe_file.specs.File.{term-bytes}
 use Rattle.recipe_file.proofs.Inside.{bays-between, term-is-part}

@@ -1,5 +1,5 @@
--- `table::entries_differ` meets its contract. The loop's invariant: the entries passed differ, and their keys stand in the array.
-use mathlib.Core.Path.{refl, sym, _∙_}
+-- `recipe_table::entries_differ` meets its contract. The loop's invariant: the entries passed differ, and their keys stand in the array.
+use mathlib.Core.Path.{refl, sym}
 use Prim.Native.Nat.{_-_, _≤_}
 use native.Mathlib.Omega.{arith}
 use borrow.Author.Tests.{not-true, not-false}

@@ -1,4 +1,4 @@
--- `table::entries_stand` meets its contract. The loop's invariant: the entries passed keep their rule, so that those still to come decide.
+-- `recipe_table::entries_stand` meets its contract. The loop's invariant: the entries passed keep their rule, so that those still to come decide.
 use Prim.Native.Nat.{_-_, _≤_, zero-le}
 use native.Mathlib.Omega.{arith}
 use borrow.Author.Tests.{not-true, not-false}

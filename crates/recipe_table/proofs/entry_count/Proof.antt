@@ -1,4 +1,4 @@
--- `table::entry_count` meets its contract.
+-- `recipe_table::entry_count` meets its contract.
 use native.Mathlib.Omega.{arith}
 use mathlib.Core.Path.{ap}
 use lib.ListN.{length}

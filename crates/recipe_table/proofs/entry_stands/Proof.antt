@@ -1,4 +1,4 @@
--- `table::entry_stands` meets its contract.
+-- `recipe_table::entry_stands` meets its contract.
 use Rattle.recipe_table.proofs.Rules.{plain-zero, plain-not, cell-below, cell-not, function-below, function-not, unknown}
 use borrow.Author.Needs.{needs}
 use Rattle.recipe_table.proofs.entry_stands.Statement.{statement}

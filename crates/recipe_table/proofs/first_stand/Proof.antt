@@ -1,4 +1,4 @@
--- `table::first_stand` meets its contract.
+-- `recipe_table::first_stand` meets its contract.
 use mathlib.Core.Path.{_∙_}
 use borrow.Author.Tests.{not-true, not-false}
 use Rattle.recipe_table.proofs.Rules.{no-unit, no-num, cell-third}

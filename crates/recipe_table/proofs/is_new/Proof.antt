@@ -1,4 +1,4 @@
--- `table::is_new` meets its contract. The loop's invariant: the keys passed and those still to come decide together.
+-- `recipe_table::is_new` meets its contract. The loop's invariant: the keys passed and those still to come decide together.
 use mathlib.Core.Path.{_≡_, refl, sym, _∙_}
 use mathlib.Core.Bool.{_&&_}
 use Prim.Native.Nat.{_-_, _≤_}
@@ -18,14 +18,11 @@ abbrev μ-loop : tie.MeasureT-loop
 loop-holds : tie.Need-loop-holds Inv-loop μ-loop
 loop-holds c = (omega arith, refl)
 
-mul-both : tie.Need-mul-both Inv-loop μ-loop
-mul-both c = search needs
+mul-fresh : tie.Need-mul-fresh Inv-loop μ-loop
+mul-fresh c = search needs
 
-element-copy-out-both : tie.Need-element-copy-out-both Inv-loop μ-loop
-element-copy-out-both c = search needs
-
-both-requires : tie.Need-both-requires Inv-loop μ-loop
-both-requires c κs = search needs
+element-copy-out-fresh : tie.Need-element-copy-out-fresh Inv-loop μ-loop
+element-copy-out-fresh c = search needs
 
 add-j : tie.Need-add-j Inv-loop μ-loop
 add-j c = search needs
@@ -35,8 +32,8 @@ loop-less c = search needs
 
 loop-again : tie.Need-loop-again Inv-loop μ-loop
 loop-again c =
-    let l = c .before .before .before in
-    (omega arith, absent-turn _ _ _ _ (l .loop .fresh) _ _ (omega arith) refl (c .both .ensures) ∙ l .loop .inv .1)
+    let l = c .before .before in
+    (omega arith, absent-turn _ _ _ _ (l .loop .fresh) _ _ (omega arith) refl refl ∙ l .loop .inv .1)
 
 returns : tie.Need-returns Inv-loop μ-loop
 returns c = sym (absent-done _ _ _ _ _ (omega arith)) ∙ c .before .loop .inv .1
@@ -48,9 +45,8 @@ is-new-spec =
     Inv-loop
     μ-loop
     loop-holds
-    mul-both
-    element-copy-out-both
-    both-requires
+    mul-fresh
+    element-copy-out-fresh
     add-j
     loop-less
     loop-again

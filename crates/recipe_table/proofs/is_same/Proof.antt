@@ -1,4 +1,4 @@
--- `table::is_same` meets its contract.
+-- `recipe_table::is_same` meets its contract.
 use borrow.Author.Tests.{eq-eqb, ne-eqb}
 use Rattle.calculus.specs.Table.{same-entry}
 use Rattle.recipe_table.proofs.is_same.Statement.{statement}

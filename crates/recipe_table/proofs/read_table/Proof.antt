@@ -1,4 +1,4 @@
--- `table::read_table` meets its contract. The loop's invariant: the entries passed are in the table, and the rest of it is unused.
+-- `recipe_table::read_table` meets its contract. The loop's invariant: the entries passed are in the table, and the rest of it is unused.
 use mathlib.Core.Path.{_∙_, _≡_, ap, refl}
 use mathlib.Core.List.{List}
 use Prim.Native.Nat.{_*_, _+_, _-_, _/_, _≤_, zero-le}

@@ -1,4 +1,4 @@
--- `table::table_in` meets its contract.
+-- `recipe_table::table_in` meets its contract.
 use mathlib.Core.Path.{_∙_, ap}
 use mathlib.Core.List.{List}
 use Prim.Native.Nat.{ℕ}

@@ -1,4 +1,4 @@
--- `table::table_refusal` meets its contract.
+-- `recipe_table::table_refusal` meets its contract.
 use borrow.Author.Tests.{not-true, not-false}
 use Rattle.recipe_file.proofs.LaidOut.{laid-where}
 use Rattle.recipe_table.proofs.Tables.{count-between, layout-first, table-broken, table-sound}

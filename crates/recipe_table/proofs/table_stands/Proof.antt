@@ -1,4 +1,4 @@
--- `table::table_stands` meets its contract.
+-- `recipe_table::table_stands` meets its contract.
 use mathlib.Core.Path.{_∙_}
 use Prim.Native.Nat.{_≤_}
 use native.Mathlib.Omega.{arith}

@@ -6,8 +6,9 @@ use Prim.Native.Nat.{suc, zero, ℕ}
 use Rattle.calculus.specs.Syntax.{Config, at, EachAll}
 use Rattle.calculus.specs.Typing.{TypeNumbers}
 use Rattle.calculus.specs.Image.{ImageRule, Writable}
-use Rattle.calculus.specs.Run as calculus
-use Rattle.calculus.specs.Run.{State, after}
+use Rattle.calculus.specs.Theory.ConfigRuns as calculus
+use Rattle.calculus.specs.State.{State}
+use Rattle.calculus.specs.Theory.ConfigRuns.{state-after}
 use Rattle.calculus.specs.Theory.Tests.{clash}
 use Rattle.image.specs.Configuration.{image-of}
 use Rattle.runs.specs.Run.{Call, Step, steps}
@@ -20,26 +21,26 @@ pub record Kept (C : Config) : Type 0 where
 
 -- every configuration that a step of a run from s is handed or leaves
 abbrev pub AllKept : TypeNumbers → State → Type 0
-AllKept τ s = (run : List calculus.Call) (i : ℕ) (n : calculus.Step) → at (calculus.steps τ s run) i ≡ some n →
-    Kept (n .before .config) × Kept (after τ (n .before) (n .call) .config)
+AllKept τ s = (run : List calculus.ConfigCall) (i : ℕ) (n : calculus.ConfigStep) → at (calculus.config-steps τ s run) i ≡ some n →
+    Kept (n .before .config) × Kept (state-after τ (n .before) (n .call) .config)
 
-pub kept-first : (τ : TypeNumbers) (s : State) (a : calculus.Call) → AllKept τ s → Kept (s .config) × Kept (after τ s a .config)
-unfolding calculus.steps
+pub kept-first : (τ : TypeNumbers) (s : State) (a : calculus.ConfigCall) → AllKept τ s → Kept (s .config) × Kept (state-after τ s a .config)
+unfolding calculus.config-steps
 kept-first τ s a k = k (a ∷ []) 0 (record { before = s; call = a }) refl
 
-pub kept-after : (τ : TypeNumbers) (s : State) (a : calculus.Call) → AllKept τ s → AllKept τ (after τ s a)
-unfolding calculus.steps
+pub kept-after : (τ : TypeNumbers) (s : State) (a : calculus.ConfigCall) → AllKept τ s → AllKept τ (state-after τ s a)
+unfolding calculus.config-steps
 kept-after τ s a k run i n h = k (a ∷ run) (suc i) n h
 
 -- the step of the calculus's run at the same place
-pub data Simulates (τ : TypeNumbers) : Step → calculus.Step → Type 0 where
-  same : (s : State) (c : Call) → Kept (s .config) → Kept (after τ s (call-of c) .config) →
+pub data Simulates (τ : TypeNumbers) : Step → calculus.ConfigStep → Type 0 where
+  same : (s : State) (c : Call) → Kept (s .config) → Kept (state-after τ s (call-of c) .config) →
       Simulates τ (record { image = image-of (s .config); types = s .names; call = c }) (record { before = s; call = call-of c })
 
 pub simulates : (τ : TypeNumbers) (s : State) → AllKept τ s → (calls : List Call) (i : ℕ) (n : Step) →
     at (steps τ (image-of (s .config)) (s .names) calls) i ≡ some n →
-    (m : calculus.Step) × (at (calculus.steps τ s (map call-of calls)) i ≡ some m) × Simulates τ n m
-unfolding steps calculus.steps
+    (m : calculus.ConfigStep) × (at (calculus.config-steps τ s (map call-of calls)) i ≡ some m) × Simulates τ n m
+unfolding steps calculus.config-steps
 simulates τ s k [] i n h = absurd (clash (cc))
 simulates τ s k (c ∷ calls) zero n h =
     let e : record { image = image-of (s .config); types = s .names; call = c } ≡ n = cc in
@@ -49,4 +50,4 @@ simulates τ s k (c ∷ calls) (suc i) n h =
     let (f, g) = kept-first τ s (call-of c) k in
     let p = leaves-image τ s (f .keeps) (f .writable) c in
     let q = leaves-types τ s (f .keeps) (f .writable) c in
-    simulates τ (after τ s (call-of c)) (kept-after τ s (call-of c) k) calls i n (rw (p, q) at h)
+    simulates τ (state-after τ s (call-of c)) (kept-after τ s (call-of c) k) calls i n (rw (p, q) at h)

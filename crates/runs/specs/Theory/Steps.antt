@@ -8,8 +8,10 @@ use Rattle.calculus.specs.Syntax.{Config, EachAll}
 use Rattle.calculus.specs.Typing.{TypeNumbers}
 use Rattle.calculus.specs.NewTypes.{new-types}
 use Rattle.calculus.specs.Image.{ImageRule, Writable}
-use Rattle.calculus.specs.Run as calculus
-use Rattle.calculus.specs.Run.{State, Reply, moved, waits, finished, refuses, leaves, reply}
+use Rattle.calculus.specs.Theory.ConfigRuns as calculus
+use Rattle.calculus.specs.State.{State}
+use Rattle.calculus.specs.Reply.{Reply, moved, waits, finished, refuses}
+use Rattle.calculus.specs.Theory.ConfigRuns.{state-left, config-reply}
 use Rattle.calculus.specs.Theory.Tests.{clash}
 use Rattle.calculus.specs.Theory.ImageTest.{image-test-iff}
 use Rattle.image.specs.Configuration.{image-of, config-of}
@@ -19,7 +21,7 @@ use Rattle.step_spec.specs.Stepping.{step-reply, outcome-of-reply, out-after-re
 use Rattle.runs.specs.Run.{Call, Step, answer, image-left, left, types-by, types-left, Goes}
 
 -- the calculus's call: a buffer's length is all that counts
-abbrev pub call-of : Call → calculus.Call
+abbrev pub call-of : Call → calculus.ConfigCall
 call-of c = record { thread = c .thread; buffer = length (c .out) }
 
 -- what the answers say
@@ -37,7 +39,7 @@ answered-refused (waits y) number = (λ e. absurd (clash (cc)), λ e. absurd (cl
 answered-refused finished number = (λ e. absurd (clash (cc)), λ e. absurd (clash (cc)))
 answered-refused (refuses k) number = (λ e. cc, λ e. cc)
 
-pub answered-goes : (q : Reply) → calculus.Goes q → Goes (outcome-of-reply q)
+pub answered-goes : (q : Reply) → calculus.ReplyGoes q → Goes (outcome-of-reply q)
 unfolding outcome-of-reply
 answered-goes (moved rule C′) g = tt
 answered-goes (waits y) g = tt
@@ -51,34 +53,34 @@ module _ (τ : TypeNumbers) (s : State) (keeps : ImageRule (s .config)) (writabl
   reads : config-of (image-of (s .config)) ≡ s .config
   reads = read-again (s .config) keeps writable
 
-  pub replies : step-reply (image-of (s .config)) (c .thread) (length (c .out)) ≡ reply (s .config) (call-of c)
-  unfolding step-reply reply
+  pub replies : step-reply (image-of (s .config)) (c .thread) (length (c .out)) ≡ config-reply (s .config) (call-of c)
+  unfolding step-reply config-reply
   replies = rw (image-written (s .config) keeps writable, reads, image-test-iff (s .config) .1 keeps) refl
 
-  pub answers : answer handed ≡ outcome-of-reply (reply (s .config) (call-of c))
+  pub answers : answer handed ≡ outcome-of-reply (config-reply (s .config) (call-of c))
   unfolding outcome-of
   answers = ap outcome-of-reply replies
 
   -- it leaves the image of what the calculus's step leaves
-  pub leaves-image : left handed ≡ image-of (calculus.after τ s (call-of c) .config)
-  unfolding outcome-of out-after-step image-left outcome-of-reply out-after-reply leaves
-  leaves-image = ap (λ (q : Reply). image-left (outcome-of-reply q) (out-after-reply q (c .out)) (image-of (s .config))) replies ∙ go (reply (s .config) (call-of c))
+  pub leaves-image : left handed ≡ image-of (calculus.state-after τ s (call-of c) .config)
+  unfolding outcome-of out-after-step image-left outcome-of-reply out-after-reply state-left
+  leaves-image = ap (λ (q : Reply). image-left (outcome-of-reply q) (out-after-reply q (c .out)) (image-of (s .config))) replies ∙ go (config-reply (s .config) (call-of c))
     where
-      go : (q : Reply) → image-left (outcome-of-reply q) (out-after-reply q (c .out)) (image-of (s .config)) ≡ image-of (leaves τ s (c .thread) q .config)
+      go : (q : Reply) → image-left (outcome-of-reply q) (out-after-reply q (c .out)) (image-of (s .config)) ≡ image-of (state-left τ s (c .thread) q .config)
       go (moved rule C′) = take-append-seam (image-of C′) (drop (length (image-of C′)) (c .out))
       go (waits y) = refl
       go finished = refl
       go (refuses number) = refl
 
   -- and its names have the types that the calculus gives them
-  pub leaves-types : types-left τ handed ≡ calculus.after τ s (call-of c) .names
-  unfolding outcome-of types-by outcome-of-reply leaves
+  pub leaves-types : types-left τ handed ≡ calculus.state-after τ s (call-of c) .names
+  unfolding outcome-of types-by outcome-of-reply state-left
   leaves-types =
       ap (λ (q : Reply). types-by (outcome-of-reply q) (new-types τ (config-of (image-of (s .config))) (c .thread)) (s .names)) replies
-      ∙ ap (λ (C : Config). types-by (outcome-of-reply (reply (s .config) (call-of c))) (new-types τ C (c .thread)) (s .names)) reads
-      ∙ go (reply (s .config) (call-of c))
+      ∙ ap (λ (C : Config). types-by (outcome-of-reply (config-reply (s .config) (call-of c))) (new-types τ C (c .thread)) (s .names)) reads
+      ∙ go (config-reply (s .config) (call-of c))
     where
-      go : (q : Reply) → types-by (outcome-of-reply q) (new-types τ (s .config) (c .thread)) (s .names) ≡ leaves τ s (c .thread) q .names
+      go : (q : Reply) → types-by (outcome-of-reply q) (new-types τ (s .config) (c .thread)) (s .names) ≡ state-left τ s (c .thread) q .names
       go (moved rule C′) = refl
       go (waits y) = refl
       go finished = refl

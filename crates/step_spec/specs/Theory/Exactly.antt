@@ -1,26 +1,19 @@
 -- The second demand of a step: a rule answers exactly when Fig. 5 has that move and outcome and buffer fit, and then the new image is exactly that outcome's.
 -- What done, waiting, 14, 16 and 17 mean is the calculus's (Theory.Step): `step-is` hands each of them on.
-use mathlib.Core.Path.{_∙_, _≡_, ap, refl, sym}
+use mathlib.Core.Path.{_∙_, _≡_, refl, sym}
 use mathlib.Core.Logic.{_↔_}
-use mathlib.Core.Bool.{Bool, cond, false, true}
-use mathlib.Core.List.{List}
-use Prim.Native.Nat.{_≤_, _<_, ℕ}
-use native.Mathlib.Omega.{arith}
-use lib.Dec.{ltb}
-use lib.ListN.{length}
-use Rattle.calculus.specs.Bytes.{Bytes}
+use Prim.Native.Nat.{_≤_, ℕ}
 use Rattle.calculus.specs.Syntax.{Config, EachAll}
 use Rattle.calculus.specs.Reduction.{Rule, number, Reduces}
-use Rattle.calculus.specs.Step.{rule, waiting, done, no-thread, used-handle, wrong-kind, step-of}
+use Rattle.calculus.specs.Step.{step-of}
 use Rattle.calculus.specs.Limits.{max-image-length}
-use Rattle.calculus.specs.Image.{ImageRule, WithinLimits, limits-test, Writable}
-use Rattle.calculus.specs.Run.{Reply, moved, refuses, reply-of}
-use Rattle.calculus.specs.Theory.Tests.{clash, ltb-not}
+use Rattle.calculus.specs.Image.{ImageRule, WithinLimits, Writable}
+use Rattle.calculus.specs.Reply.{moved, reply-of}
+use Rattle.calculus.specs.Theory.Tests.{ltb-not}
 use Rattle.calculus.specs.Theory.Step.{rule-iff}
 use Rattle.calculus.specs.Theory.Replies.{moved-answer}
 use Rattle.calculus.specs.Theory.ImageTest.{limits-test-iff}
-use Rattle.image.specs.Configuration.{image-of, config-of}
-use Rattle.image.specs.Stands.{image-stands}
+use Rattle.image.specs.Configuration.{image-of}
 use Rattle.image.specs.Theory.Exactly.{read-again, image-written}
 use Rattle.step_spec.specs.Stepping.{step-reply}
 

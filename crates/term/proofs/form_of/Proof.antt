@@ -1,4 +1,4 @@
--- `terms::form_of` meets its contract: the table in the code is the table of `specs/`.
+-- `term::form_of` meets its contract: the table in the code is the table of `specs/`.
 use borrow.Author.Needs.{needs}
 use Rattle.term.specs.Forms.{forms, form-of}
 use Rattle.term.proofs.form_of.Statement.{statement}

@@ -1,4 +1,4 @@
--- `terms::node_at` meets its contract: the part from the position to the end is what is left when so many bytes are dropped.
+-- `term::node_at` meets its contract: the part from the position to the end is what is left when so many bytes are dropped.
 use mathlib.Core.Path.{ap, _∙_}
 use borrow.Author.Needs.{needs}
 use borrow.Rule.Slice.PartAt.{part-to-end}

@@ -1,4 +1,4 @@
--- `scans::leaf_scoped` meets its contract, by the test of the tag.
+-- `term_scan::leaf_scoped` meets its contract, by the test of the tag.
 use native.Mathlib.Omega.{arith}
 use Rattle.term_scan.proofs.Scopes.{scoped-name, scoped-op, scoped-plain, scoped-unknown, scoped-variable}
 use Rattle.term_scan.proofs.leaf_scoped.Statement.{statement}

@@ -1,4 +1,4 @@
--- `scans::nesting_within` meets its contract: the walk finds the end of a term exactly where it is not too deep.
+-- `term_scan::nesting_within` meets its contract: the walk finds the end of a term exactly where it is not too deep.
 use mathlib.Core.Path.{sym, _∙_}
 use borrow.Author.Needs.{needs}
 use Rattle.term_scan.proofs.Depths.{reach-is, reach-not}

@@ -1,4 +1,4 @@
--- `scans::scan` meets its contract, by that of `scan_small`.
+-- `term_scan::scan` meets its contract, by that of `scan_small`.
 use mathlib.Core.Path.{_∙_}
 use borrow.Author.Needs.{needs}
 use Rattle.term_scan.proofs.Answers.{small-all}

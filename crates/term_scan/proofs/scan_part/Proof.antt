@@ -1,4 +1,4 @@
--- `scans::scan_part` meets its contract: nothing stands after a term that ends with the bytes.
+-- `term_scan::scan_part` meets its contract: nothing stands after a term that ends with the bytes.
 use mathlib.Core.Path.{sym, _∙_}
 use borrow.Author.Needs.{needs}
 use Rattle.term_scan.proofs.Answers.{part-is, part-over, part-refused}

@@ -1,4 +1,4 @@
--- `scans::scan_scoped` meets its contract. The loop's invariant: the terms still to come, on the levels that the stack has, give the answer
+-- `term_scan::scan_scoped` meets its contract. The loop's invariant: the terms still to come, on the levels that the stack has, give the answer
 -- (proofs/Scanning.antt). The measure: a node takes a byte, and adds at most one lambda.
 use mathlib.Core.Path.{_≡_, sym, _∙_}
 use mathlib.Core.List.{List}

@@ -1,6 +1,6 @@
--- `scans::scan_small` meets its contract. The loop's invariant: reading the terms still to come from here on gives the answer (proofs/Many.antt), and
+-- `term_scan::scan_small` meets its contract. The loop's invariant: reading the terms still to come from here on gives the answer (proofs/Many.antt), and
 -- the nodes read are within the budget. The measure is what is still unread.
-use mathlib.Core.Path.{_≡_, ap, sym, _∙_}
+use mathlib.Core.Path.{ap, sym, _∙_}
 use Prim.Native.Nat.{_-_, _≤_, zero-le}
 use native.Mathlib.Omega.{arith}
 use borrow.Author.Needs.{needs}

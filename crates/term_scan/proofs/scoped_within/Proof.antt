@@ -1,4 +1,4 @@
--- `scans::scoped_within` meets its contract: of a term within the limit the scan says the scope.
+-- `term_scan::scoped_within` meets its contract: of a term within the limit the scan says the scope.
 use mathlib.Core.Path.{sym, _∙_}
 use borrow.Author.Needs.{needs}
 use Rattle.calculus.specs.Limits.{max-nodes}

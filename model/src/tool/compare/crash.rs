@@ -1,14 +1,14 @@
 //! A library that is stopped by a signal: what it was called with is told before the tool ends.
 //! Only what a signal's handler may do is done in it: numbers, and `write`.
 
-use std::ffi::{c_int, c_void};
+use crate::tool::terminal::STANDARD_ERROR;
+use std::os::raw::{c_int, c_void};
 use std::sync::atomic::{AtomicPtr, AtomicU64, AtomicUsize, Ordering};
 
 /// ILL, ABRT, BUS, FPE, SEGV.
 const SIGNALS: [c_int; 5] = [4, 6, 7, 8, 11];
 /// On the thread's own stack for signals, for the library may have used up the other one.
 const ON_STACK: c_int = 0x0800_0000;
-const STANDARD_ERROR: c_int = 2;
 
 /// `struct sigaction` of 64-bit Linux.
 #[repr(C)]
@@ -42,7 +42,7 @@ impl Lent {
     fn set(&self, bytes: &[u8]) {
         self.length.store(0, Ordering::SeqCst);
         self.start
-            .store(bytes.as_ptr().cast_mut(), Ordering::SeqCst);
+            .store(bytes.as_ptr() as *mut u8, Ordering::SeqCst);
         self.length.store(bytes.len(), Ordering::SeqCst);
     }
 

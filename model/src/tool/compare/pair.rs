@@ -12,7 +12,7 @@ use std::fmt::Debug;
 /// Room for the longest recipe or image that the generator makes.
 const INPUT_ROOM: usize = 1 << 17;
 /// Room for the longest out buffer.
-const OUT_ROOM: usize = 2 * limits::IMAGE_BYTES;
+const OUT_ROOM: usize = 2 * limits::MAX_IMAGE;
 
 /// Three answers as texts: A's, B's and the model's, each with its out buffer.
 #[derive(Debug, Default)]
@@ -81,8 +81,9 @@ impl Pair {
         let (out_a, out_b) = (patterned(out_a, room), patterned(out_b, room));
         crash::note_call("load", placed, 0, room);
         let found = both(|| self.a.load(placed, out_a), || self.b.load(placed, out_b));
-        let (Some(a), Some(b)) = found else {
-            return Ok(None);
+        let (a, b) = match found {
+            (Some(a), Some(b)) => (a, b),
+            _ => return Ok(None),
         };
         count(&mut self.counts.loads, a.refusal);
         if a == b && out_a == out_b {
@@ -115,8 +116,9 @@ impl Pair {
             || self.a.step(placed, thread, out_a),
             || self.b.step(placed, thread, out_b),
         );
-        let (Some(a), Some(b)) = found else {
-            return Ok(None);
+        let (a, b) = match found {
+            (Some(a), Some(b)) => (a, b),
+            _ => return Ok(None),
         };
         self.counts.note_step(&a);
         if a == b && out_a == out_b {

@@ -1,5 +1,6 @@
 //! Causes 1 to 3: the length, the opening bytes, the layout.
 
+use crate::causes;
 use crate::format::{first_offset, pairs, Pair};
 use crate::limits;
 use crate::tool::faults::{Fault, Place};
@@ -19,7 +20,7 @@ pub fn length(file: &[u8]) -> Result<(), Fault> {
         return Ok(());
     }
     let found = format!("the file has {} bytes", file.len());
-    refuse(1, Place::File, 0, found)
+    refuse(causes::FILE_LENGTH, Place::File, 0, found)
 }
 
 /// Cause 2.
@@ -30,15 +31,15 @@ pub fn opening(file: &[u8]) -> Result<(), Fault> {
             "bytes 0 and 1 are {:02X} {:02X}, not 4C 46",
             file[0], file[1]
         );
-        return refuse(2, Place::Opening, 0, found);
+        return refuse(causes::OPENING, Place::Opening, 0, found);
     }
     if file[2] != limits::EDITION {
         let found = format!("the edition is {:02X}, not 01", file[2]);
-        return refuse(2, Place::Opening, 2, found);
+        return refuse(causes::OPENING, Place::Opening, 2, found);
     }
     if !limits::PARTS.contains(&n) {
         let found = format!("n, the number of parts, is {n}");
-        return refuse(2, Place::Opening, 3, found);
+        return refuse(causes::OPENING, Place::Opening, 3, found);
     }
     Ok(())
 }
@@ -46,13 +47,16 @@ pub fn opening(file: &[u8]) -> Result<(), Fault> {
 /// Cause 3.
 pub fn layout(file: &[u8]) -> Result<(), Fault> {
     let n = usize::from(file[3]);
-    let Some(pairs) = pairs(file) else {
-        let found = format!(
-            "{n} pairs end at byte {}, and the file has {} bytes",
-            first_offset(n),
-            file.len()
-        );
-        return refuse(3, Place::Pair(n - 1), file.len(), found);
+    let pairs = match pairs(file) {
+        Some(pairs) => pairs,
+        None => {
+            let found = format!(
+                "{n} pairs end at byte {}, and the file has {} bytes",
+                first_offset(n),
+                file.len()
+            );
+            return refuse(causes::LAYOUT, Place::Pair(n - 1), file.len(), found);
+        }
     };
     let mut expected = first_offset(n);
     for (part, pair) in pairs.iter().enumerate() {
@@ -62,7 +66,7 @@ pub fn layout(file: &[u8]) -> Result<(), Fault> {
     if expected != file.len() {
         let over = file.len() - expected;
         let found = format!("the last part ends at byte {expected}, and {over} more bytes follow");
-        return refuse(3, Place::Pair(n - 1), expected, found);
+        return refuse(causes::LAYOUT, Place::Pair(n - 1), expected, found);
     }
     table_length(pairs[0].length)
 }
@@ -74,11 +78,11 @@ fn pair_is_sound(file: &[u8], part: usize, pair: Pair, expected: usize) -> Resul
             "the part's offset is {}, but the bytes before it end at {expected}",
             pair.offset
         );
-        return refuse(3, Place::Pair(part), at, found);
+        return refuse(causes::LAYOUT, Place::Pair(part), at, found);
     }
     if pair.length == 0 {
         let found = "the part's length is 0".to_owned();
-        return refuse(3, Place::Pair(part), at + 2, found);
+        return refuse(causes::LAYOUT, Place::Pair(part), at + 2, found);
     }
     let end = pair.offset + pair.length;
     if end > file.len() {
@@ -86,17 +90,17 @@ fn pair_is_sound(file: &[u8], part: usize, pair: Pair, expected: usize) -> Resul
             "the part ends at byte {end}, and the file has {} bytes",
             file.len()
         );
-        return refuse(3, Place::Pair(part), at + 2, found);
+        return refuse(causes::LAYOUT, Place::Pair(part), at + 2, found);
     }
     Ok(())
 }
 
 fn table_length(length: usize) -> Result<(), Fault> {
-    let entries = length / limits::ENTRY_BYTES;
-    let whole = length.is_multiple_of(limits::ENTRY_BYTES);
+    let entries = length / limits::ENTRY_LENGTH;
+    let whole = length % limits::ENTRY_LENGTH == 0;
     if whole && limits::ENTRIES.contains(&entries) {
         return Ok(());
     }
     let found = format!("the type table has {length} bytes");
-    refuse(3, Place::Pair(0), 6, found)
+    refuse(causes::LAYOUT, Place::Pair(0), 6, found)
 }

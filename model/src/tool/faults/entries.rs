@@ -1,7 +1,8 @@
 //! Cause 4: a type entry breaks its rule.
 
+use crate::causes;
 use crate::limits;
-use crate::table::{Entry, CELL, FIRST_ENTRIES, MANY, ONCE};
+use crate::table::{Entry, CELL, FIRST_ENTRIES, MANY, NUM, ONCE, UNIT};
 use crate::tool::faults::{Fault, Parts, Place};
 
 /// Cause 4.
@@ -10,9 +11,9 @@ pub fn entries(recipe: &Parts) -> Result<(), Fault> {
         if let Some(why) = broken(&recipe.entries, number, *entry) {
             let [kind, p, q] = entry.bytes();
             return Err(Fault {
-                number: 4,
+                number: causes::TYPE_ENTRY,
                 place: Place::Entry(number),
-                offset: recipe.table_offset() + limits::ENTRY_BYTES * number,
+                offset: recipe.table_offset() + limits::ENTRY_LENGTH * number,
                 found: format!("the entry is {kind:02X} {p:02X} {q:02X}: {why}"),
             });
         }
@@ -23,7 +24,7 @@ pub fn entries(recipe: &Parts) -> Result<(), Fault> {
 /// Which rule the entry breaks, if it breaks one.
 fn broken(entries: &[Entry], number: usize, entry: Entry) -> Option<String> {
     let first = FIRST_ENTRIES.get(number);
-    if first.is_some_and(|first| *first != entry) {
+    if first.map_or(false, |first| *first != entry) {
         let due = [
             "unit (00 00 00)",
             "num (01 00 00)",
@@ -46,7 +47,7 @@ fn broken_alone(number: usize, entry: Entry) -> String {
         CELL => high("p", entry.p),
         ONCE | MANY if usize::from(entry.p) >= number => high("p", entry.p),
         ONCE | MANY => high("q", entry.q),
-        0 | 1 => "p and q of unit and num must be 0".to_owned(),
+        UNIT | NUM => "p and q of unit and num must be 0".to_owned(),
         kind => format!("there is no kind {kind}"),
     }
 }

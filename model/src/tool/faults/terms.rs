@@ -1,5 +1,6 @@
 //! Causes 5 to 7: each part one term, within the limits, naming only what there is.
 
+use crate::causes;
 use crate::limits;
 use crate::nodes::{read_node, Node};
 use crate::tool::faults::{Fault, Parts, Place};
@@ -63,7 +64,7 @@ pub fn exactly_one(recipe: &Parts) -> Result<Vec<Vec<Node>>, Fault> {
                 "after the root's last byte".to_owned()
             };
             return Err(Fault {
-                number: 5,
+                number: causes::NO_TERM,
                 place: Place::Node(bay, at, path),
                 offset: recipe.node_offset(bay, &reading.nodes, at),
                 found,
@@ -96,15 +97,15 @@ pub fn limits(recipe: &Parts, terms: &[Vec<Node>]) -> Result<(), Fault> {
     let mut before = 0;
     for (bay, nodes) in terms.iter().enumerate() {
         let outline = Outline::of(nodes);
-        let is_deep = |at: &usize| outline.above[*at].nesting > limits::NESTING;
+        let is_deep = |at: &usize| outline.above[*at].nesting > limits::MAX_NESTING;
         if let Some(at) = (0..nodes.len()).find(is_deep) {
-            let found = format!("nesting {} (at most 100)", limits::NESTING + 1);
-            return Err(at_node(recipe, 6, (bay, at), nodes, found));
+            let found = format!("nesting {} (at most 100)", limits::MAX_NESTING + 1);
+            return Err(at_node(recipe, causes::TERM_SIZE, (bay, at), nodes, found));
         }
-        if before + nodes.len() > limits::NODES {
-            let at = limits::NODES - before;
+        if before + nodes.len() > limits::MAX_RECIPE_NODES {
+            let at = limits::MAX_RECIPE_NODES - before;
             let found = format!("node 1,025 of {total} (at most 1,024 over all terms)");
-            return Err(at_node(recipe, 6, (bay, at), nodes, found));
+            return Err(at_node(recipe, causes::TERM_SIZE, (bay, at), nodes, found));
         }
         before += nodes.len();
     }
@@ -130,7 +131,7 @@ pub fn names_something(recipe: &Parts, terms: &[Vec<Node>]) -> Result<(), Fault>
                 }
                 _ => continue,
             };
-            return Err(at_node(recipe, 7, (bay, at), nodes, found));
+            return Err(at_node(recipe, causes::SCOPE, (bay, at), nodes, found));
         }
     }
     Ok(())

@@ -1,5 +1,6 @@
 //! Causes 8 and 9: the types of lambdas and constants, and whether they agree.
 
+use crate::causes;
 use crate::nodes::{end_of_term, Node};
 use crate::table::Table;
 use crate::tool::faults::terms::at_node;
@@ -12,8 +13,9 @@ use crate::types::{is_instance, Constant};
 
 /// Cause 8.
 pub fn fit_types(recipe: &Parts, terms: &[Vec<Node>]) -> Result<(), Fault> {
-    let Some(table) = Table::read(&recipe.entries) else {
-        return Ok(());
+    let table = match Table::read(&recipe.entries) {
+        Some(table) => table,
+        None => return Ok(()),
     };
     let texts = TypeTexts::new(&recipe.entries, &UNICODE);
     for (bay, nodes) in terms.iter().enumerate() {
@@ -23,13 +25,13 @@ pub fn fit_types(recipe: &Parts, terms: &[Vec<Node>]) -> Result<(), Fault> {
                     .is_none()
                     .then(|| format!("the lambda's type is {}, no function", texts.told(*t))),
                 Node::Constant(c, t) => {
-                    let fits = table.get(*t).is_some_and(|whole| is_instance(*c, whole));
+                    let fits = table.get(*t).map_or(false, |whole| is_instance(*c, whole));
                     (!fits).then(|| unfit_constant(*c, &texts.told(*t)))
                 }
                 _ => None,
             };
             if let Some(found) = unfit {
-                return Err(at_node(recipe, 8, (bay, at), nodes, found));
+                return Err(at_node(recipe, causes::ANNOTATION, (bay, at), nodes, found));
             }
         }
     }
@@ -57,7 +59,7 @@ pub fn agree(recipe: &Parts, terms: &[Vec<Node>]) -> Result<(), Fault> {
         while let Some(at) = found {
             found = (at + 1..end_of_term(nodes, at)).find(disagrees);
             if let (None, Some((place, why))) = (found, disagreement(&printer, at)) {
-                return Err(at_node(recipe, 9, (bay, place), nodes, why));
+                return Err(at_node(recipe, causes::TYPE, (bay, place), nodes, why));
             }
         }
     }
@@ -88,10 +90,13 @@ fn body_disagrees(printer: &Printer, at: usize, whole: u8) -> Option<(usize, Str
 fn argument_disagrees(printer: &Printer, at: usize) -> Option<(usize, String)> {
     let term = |place| shortened(&printer.line(place, Standing::Alone));
     let applied = printer.types[at + 1]?;
-    let Some((parameter, _)) = function(printer.texts.entries, applied) else {
-        let found = printer.texts.told(applied);
-        let text = format!("{} is applied, and is {found}, no function", term(at + 1));
-        return Some((at + 1, text));
+    let parameter = match function(printer.texts.entries, applied) {
+        Some((parameter, _)) => parameter,
+        None => {
+            let found = printer.texts.told(applied);
+            let text = format!("{} is applied, and is {found}, no function", term(at + 1));
+            return Some((at + 1, text));
+        }
     };
     let place = printer.argument(at);
     let argument = printer.types[place]?;

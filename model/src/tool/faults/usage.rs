@@ -1,5 +1,6 @@
 //! Causes 10 and 11: once-variables, and the types of the bays.
 
+use crate::causes;
 use crate::nodes::{end_of_term, Node};
 use crate::table::{Entry, MANY, ONCE};
 use crate::tool::faults::terms::at_node;
@@ -12,7 +13,7 @@ use crate::tool::text::type_texts::TypeTexts;
 fn is_kind(entries: &[Entry], number: u8, kind: u8) -> bool {
     entries
         .get(usize::from(number))
-        .is_some_and(|e| e.kind == kind)
+        .map_or(false, |e| e.kind == kind)
 }
 
 /// Cause 10.
@@ -21,7 +22,7 @@ pub fn once(recipe: &Parts, terms: &[Vec<Node>]) -> Result<(), Fault> {
         let outline = Outline::of(nodes);
         for lambda in 0..nodes.len() {
             if let Some((at, found)) = misused(&recipe.entries, nodes, &outline, lambda) {
-                return Err(at_node(recipe, 10, (bay, at), nodes, found));
+                return Err(at_node(recipe, causes::LINEARITY, (bay, at), nodes, found));
             }
         }
     }
@@ -35,8 +36,9 @@ fn misused(
     outline: &Outline,
     lambda: usize,
 ) -> Option<(usize, String)> {
-    let Node::Lambda(t) = nodes[lambda] else {
-        return None;
+    let t = match nodes[lambda] {
+        Node::Lambda(t) => t,
+        _ => return None,
     };
     let (parameter, _) = function(entries, t)?;
     if !is_kind(entries, parameter, ONCE) {
@@ -91,7 +93,7 @@ pub fn bays_are_many(recipe: &Parts, terms: &[Vec<Node>]) -> Result<(), Fault> {
         let once = root.filter(|t| is_kind(&recipe.entries, *t, ONCE));
         if let Some(t) = once {
             let found = format!("the bay's type is {}, usable once", texts.told(t));
-            return Err(at_node(recipe, 11, (bay, 0), nodes, found));
+            return Err(at_node(recipe, causes::BAY_ONCE, (bay, 0), nodes, found));
         }
     }
     Ok(())

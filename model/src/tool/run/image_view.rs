@@ -1,10 +1,8 @@
 //! What a run shows of an image: its threads, and the settings.
 
-use crate::limits::{COUNT_BYTES, HEAD_BYTES};
-
-const THREAD: u8 = 1;
-const NUM_TAG: u8 = 4;
-const NAME_TAG: u8 = 9;
+use crate::kinds::THREAD;
+use crate::limits::{FIRST_HEAD, HEAD_LENGTH};
+use crate::tags;
 
 /// What the setting of a bay holds.
 #[derive(Debug, Clone, Copy, PartialEq, Eq)]
@@ -42,7 +40,7 @@ impl<'i> ImageView<'i> {
     }
 
     fn head(self, name: usize) -> usize {
-        COUNT_BYTES + HEAD_BYTES * name
+        FIRST_HEAD + HEAD_LENGTH * name
     }
 
     fn kind(self, name: usize) -> Option<u8> {
@@ -71,8 +69,8 @@ impl<'i> ImageView<'i> {
 
     fn vent(self, bay: usize) -> Vent {
         match self.expression(bay) {
-            Some([NUM_TAG, low, high]) => Vent::Open(u16::from_le_bytes([*low, *high])),
-            Some([NAME_TAG, name]) => Vent::Named(*name, self.value_of(*name)),
+            Some([tags::NUM, low, high]) => Vent::Open(u16::from_le_bytes([*low, *high])),
+            Some([tags::NAME, name]) => Vent::Named(*name, self.value_of(*name)),
             _ => Vent::Unknown,
         }
     }
@@ -85,8 +83,8 @@ impl<'i> ImageView<'i> {
                 return None;
             }
             match self.expression(usize::from(here))? {
-                [NUM_TAG, low, high] => return Some(u16::from_le_bytes([*low, *high])),
-                [NAME_TAG, next] => here = *next,
+                [tags::NUM, low, high] => return Some(u16::from_le_bytes([*low, *high])),
+                [tags::NAME, next] => here = *next,
                 _ => return None,
             }
         }

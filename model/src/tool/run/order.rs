@@ -27,7 +27,7 @@ impl Order {
         match self {
             Order::RoundRobin(from) => {
                 let later = open.iter().find(|thread| **thread >= *from);
-                let chosen = *later.or(open.first())?;
+                let chosen = *later.or_else(|| open.first())?;
                 *from = chosen + 1;
                 Some(chosen)
             }

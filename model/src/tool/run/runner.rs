@@ -62,7 +62,7 @@ impl<'a, I: Implementation> Runner<'a, I> {
         Runner {
             implementation,
             image,
-            out: vec![0; limits::IMAGE_BYTES],
+            out: vec![0; limits::MAX_IMAGE],
             finished: HashSet::new(),
             idle: HashSet::new(),
         }
@@ -113,7 +113,7 @@ impl<'a, I: Implementation> Runner<'a, I> {
 
     /// What a thread would answer now.
     pub fn answer(&self, thread: u64) -> Answer {
-        let mut out = vec![0; limits::IMAGE_BYTES];
+        let mut out = vec![0; limits::MAX_IMAGE];
         let stepped = self.implementation.step(&self.image, thread, &mut out);
         Answer::of(&stepped.unwrap_or_default())
     }

@@ -19,7 +19,7 @@ pub fn laid_out(printer: &Printer, indent: usize) -> String {
         .iter()
         .map(|above| above.nesting)
         .max();
-    if deepest > Some(limits::NESTING) {
+    if deepest > Some(limits::MAX_NESTING) {
         return printer.line(0, Standing::Alone);
     }
     let mut layout = Layout {
@@ -62,7 +62,7 @@ impl Layout<'_> {
 
     fn new_line(&mut self, indent: usize) {
         self.out.push('\n');
-        self.out.extend(std::iter::repeat_n(' ', indent));
+        self.out.extend(std::iter::repeat(' ').take(indent));
     }
 
     /// The lambdas that follow each other in one line, then the body.

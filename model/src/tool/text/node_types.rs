@@ -5,9 +5,9 @@ use crate::nodes::Node;
 use crate::table::{Entry, MANY, ONCE};
 use crate::tool::outline::Outline;
 
-const UNIT_NUMBER: u8 = 0;
-const NUM_NUMBER: u8 = 1;
-const SETTING_NUMBER: u8 = 2;
+const UNIT_ENTRY: u8 = 0;
+const NUM_ENTRY: u8 = 1;
+const SETTING_ENTRY: u8 = 2;
 
 /// Parameter and result of a function type.
 pub fn function(entries: &[Entry], number: u8) -> Option<(u8, u8)> {
@@ -22,9 +22,9 @@ pub fn node_types(entries: &[Entry], nodes: &[Node], outline: &Outline) -> Vec<O
     let mut done = Vec::new();
     for (at, node) in nodes.iter().enumerate().rev() {
         let found = match node {
-            Node::Unit => Some(UNIT_NUMBER),
-            Node::Num(_) => Some(NUM_NUMBER),
-            Node::Name(_) => Some(SETTING_NUMBER),
+            Node::Unit => Some(UNIT_ENTRY),
+            Node::Num(_) => Some(NUM_ENTRY),
+            Node::Name(_) => Some(SETTING_ENTRY),
             Node::Constant(_, t) => known(entries, *t),
             Node::Lambda(t) => {
                 done.pop();

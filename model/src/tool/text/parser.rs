@@ -106,8 +106,9 @@ impl<'t> Parser<'t> {
 
     /// A number up to `most`.
     pub fn number(&mut self, what: &str, most: u16) -> Result<u16, TextError> {
-        let Token::Number(text) = self.peek() else {
-            return Err(self.expected(what));
+        let text = match self.peek() {
+            Token::Number(text) => text,
+            _ => return Err(self.expected(what)),
         };
         let value = text.parse().ok().filter(|value| *value <= most);
         let value = value.ok_or_else(|| self.expected(&format!("{what}, at most {most}")))?;
@@ -153,7 +154,7 @@ impl<'t> Parser<'t> {
             return Err(self.expected(&format!("{due}{more}")));
         }
         self.advance();
-        if bay >= limits::BAYS {
+        if bay >= limits::MAX_BAYS {
             return Err(error(here, "a recipe has at most 16 bays".to_owned()));
         }
         if self.peek() != Token::Number(&bay.to_string()) {

@@ -131,7 +131,7 @@ impl<'t> Parser<'t> {
     fn leaf(&mut self, place: Position) -> Result<(Node, Result<u8, TextError>), TextError> {
         match self.peek() {
             Token::Number(_) => {
-                let value = self.number("a num", limits::NUM)?;
+                let value = self.number("a num", limits::MAX_NUM)?;
                 Ok((Node::Num(value), Ok(1)))
             }
             Token::Sign('@') => {

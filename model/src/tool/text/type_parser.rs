@@ -105,8 +105,9 @@ impl Parser<'_> {
 
     /// The entry that a word such as `t5` names.
     fn listed(&self, token: Token) -> Result<Entry, TextError> {
-        let Some(number) = numbered(token) else {
-            return Err(self.expected("a type"));
+        let number = match numbered(token) {
+            Some(number) => number,
+            None => return Err(self.expected("a type")),
         };
         let found = self.types.entries.get(usize::from(number)).copied();
         let text = || format!("there is no t{number} so far");
@@ -116,8 +117,9 @@ impl Parser<'_> {
 
 /// The number of a word such as `t5`.
 fn numbered(token: Token) -> Option<u8> {
-    let Token::Word(word) = token else {
-        return None;
+    let word = match token {
+        Token::Word(word) => word,
+        _ => return None,
     };
     let digits = word.strip_prefix('t')?;
     let plain = digits.chars().all(|c| c.is_ascii_digit());

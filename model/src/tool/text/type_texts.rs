@@ -62,7 +62,7 @@ impl<'a> TypeTexts<'a> {
 
     fn is_function(&self, number: u8) -> bool {
         let e = self.entries.get(usize::from(number));
-        e.is_some_and(|e| e.kind == ONCE || e.kind == MANY)
+        e.map_or(false, |e| e.kind == ONCE || e.kind == MANY)
     }
 
     /// `unit`, `num`, `num ref`, else the number: `t7`.

@@ -1,35 +1,40 @@
 -- The third demand, of every run of every accepted recipe: from the calculus's claim, step by step.
 use mathlib.Core.Path.{_∙_, _≡_, refl, sym}
 use mathlib.Core.Logic.{_↔_}
-use mathlib.Core.Bool.{Bool, cond, false, true}
 use mathlib.Core.List.{List, map}
 use Prim.Native.Nat.{_≤_, ℕ}
-use lib.Dec.{eqb}
 use lib.ListN.{drop, length}
 use lib.Seq.{take-append-seam}
 use Rattle.calculus.specs.Syntax.{Config, at}
+use Rattle.calculus.specs.Reduction.{HANDLE-BIND, number}
 use Rattle.calculus.specs.Typing.{TypeNumbers}
 use Rattle.calculus.specs.Limits.{max-image-length}
-use Rattle.calculus.specs.Run as calculus
-use Rattle.calculus.specs.Run.{State, ValuesTyped, after, reply, refuses}
+use Rattle.calculus.specs.Causes.{buffer-cause, image-cause, no-thread-cause, used-handle-cause, wrong-kind-cause}
+use Rattle.calculus.specs.Theory.ConfigRuns as calculus
+use Rattle.calculus.specs.State.{State, ValuesTyped}
+use Rattle.calculus.specs.Reply.{refuses}
+use Rattle.calculus.specs.Theory.ConfigRuns.{state-after, config-reply}
 use Rattle.calculus.specs.Bytes.{Bytes}
 use Rattle.calculus.specs.Table.{type-at}
 use Rattle.calculus.specs.Recipe.{start}
-use Rattle.calculus.specs.Theory.Tests.{eqb-sound, ltb-not}
+use Rattle.calculus.specs.Theory.Tests.{ltb-not}
 use Rattle.calculus.specs.Theory.Claim.{demand, images}
 use Rattle.recipe_table.specs.Entries.{type-table}
 use Rattle.check_spec.specs.Bays.{bay-terms}
-use Rattle.check_spec.specs.Verdict.{accepted, refusal, refused as refused-by, verdict-of}
+use Rattle.check_spec.specs.Verdict.{accepted, refusal}
 use Rattle.check_spec.specs.Recipe.{Recipe}
 use Rattle.check_spec.specs.Theory.Accepted.{accepted-exactly, admitted, table-is, terms-are}
 use Rattle.load_spec.specs.Starting.{starting-image}
-use Rattle.load_spec.specs.Loading as load
+use Rattle.load_spec.specs.Loading.{loaded-of, load-refusal, out-after-load}
 use Rattle.image.specs.Configuration.{image-of, config-of}
 use Rattle.image.specs.Theory.Exactly.{read-again}
-use Rattle.step_spec.specs.declared.Outcome.the-variants.{Refused}
-use Rattle.runs.specs.Run.{Call, Step, answer, left, types-left, Applies, Binds, IsThread, Goes, ValuesTypedIn, Demand, image-loaded, ThirdDemand}
+use Rattle.step_spec.specs.declared.Outcome.the-variants.{Rule, Refused}
+use Rattle.runs.specs.Run.{Call, Step, answer, left, types-left, Applies, Binds, IsThread, Goes, ValuesTypedIn, image-loaded}
+use Rattle.check_spec.specs.Theory.Answers.{refusal-is}
+use Rattle.demands.specs.Demands.{RunDemand, ThirdDemand}
 use Rattle.runs.specs.Theory.Steps.{call-of, answered-rule, answered-refused, answered-goes, answers, leaves-image, leaves-types}
+use Rattle.runs.specs.Theory.Binding.{rule-5}
 use Rattle.runs.specs.Theory.Simulates.{Kept, AllKept, kept-first, Simulates, same, simulates}
 
 -- an image says its configuration
 reads : {C : Config} → Kept C → config-of (image-of C) ≡ C
@@ -37,36 +42,40 @@ reads {C} k = read-again C (k .keeps) (k .writable)
 
 -- what is said of a step in bytes and of the calculus's
 module _ {τ : TypeNumbers} where
-  applies : {n : Step} {m : calculus.Step} → Simulates τ n m → {z : ℕ} → Applies n z → calculus.Applies m z
+  applies : {n : Step} {m : calculus.ConfigStep} → Simulates τ n m → {z : ℕ} → Applies n z → calculus.ConfigApplies m z
   applies (same s c k l) (size, e, f) =
-      let (C′, g) = answered-rule (reply (s .config) (call-of c)) (sym (answers τ s (k .keeps) (k .writable) c) ∙ e) in
+      let (C′, g) = answered-rule (config-reply (s .config) (call-of c)) (sym (answers τ s (k .keeps) (k .writable) c) ∙ e) in
       (C′, g, rw (reads k) at f)
 
-  binds : {n : Step} {m : calculus.Step} → Simulates τ n m → {y : ℕ} → Binds n y → calculus.Binds m y
+  binds : {n : Step} {m : calculus.ConfigStep} → Simulates τ n m → {y : ℕ} → Binds n y → calculus.ConfigBinds m y
   binds (same s c k l) (z, a, h) = (z, applies (same s c k l) a, rw (reads k) at h)
 
-  refused : {n : Step} {m : calculus.Step} → Simulates τ n m → (number : ℕ) → (answer n ≡ Refused number) ↔ (calculus.replied m ≡ refuses number)
+  binding : {n : Step} {m : calculus.ConfigStep} → Simulates τ n m → (size : ℕ) → answer n ≡ Rule (number HANDLE-BIND) size → (z y : ℕ) × Applies n z × Binds n y
+  binding (same s c k l) = rule-5 τ s (k .keeps) (k .writable) c
+
+  refused : {n : Step} {m : calculus.ConfigStep} → Simulates τ n m → (number : ℕ) → (answer n ≡ Refused number) ↔ (calculus.config-replied m ≡ refuses number)
   refused (same s c k l) number =
       let a = answers τ s (k .keeps) (k .writable) c in
-      let (there, back) = answered-refused (reply (s .config) (call-of c)) number in
+      let (there, back) = answered-refused (config-reply (s .config) (call-of c)) number in
       (λ e. there (sym a ∙ e), λ e. a ∙ back e)
 
-  is-thread : {n : Step} {m : calculus.Step} → Simulates τ n m → IsThread n ↔ calculus.IsThread m
+  is-thread : {n : Step} {m : calculus.ConfigStep} → Simulates τ n m → IsThread n ↔ calculus.ConfigIsThread m
   is-thread (same s c k l) = (λ (e, h). (e, rw (reads k) at h), λ (e, h). (e, rw (reads k) h))
 
-  buffer : {n : Step} {m : calculus.Step} → Simulates τ n m → m .call .buffer ≡ length (n .call .out)
+  buffer : {n : Step} {m : calculus.ConfigStep} → Simulates τ n m → m .call .buffer ≡ length (n .call .out)
   buffer (same s c k l) = refl
 
-  goes : {n : Step} {m : calculus.Step} → Simulates τ n m → calculus.Goes (calculus.replied m) → Goes (answer n)
-  goes (same s c k l) g = rw (answers τ s (k .keeps) (k .writable) c) (answered-goes (reply (s .config) (call-of c)) g)
+  goes : {n : Step} {m : calculus.ConfigStep} → Simulates τ n m → calculus.ReplyGoes (calculus.config-replied m) → Goes (answer n)
+  goes (same s c k l) g = rw (answers τ s (k .keeps) (k .writable) c) (answered-goes (config-reply (s .config) (call-of c)) g)
 
-  typed-left : {n : Step} {m : calculus.Step} → Simulates τ n m → ValuesTyped τ (after τ (m .before) (m .call)) → ValuesTypedIn τ (left n) (types-left τ n)
+  typed-left : {n : Step} {m : calculus.ConfigStep} → Simulates τ n m → ValuesTyped τ (state-after τ (m .before) (m .call)) → ValuesTypedIn τ (left n) (types-left τ n)
   typed-left (same s c k l) v =
       rw (leaves-image τ s (k .keeps) (k .writable) c, leaves-types τ s (k .keeps) (k .writable) c, reads l) v
 
-module _ (τ : TypeNumbers) (s : State) (kept : AllKept τ s) (claim : (run : List calculus.Call) → calculus.Demand τ s run) (calls : List Call) where
-  pub run-demand : Demand τ (image-of (s .config)) (s .names) calls
+module _ (τ : TypeNumbers) (s : State) (kept : AllKept τ s) (claim : (run : List calculus.ConfigCall) → calculus.ConfigDemand τ s run) (calls : List Call) where
+  run-demand : RunDemand τ (image-of (s .config)) (s .names) calls
   run-demand = record {
+    applies = λ i n size p e. let (n′, p′, u) = simulates τ s kept calls i n p in binding u size e;
     one-application = λ z i j m n p q am an.
         let (m′, p′, u) = simulates τ s kept calls i m p in
         let (n′, q′, v) = simulates τ s kept calls j n q in
@@ -78,15 +87,15 @@ module _ (τ : TypeNumbers) (s : State) (kept : AllKept τ s) (claim : (run : Li
     no-13-16-17 = λ i n p.
         let (n′, p′, u) = simulates τ s kept calls i n p in
         let (a, b, c) = claim (map call-of calls) .no-13-16-17 i n′ p′ in
-        (λ e. a (refused u 13 .0 e), λ e. b (refused u 16 .0 e), λ e. c (refused u 17 .0 e));
+        (λ e. a (refused u image-cause .0 e), λ e. b (refused u used-handle-cause .0 e), λ e. c (refused u wrong-kind-cause .0 e));
     twelve = λ i n p.
         let (n′, p′, u) = simulates τ s kept calls i n p in
         let (there, back) = claim (map call-of calls) .twelve i n′ p′ in
-        (λ e. rw (buffer u) at (there (refused u 12 .0 e)), λ l. refused u 12 .1 (back (rw (buffer u) l)));
+        (λ e. rw (buffer u) at (there (refused u buffer-cause .0 e)), λ l. refused u buffer-cause .1 (back (rw (buffer u) l)));
     fourteen = λ i n p long.
         let (n′, p′, u) = simulates τ s kept calls i n p in
         let (there, back) = claim (map call-of calls) .fourteen i n′ p′ (rw (buffer u) long) in
-        (λ e t. there (refused u 14 .0 e) (is-thread u .0 t), λ no. refused u 14 .1 (back (λ t. no (is-thread u .1 t))));
+        (λ e t. there (refused u no-thread-cause .0 e) (is-thread u .0 t), λ no. refused u no-thread-cause .1 (back (λ t. no (is-thread u .1 t))));
     otherwise = λ i n p long t.
         let (n′, p′, u) = simulates τ s kept calls i n p in
         goes u (claim (map call-of calls) .otherwise i n′ p′ (rw (buffer u) long) (is-thread u .0 t));
@@ -108,20 +117,11 @@ module _ (file : List ℕ) (b : Bytes file) (accepted : refusal file ≡ 0) wher
 
   -- the load leaves the starting image in the first bytes, as many as it answers
   loaded-is : (out : List ℕ) → max-image-length ≤ length out → image-loaded file out ≡ starting-image file
-  unfolding load.loaded-of load.out-after-load load.load-refusal
+  unfolding loaded-of out-after-load load-refusal
   loaded-is out long = rw (ltb-not (length out) max-image-length long, accepted) (take-append-seam (starting-image file) (drop (length (starting-image file)) out))
-
--- the verdict is 0 exactly where no cause fits
-verdict-zero : (file : List ℕ) → verdict-of file .refusal ≡ 0 → refusal file ≡ 0
-unfolding verdict-of
-verdict-zero file e = go (eqb (refusal file) 0) refl e
-  where
-    go : (t : Bool) → eqb (refusal file) 0 ≡ t → cond t (accepted file) (refused-by (refusal file)) .refusal ≡ 0 → refusal file ≡ 0
-    go true q e = eqb-sound (refusal file) 0 q
-    go false q e = e
 
 pub third-demand : ThirdDemand
 unfolding starting-image
 third-demand file b v out long calls =
-    let a = verdict-zero file v in
+    let a = sym (refusal-is file) ∙ v in
     rw (loaded-is file b a out long) (run-demand (type-at (type-table file)) (start (type-table file) (bay-terms file)) (all-kept file b a) (demand (admitted (says file b a))) calls)

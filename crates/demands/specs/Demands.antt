@@ -1,0 +1,186 @@
+-- The three demands, each as one type. A check answers `verdict-of`; a load answers `loaded-of` and leaves `out-after-load`; a step answers `outcome-of` and leaves
+-- `out-after-step`: the right-hand sides of the contracts of fikarehu_check, fikarehu_load and fikarehu_step. Quoted is document 01.
+use mathlib.Core.Path.{_≡_}
+use mathlib.Core.Logic.{_↔_}
+use mathlib.Core.Bool.{Bool, false, true}
+use mathlib.Core.Option.{some}
+use mathlib.Core.List.{List, [], _∷_, _++_}
+use Prim.Native.Nat.{ℕ, _<_, _≤_}
+use lib.ListN.{length, drop, getD}
+use Rattle.calculus.specs.Bytes.{Bytes}
+use Rattle.calculus.specs.Limits.{max-bays, max-image-length}
+use Rattle.calculus.specs.Causes.{buffer-cause, image-cause, no-thread-cause, room-cause, used-handle-cause, wrong-kind-cause}
+use Rattle.calculus.specs.Types.{many, LinType, multiplicity}
+use Rattle.calculus.specs.Syntax.{Exp, Value, thread-of, Config, at, EachAll}
+use Rattle.calculus.specs.Typing.{TypeNumbers, Derivation}
+use Rattle.calculus.specs.Reduction.{HANDLE-BIND, Rule as RuleName, number, Reduces}
+use Rattle.calculus.specs.Step.{Needs, Unready, AppliesUsed, Meets}
+use Rattle.calculus.specs.Image.{ImageRule, WithinLimits, Writable}
+use Rattle.calculus.specs.Table.{Table, type-at}
+use Rattle.calculus.specs.Verdict.{cause-7, cause-8, cause-9, cause-10, cause-11}
+use Rattle.calculus.specs.Recipe.{setting-types, start}
+use Rattle.recipe_file.specs.File.{cause-1, cause-2, cause-3}
+use Rattle.recipe_table.specs.Entries.{type-table, cause-4}
+use Rattle.check_spec.specs.Bays.{bay-terms, cause-5, cause-6}
+use Rattle.check_spec.specs.Verdict.{refused, verdict-of}
+use Rattle.check_spec.specs.Recipe.{Recipe}
+use Rattle.image.specs.Configuration.{image-of}
+use Rattle.load_spec.specs.Loading.{not-loaded, loaded-of, out-after-load}
+use Rattle.step_spec.specs.declared.Outcome.the-variants.{Rule, Done, Waiting, Refused}
+use Rattle.step_spec.specs.Stepping.{outcome-of, out-after-step}
+use Rattle.runs.specs.Run.{Call, Step, answer, left, types-left, steps, Applies, Binds, IsThread, Goes, ValuesTypedIn, image-loaded, types-loaded}
+
+-- the table of causes: whether cause n, from 1 to 11, fits a file
+abbrev pub cause-fits : List ℕ → ℕ → Bool
+cause-fits s n =
+    getD (
+    false
+    ∷ cause-1 s
+    ∷ cause-2 s
+    ∷ cause-3 s
+    ∷ cause-4 s
+    ∷ cause-5 s
+    ∷ cause-6 s
+    ∷ cause-7 (type-table s) (bay-terms s)
+    ∷ cause-8 (type-table s) (bay-terms s)
+    ∷ cause-9 (type-table s) (bay-terms s)
+    ∷ cause-10 (type-table s) (bay-terms s)
+    ∷ cause-11 (type-table s) (bay-terms s)
+    ∷ []
+    ) n false
+
+-- "The lowest number that fits wins"; 0 where none fits
+pub record Lowest (fits : ℕ → Bool) (n : ℕ) : Type 0 where
+  pub one-that-fits : ¬ (n ≡ 0) → fits n ≡ true
+  pub none-lower : (k : ℕ) → fits k ≡ true → (¬ (n ≡ 0)) × (n ≤ k)
+
+-- The first demand: "Whatever is wrong with a recipe, an image, a thread number or a lent buffer, the call ends, refuses with the number that the documents fix, and
+-- writes nothing." Nothing is asked of the bytes, the number or the buffer. That the call ends, Rattle proves of every function.
+pub record FirstDemand : Type 0 where
+  -- "The lowest number that fits wins, each cause tried over the whole file"
+  pub check-number : (file : List ℕ) → Lowest (cause-fits file) (verdict-of file .refusal)
+  -- "loading and stepping try 12 first": "out buffer under 13,826 bytes"
+  pub load-12 : (file out : List ℕ) → (loaded-of file (length out) .refusal ≡ buffer-cause) ↔ (length out < max-image-length)
+  pub load-number : (file out : List ℕ) → ¬ (length out < max-image-length) → loaded-of file (length out) .refusal ≡ verdict-of file .refusal
+  pub step-12 : (image : List ℕ) (x : ℕ) (out : List ℕ) → (outcome-of image x out ≡ Refused buffer-cause) ↔ (length out < max-image-length)
+  -- a step refuses with 12 to 17; when with which, the second demand says
+  pub step-number : (image : List ℕ) (x : ℕ) (out : List ℕ) (n : ℕ) → outcome-of image x out ≡ Refused n → (buffer-cause ≤ n) × (n ≤ wrong-kind-cause)
+  -- "Returned: number": on a refusal every other field is 0
+  pub check-number-alone : (file : List ℕ) → ¬ (verdict-of file .refusal ≡ 0) → verdict-of file ≡ refused (verdict-of file .refusal)
+  pub load-number-alone : (file : List ℕ) (room : ℕ) → ¬ (loaded-of file room .refusal ≡ 0) → loaded-of file room ≡ not-loaded (loaded-of file room .refusal)
+  -- "Left as it was: all"; "Nothing is written on done or waiting"
+  pub load-writes-nothing : (file out : List ℕ) → ¬ (loaded-of file (length out) .refusal ≡ 0) → out-after-load file out ≡ out
+  pub step-writes-nothing : (image : List ℕ) (x : ℕ) (out : List ℕ) → ((rule size : ℕ) → ¬ (outcome-of image x out ≡ Rule rule size)) → out-after-step image x out ≡ out
+
+-- a file that says a recipe which the papers accept: table and terms
+pub record Accepted (file : List ℕ) : Type 0 where
+  pub table : Table
+  pub terms : List Exp
+  pub recipe : Recipe file table terms
+
+-- a slice that is the image of a configuration, every rule and limit of "The image" kept
+pub record ImageOf (s : List ℕ) (C : Config) : Type 0 where
+  pub bytes : s ≡ image-of C
+  pub rule : ImageRule C
+  pub writable : EachAll Writable C
+
+-- what an answer of a step to the slice s means, where P is what it says of the configuration: 12 and 13 do not fit
+pub record Means (s out : List ℕ) (P : Config → Type 0) : Type 0 where
+  pub long : max-image-length ≤ length out
+  pub config : Config
+  pub image : ImageOf s config
+  pub says : P config
+
+-- "a rule applies": Fig. 5 has a move of thread x by the rule with this number, to a configuration within the limits whose image has this length
+pub record Moves (x rule size : ℕ) (C : Config) : Type 0 where
+  pub by : RuleName
+  pub outcome : Config
+  pub move : Reduces C x by outcome
+  pub limits : WithinLimits outcome
+  pub numbered : rule ≡ number by
+  pub measured : size ≡ length (image-of outcome)
+
+-- "a rule applies, outcome above 256 names or 4,096 nodes"
+pub record LacksRoom (x : ℕ) (C : Config) : Type 0 where
+  pub by : RuleName
+  pub outcome : Config
+  pub move : Reduces C x by outcome
+  pub above : ¬ WithinLimits outcome
+
+-- "two values meet, neither a rule, nor waiting, nor 16"
+pub record WrongKind (x : ℕ) (C : Config) : Type 0 where
+  pub meets : Meets C x
+  pub no-rule : (by : RuleName) (C′ : Config) → ¬ Reduces C x by C′
+  pub no-waiting : (y : ℕ) → ¬ (Needs C x y × Unready C y)
+  pub not-16 : ¬ AppliesUsed C x
+
+-- The second demand: "A recipe within the limits is accepted exactly when each bay's term has a derivation under the paper's linear rules .., under a many type. Exactly
+-- those are loaded, as the starting image. A thread is stepped exactly when a rule moves it and outcome and buffer fit; the new image is exactly what the rule gives."
+pub record SecondDemand : Type 0 where
+  -- accepted exactly when; the file says one recipe
+  pub accepted : (file : List ℕ) → Bytes file → (verdict-of file .refusal ≡ 0) ↔ Accepted file
+  pub one-recipe : (file : List ℕ) (T T′ : Table) (es es′ : List Exp) → Recipe file T es → Recipe file T′ es′ → (T ≡ T′) × (es ≡ es′)
+  -- "Accepting answers b and each bay's type number"; types beyond the bays are 0
+  pub bays : (file : List ℕ) (T : Table) (es : List Exp) → Recipe file T es → verdict-of file .bays ≡ length es
+  pub types : (file : List ℕ) (T : Table) (es : List Exp) → Recipe file T es → (bay : ℕ) (e : Exp) → at es bay ≡ some e → (α : LinType) →
+      (type-at T (getD (verdict-of file .types) bay 0) ≡ some α) ↔ Derivation (type-at T) (setting-types (length es)) [] e α
+  pub many-types : (file : List ℕ) (T : Table) (es : List Exp) → Recipe file T es → (bay : ℕ) (e : Exp) → at es bay ≡ some e →
+      (α : LinType) × (type-at T (getD (verdict-of file .types) bay 0) ≡ some α) × (multiplicity α ≡ many)
+  pub types-beyond : (file : List ℕ) (T : Table) (es : List Exp) → Recipe file T es → (bay : ℕ) → length es ≤ bay → getD (verdict-of file .types) bay 0 ≡ 0
+  pub types-length : (file : List ℕ) → length (verdict-of file .types) ≡ max-bays
+  -- loaded exactly when; "loading also the image's length": what a check answers, and the starting image's length
+  pub loaded : (file out : List ℕ) → Bytes file → (loaded-of file (length out) .refusal ≡ 0) ↔ (Accepted file × (max-image-length ≤ length out))
+  pub loaded-answer : (file : List ℕ) (T : Table) (es : List Exp) → Recipe file T es → (out : List ℕ) → max-image-length ≤ length out →
+      (loaded-of file (length out) .bays ≡ verdict-of file .bays) × (loaded-of file (length out) .types ≡ verdict-of file .types) ×
+      (loaded-of file (length out) .length ≡ length (image-of (start T es .config)))
+  -- "After a load .. the out buffer holds the image in its first bytes and is unchanged beyond"
+  pub loaded-image : (file : List ℕ) → Bytes file → (T : Table) (es : List Exp) → Recipe file T es → (out : List ℕ) → max-image-length ≤ length out →
+      (out-after-load file out ≡ image-of (start T es .config) ++ drop (length (image-of (start T es .config))) out) × (length (image-of (start T es .config)) ≤ length out)
+  -- "A step answers with its rule and the new image's length"
+  pub rule : (s : List ℕ) → Bytes s → (x : ℕ) (out : List ℕ) (rule size : ℕ) → (outcome-of s x out ≡ Rule rule size) ↔ Means s out (Moves x rule size)
+  -- "After a .. step the out buffer holds the image in its first bytes and is unchanged beyond"
+  pub rule-image : (s : List ℕ) (C C′ : Config) (x : ℕ) (by : RuleName) (out : List ℕ) → ImageOf s C → Reduces C x by C′ → WithinLimits C′ → max-image-length ≤ length out →
+      (out-after-step s x out ≡ image-of C′ ++ drop (length (image-of C′)) out) × (length (image-of C′) ≤ length out)
+  -- "A thread whose expression is a value .. answers done"
+  pub done : (s : List ℕ) → Bytes s → (x : ℕ) (out : List ℕ) → (outcome-of s x out ≡ Done) ↔ Means s out (λ C. (v : Exp) × Value v × (at C x ≡ some (thread-of v)))
+  -- "A thread that needs the value of a thread not done, or of a future not bound, answers waiting with that name"
+  pub waiting : (s : List ℕ) → Bytes s → (x : ℕ) (out : List ℕ) (y : ℕ) → (outcome-of s x out ≡ Waiting y) ↔ Means s out (λ C. Needs C x y × Unready C y)
+  -- 13: "image breaks a rule or limit under "The image""
+  pub thirteen : (s : List ℕ) → Bytes s → (x : ℕ) (out : List ℕ) →
+      (outcome-of s x out ≡ Refused image-cause) ↔ ((max-image-length ≤ length out) × ((C : Config) → ¬ ImageOf s C))
+  -- 14: "number is no thread"
+  pub fourteen : (s : List ℕ) → Bytes s → (x : ℕ) (out : List ℕ) →
+      (outcome-of s x out ≡ Refused no-thread-cause) ↔ Means s out (λ C. (e : Exp) → ¬ (at C x ≡ some (thread-of e)))
+  -- 15: "a rule applies, outcome above 256 names or 4,096 nodes"
+  pub fifteen : (s : List ℕ) → Bytes s → (x : ℕ) (out : List ℕ) → (outcome-of s x out ≡ Refused room-cause) ↔ Means s out (LacksRoom x)
+  -- 16: "used handle applied"
+  pub sixteen : (s : List ℕ) → Bytes s → (x : ℕ) (out : List ℕ) → (outcome-of s x out ≡ Refused used-handle-cause) ↔ Means s out (λ C. AppliesUsed C x)
+  -- 17: "two values meet, neither a rule, nor waiting, nor 16"
+  pub seventeen : (s : List ℕ) → Bytes s → (x : ℕ) (out : List ℕ) → (outcome-of s x out ≡ Refused wrong-kind-cause) ↔ Means s out (WrongKind x)
+
+-- the third demand of the calls from this image with these types
+pub record RunDemand (τ : TypeNumbers) (image : List ℕ) (types : List LinType) (calls : List Call) : Type 0 where
+  -- "A step that answers rule 5 applies the handle whose name is the function at its place, and binds the future that is this handle's companion"
+  pub applies : (i : ℕ) (n : Step) (size : ℕ) → at (steps τ image types calls) i ≡ some n → answer n ≡ Rule (number HANDLE-BIND) size → (z y : ℕ) × Applies n z × Binds n y
+  -- "no handle is applied in two of its steps"
+  pub one-application : (z i j : ℕ) (m n : Step) → at (steps τ image types calls) i ≡ some m → at (steps τ image types calls) j ≡ some n → Applies m z → Applies n z → i ≡ j
+  -- "and no future is bound in two"
+  pub one-binding : (y i j : ℕ) (m n : Step) → at (steps τ image types calls) i ≡ some m → at (steps τ image types calls) j ≡ some n → Binds m y → Binds n y → i ≡ j
+  -- "no step answers 13, 16 or 17"
+  pub no-13-16-17 : (i : ℕ) (n : Step) → at (steps τ image types calls) i ≡ some n →
+      (¬ (answer n ≡ Refused image-cause)) × (¬ (answer n ≡ Refused used-handle-cause)) × (¬ (answer n ≡ Refused wrong-kind-cause))
+  -- "a step answers 12 exactly when its out buffer is under 13,826 bytes"
+  pub twelve : (i : ℕ) (n : Step) → at (steps τ image types calls) i ≡ some n → (answer n ≡ Refused buffer-cause) ↔ (length (n .call .out) < max-image-length)
+  -- "otherwise 14 exactly when its number is no thread of the image handed in"
+  pub fourteen : (i : ℕ) (n : Step) → at (steps τ image types calls) i ≡ some n → ¬ (length (n .call .out) < max-image-length) → (answer n ≡ Refused no-thread-cause) ↔ (¬ IsThread n)
+  -- "and otherwise a rule, done, waiting or 15"
+  pub otherwise : (i : ℕ) (n : Step) → at (steps τ image types calls) i ≡ some n → ¬ (length (n .call .out) < max-image-length) → IsThread n → Goes (answer n)
+  -- "after the load and after every step each cell and finished thread has a value of its type"
+  pub typed-loaded : ValuesTypedIn τ image types
+  pub typed-after : (i : ℕ) (n : Step) → at (steps τ image types calls) i ≡ some n → ValuesTypedIn τ (left n) (types-left τ n)
+
+-- The third demand: "For every run", that is for every accepted recipe, every out buffer that is long enough for its load, and every list of calls: "That is a single claim
+-- about the list, and not one for each step."
+abbrev pub ThirdDemand : Type 0
+ThirdDemand = (file : List ℕ) → Bytes file → verdict-of file .refusal ≡ 0 → (out : List ℕ) → max-image-length ≤ length out → (calls : List Call) →
+    RunDemand (type-at (type-table file)) (image-loaded file out) (types-loaded file) calls

@@ -1,0 +1,316 @@
+-- The second demand.
+use mathlib.Core.Path.{_∙_, _≡_, ap, refl, sym}
+use mathlib.Core.Logic.{_↔_}
+use mathlib.Core.Bool.{Bool, cond, false, true}
+use mathlib.Core.Option.{some}
+use mathlib.Core.List.{List, [], _∷_, _++_}
+use Prim.Native.Nat.{ℕ, _+_, _<_, _≤_, suc, zero}
+use native.Mathlib.Decide.{decLt}
+use native.Mathlib.Omega.{arith}
+use lib.Dec.{eqb}
+use lib.ListN.{drop, getD, length}
+use Rattle.calculus.specs.Bytes.{Bytes}
+use Rattle.calculus.specs.Lists.{tabulate}
+use Rattle.calculus.specs.Limits.{max-bays, max-image-length}
+use Rattle.calculus.specs.Causes.{buffer-cause, image-cause, no-thread-cause, room-cause, used-handle-cause, wrong-kind-cause}
+use Rattle.calculus.specs.Types.{many, LinType, multiplicity}
+use Rattle.calculus.specs.Syntax.{Exp, Value, thread-of, Config, at}
+use Rattle.calculus.specs.Typing.{Derivation}
+use Rattle.calculus.specs.Reduction.{Rule as RuleName, number, Reduces}
+use Rattle.calculus.specs.Step.{Answer, rule, waiting, done, no-thread, used-handle, wrong-kind, step-of, Needs, Unready, AppliesUsed}
+use Rattle.calculus.specs.Image.{ImageRule, WithinLimits, limits-test}
+use Rattle.calculus.specs.Reply.{moved, refuses, reply-of}
+use Rattle.calculus.specs.Table.{Table, type-at}
+use Rattle.calculus.specs.Recipe.{setting-types, start}
+use Rattle.calculus.specs.Theory.Tests.{clash, ltb-not}
+use Rattle.calculus.specs.Theory.Tabulate.{length-tabulate, tabulate-at}
+use Rattle.calculus.specs.Theory.OneType.{closed-one-type}
+use Rattle.calculus.specs.Theory.Step.{rule-iff, done-iff, waiting-iff, no-thread-iff, used-handle-iff, wrong-kind-iff}
+use Rattle.calculus.specs.Theory.ImageTest.{limits-test-iff}
+use Rattle.calculus.specs.Theory.Images.{image-fits}
+use Rattle.recipe_file.specs.File.{bays}
+use Rattle.check_spec.specs.Verdict.{accepted, refusal, refused, bay-type-number, bay-type-numbers, verdict-of}
+use Rattle.check_spec.specs.Recipe.{Recipe}
+use Rattle.check_spec.specs.Theory.Answers.{refusal-is, accepted-is}
+use Rattle.check_spec.specs.Theory.Accepted.{accepted-exactly, no-cause, no-cause-iff, one-recipe, table-is, terms-are, type-answered}
+use Rattle.image.specs.Configuration.{image-of, config-of}
+use Rattle.image.specs.Stands.{image-stands}
+use Rattle.image.specs.Theory.Exactly.{image-exactly, image-written}
+use Rattle.image.specs.Theory.Lengths.{length-image-of}
+use Rattle.load_spec.specs.Starting.{starting-image}
+use Rattle.load_spec.specs.Loading.{loaded-of, load-refusal, out-after-load}
+use Rattle.load_spec.specs.Theory.Answers.{short, long, load-refusal-is, loaded-is, left-loaded}
+use Rattle.load_spec.specs.Theory.Image.{starting-fits}
+use Rattle.step_spec.specs.declared.Outcome.{Outcome}
+use Rattle.step_spec.specs.declared.Outcome.the-variants.{Rule, Done, Waiting, Refused}
+use Rattle.step_spec.specs.Stepping.{step-reply, outcome-of-reply, out-after-reply, outcome-of, out-after-step}
+use Rattle.step_spec.specs.Theory.Exactly.{step-is}
+use Rattle.step_spec.specs.Theory.Replies.{reply-short, reply-broken, reply-stands, Told, told-moved, told-room, told-waiting, told-done, told-no-thread, told-used, told-wrong, tells}
+use Rattle.demands.specs.Demands.{Accepted, ImageOf, Means, Moves, LacksRoom, WrongKind, SecondDemand}
+
+-- ---- a check
+
+recipe-accepted : {file : List ℕ} {T : Table} {es : List Exp} → Recipe file T es → refusal file ≡ 0
+recipe-accepted {file} r = no-cause-iff file .1 (no-cause r)
+
+accepts : (file : List ℕ) → Bytes file → (verdict-of file .refusal ≡ 0) ↔ Accepted file
+accepts file b = (
+  λ e. let (T, es, r) = accepted-exactly file b .0 (sym (refusal-is file) ∙ e) in record { table = T; terms = es; recipe = r },
+  λ a. refusal-is file ∙ recipe-accepted (a .recipe),
+)
+
+past-end : (l : List ℕ) (k : ℕ) → length l ≤ k → getD l k 0 ≡ 0
+past-end [] k h = refl
+past-end (n ∷ l) zero h = absurd (omega arith)
+past-end (n ∷ l) (suc k) h = past-end l k (omega arith)
+
+getD-at : (l : List ℕ) (k : ℕ) {n : ℕ} → at l k ≡ some n → getD l k 0 ≡ n
+getD-at [] k h = absurd (clash (cc))
+getD-at (m ∷ l) zero h = cc
+getD-at (m ∷ l) (suc k) h = getD-at l k h
+
+module _ {file : List ℕ} {T : Table} {es : List Exp} (r : Recipe file T es) where
+  verdict-is : verdict-of file ≡ accepted file
+  verdict-is = accepted-is file (recipe-accepted r)
+
+  bays-are : verdict-of file .bays ≡ length es
+  bays-are = rw verdict-is (sym (r .count))
+
+  many-types : (bay : ℕ) (e : Exp) → at es bay ≡ some e →
+      (α : LinType) × (type-at T (getD (verdict-of file .types) bay 0) ≡ some α) × (multiplicity α ≡ many)
+  many-types bay e h = let (α, t, d, m) = type-answered r bay e h in (α, rw verdict-is t, m)
+
+  types-are : (bay : ℕ) (e : Exp) → at es bay ≡ some e → (α : LinType) →
+      (type-at T (getD (verdict-of file .types) bay 0) ≡ some α) ↔ Derivation (type-at T) (setting-types (length es)) [] e α
+  types-are bay e h α =
+      let (β, t, d, m) = type-answered r bay e h in
+      let u : type-at T (getD (verdict-of file .types) bay 0) ≡ some β = rw verdict-is t in (
+        λ q. let p : β ≡ α = cc in rw (← p) d,
+        λ c. let p : β ≡ α = closed-one-type d c in u ∙ ap some p,
+      )
+
+  types-beyond : (bay : ℕ) → length es ≤ bay → getD (verdict-of file .types) bay 0 ≡ 0
+  unfolding bay-type-numbers bay-type-number
+  types-beyond bay l = rw verdict-is (beyond (decLt bay max-bays))
+    where
+      beyond : Dec (bay < max-bays) → getD (tabulate max-bays (bay-type-number file)) bay 0 ≡ 0
+      beyond (yes m) =
+          getD-at (tabulate max-bays (bay-type-number file)) bay (tabulate-at max-bays (bay-type-number file) bay m)
+          ∙ rw (ltb-not bay (bays file) (omega (arith, r .count))) refl
+      beyond (no m) = past-end (tabulate max-bays (bay-type-number file)) bay (omega (arith, length-tabulate max-bays (bay-type-number file)))
+
+types-length : (file : List ℕ) → length (verdict-of file .types) ≡ max-bays
+unfolding verdict-of bay-type-numbers
+types-length file = go (eqb (refusal file) 0)
+  where
+    go : (b : Bool) → length (cond b (accepted file) (refused (refusal file)) .types) ≡ max-bays
+    go true = length-tabulate max-bays (bay-type-number file)
+    go false = refl
+
+-- ---- a load
+
+loads : (file out : List ℕ) → Bytes file → (loaded-of file (length out) .refusal ≡ 0) ↔ (Accepted file × (max-image-length ≤ length out))
+loads file out b = (
+  λ e.
+      let z : load-refusal file (length out) ≡ 0 = sym (load-refusal-is file (length out)) ∙ e in
+      elim (decLt (length out) max-image-length) [
+        | yes l ↦ absurd (let s = short file (length out) l in omega arith)
+        | no l ↦ (accepts file b .0 (refusal-is file ∙ sym (long file (length out) (omega arith)) ∙ z), omega arith)
+      ],
+  λ (a, l). load-refusal-is file (length out) ∙ long file (length out) l ∙ recipe-accepted (a .recipe),
+)
+
+module _ {file : List ℕ} {T : Table} {es : List Exp} (r : Recipe file T es) (out : List ℕ) (l : max-image-length ≤ length out) where
+  no-refusal : load-refusal file (length out) ≡ 0
+  no-refusal = long file (length out) l ∙ recipe-accepted r
+
+  starting-is : starting-image file ≡ image-of (start T es .config)
+  unfolding starting-image
+  starting-is = rw (table-is r, terms-are r) refl
+
+  loaded-answer : (loaded-of file (length out) .bays ≡ verdict-of file .bays) × (loaded-of file (length out) .types ≡ verdict-of file .types) ×
+      (loaded-of file (length out) .length ≡ length (image-of (start T es .config)))
+  loaded-answer =
+      let e = loaded-is file (length out) no-refusal in
+      let v = verdict-is r in
+      (rw (e, v) refl, rw (e, v) refl, rw (e, starting-is) refl)
+
+  loaded-image : Bytes file → (out-after-load file out ≡ image-of (start T es .config) ++ drop (length (image-of (start T es .config))) out) ×
+      (length (image-of (start T es .config)) ≤ length out)
+  loaded-image b =
+      let f = starting-fits file b (recipe-accepted r) in
+      let f′ : length (image-of (start T es .config)) ≤ max-image-length = rw starting-is at f in
+      (left-loaded file out no-refusal ∙ rw starting-is refl, omega arith)
+
+-- ---- a step
+
+-- what is asked of an answer: neither 12 nor 13
+pub record Later (A : Outcome) : Type 0 where
+  pub not-12 : ¬ (A ≡ Refused buffer-cause)
+  pub not-13 : ¬ (A ≡ Refused image-cause)
+
+module _ (s : List ℕ) (b : Bytes s) (x : ℕ) (out : List ℕ) where
+  -- an answer to a slice is the calculus's answer to the configuration that it is the image of
+  means : (A : Outcome) (P : Config → Type 0) → Later A → ((C : Config) → ImageRule C → (outcome-of-reply (reply-of (step-of C x)) ≡ A) ↔ P C) →
+      (outcome-of s x out ≡ A) ↔ Means s out P
+  unfolding outcome-of outcome-of-reply
+  means A P later iff = (there, back)
+    where
+      standing : max-image-length ≤ length out → outcome-of s x out ≡ A → (t : Bool) → image-stands s ≡ t → Means s out P
+      standing l e false q = absurd (later .not-13 (sym e ∙ ap outcome-of-reply (reply-broken s x (length out) l q)))
+      standing l e true q =
+          let (C, i, k, w) = image-exactly s b .0 q in
+          let p : outcome-of-reply (reply-of (step-of C x)) ≡ A =
+          sym (ap outcome-of-reply (step-is C k w x (length out) l)) ∙ ap (λ (t : List ℕ). outcome-of-reply (step-reply t x (length out))) (sym i) ∙ e in
+          record { long = l; config = C; image = record { bytes = i; rule = k; writable = w }; says = iff C k .0 p }
+
+      there : outcome-of s x out ≡ A → Means s out P
+      there e =
+          elim (decLt (length out) max-image-length) [
+            | yes l ↦ absurd (later .not-12 (sym e ∙ ap outcome-of-reply (reply-short s x (length out) l)))
+            | no l ↦ standing (omega arith) e (image-stands s) refl
+          ]
+
+      back : Means s out P → outcome-of s x out ≡ A
+      back m =
+          let i = m .image in
+          ap (λ (t : List ℕ). outcome-of-reply (step-reply t x (length out))) (i .bytes)
+          ∙ ap outcome-of-reply (step-is (m .config) (i .rule) (i .writable) x (length out) (m .long))
+          ∙ iff (m .config) (i .rule) .1 (m .says)
+
+  thirteen : (outcome-of s x out ≡ Refused image-cause) ↔ ((max-image-length ≤ length out) × ((C : Config) → ¬ ImageOf s C))
+  unfolding outcome-of outcome-of-reply
+  thirteen = (there, back)
+    where
+      standing : max-image-length ≤ length out → outcome-of s x out ≡ Refused image-cause → (t : Bool) → image-stands s ≡ t → (C : Config) → ¬ ImageOf s C
+      standing l e true q C i =
+          let p = sym (ap outcome-of-reply (reply-stands s x (length out) l q)) ∙ e in
+          not-told (rw p at (tells (step-of (config-of s) x)))
+        where
+          not-told : {a : Answer} → ¬ Told a (Refused image-cause)
+          not-told t = elim t [ ]
+      standing l e false q C i = clash (let p = ap image-stands (i .bytes) ∙ image-written C (i .rule) (i .writable) in cc)
+
+      there : outcome-of s x out ≡ Refused image-cause → (max-image-length ≤ length out) × ((C : Config) → ¬ ImageOf s C)
+      there e =
+          elim (decLt (length out) max-image-length) [
+            | yes l ↦ absurd (let p = sym (ap outcome-of-reply (reply-short s x (length out) l)) ∙ e in let q : buffer-cause ≡ image-cause = cc in omega arith)
+            | no l ↦ (omega arith, standing (omega arith) e (image-stands s) refl)
+          ]
+
+      back : (max-image-length ≤ length out) × ((C : Config) → ¬ ImageOf s C) → outcome-of s x out ≡ Refused image-cause
+      back (l, n) = broken (image-stands s) refl
+        where
+          broken : (t : Bool) → image-stands s ≡ t → outcome-of s x out ≡ Refused image-cause
+          broken true q = let (C, i, k, w) = image-exactly s b .0 q in absurd (n C (record { bytes = i; rule = k; writable = w }))
+          broken false q = ap outcome-of-reply (reply-broken s x (length out) l q)
+
+-- each answer of the calculus, from how it is told
+module _ (C : Config) (x : ℕ) where
+  abbrev told-of : Answer → Outcome
+  told-of a = outcome-of-reply (reply-of a)
+
+  within : {C′ : Config} → limits-test C′ ≡ true → WithinLimits C′
+  within {C′} e = limits-test-iff C′ .0 e
+
+  moves-there : {a : Answer} {k size : ℕ} → step-of C x ≡ a → Told a (Rule k size) → Moves x k size C
+  moves-there q (told-moved {r} {C′} l) = record { by = r; outcome = C′; move = rule-iff C C′ x r .0 q; limits = within l; numbered = refl; measured = refl }
+
+  moves-iff : (k size : ℕ) → (told-of (step-of C x) ≡ Rule k size) ↔ Moves x k size C
+  unfolding outcome-of-reply reply-of
+  moves-iff k size = (
+    λ e. moves-there refl (rw e at (tells (step-of C x))),
+    λ m. rw (rule-iff C (m .outcome) x (m .by) .1 (m .move), limits-test-iff (m .outcome) .1 (m .limits), m .numbered, m .measured) refl,
+  )
+
+  room-iff : (told-of (step-of C x) ≡ Refused room-cause) ↔ LacksRoom x C
+  unfolding outcome-of-reply reply-of
+  room-iff = (
+    λ e. there (step-of C x) refl (rw e at (tells (step-of C x))),
+    λ m. rw (rule-iff C (m .outcome) x (m .by) .1 (m .move)) (above (m .by) (m .outcome) (limits-test (m .outcome)) refl (m .above)),
+  )
+    where
+      there : (a : Answer) → step-of C x ≡ a → Told a (Refused room-cause) → LacksRoom x C
+      there (rule r C′) q (told-room l) =
+          record { by = r; outcome = C′; move = rule-iff C C′ x r .0 q; above = λ w. clash (let p = limits-test-iff C′ .1 w in cc) }
+
+      above : (r : RuleName) (C′ : Config) (t : Bool) → limits-test C′ ≡ t → ¬ WithinLimits C′ →
+          outcome-of-reply (cond t (moved (number r) C′) (refuses room-cause)) ≡ Refused room-cause
+      above r C′ true e n = absurd (n (within e))
+      above r C′ false e n = refl
+
+  done-told : (told-of (step-of C x) ≡ Done) ↔ ((v : Exp) × Value v × (at C x ≡ some (thread-of v)))
+  unfolding outcome-of-reply reply-of
+  done-told = (λ e. done-iff C x .0 (only (rw e at (tells (step-of C x)))), λ d. rw (done-iff C x .1 d) refl)
+    where
+      only : {a : Answer} → Told a Done → a ≡ done
+      only told-done = refl
+
+  waiting-told : (y : ℕ) → (told-of (step-of C x) ≡ Waiting y) ↔ (Needs C x y × Unready C y)
+  unfolding outcome-of-reply reply-of
+  waiting-told y = (λ e. waiting-iff C x y .0 (only (rw e at (tells (step-of C x)))), λ d. rw (waiting-iff C x y .1 d) refl)
+    where
+      only : {a : Answer} → Told a (Waiting y) → a ≡ waiting y
+      only told-waiting = refl
+
+  no-thread-told : (told-of (step-of C x) ≡ Refused no-thread-cause) ↔ ((e : Exp) → ¬ (at C x ≡ some (thread-of e)))
+  unfolding outcome-of-reply reply-of
+  no-thread-told = (λ e. no-thread-iff C x .0 (only (rw e at (tells (step-of C x)))), λ d. rw (no-thread-iff C x .1 d) refl)
+    where
+      only : {a : Answer} → Told a (Refused no-thread-cause) → a ≡ no-thread
+      only told-no-thread = refl
+
+  used-told : (told-of (step-of C x) ≡ Refused used-handle-cause) ↔ AppliesUsed C x
+  unfolding outcome-of-reply reply-of
+  used-told = (λ e. used-handle-iff C x .0 (only (rw e at (tells (step-of C x)))), λ d. rw (used-handle-iff C x .1 d) refl)
+    where
+      only : {a : Answer} → Told a (Refused used-handle-cause) → a ≡ used-handle
+      only told-used = refl
+
+  wrong-told : ImageRule C → (told-of (step-of C x) ≡ Refused wrong-kind-cause) ↔ WrongKind x C
+  unfolding outcome-of-reply reply-of
+  wrong-told k = (
+    λ e.
+        let (a, b, c, d) = wrong-kind-iff C x (λ e h. k .bound x (thread-of e) h) .0 (only (rw e at (tells (step-of C x)))) in
+        record { meets = a; no-rule = b; no-waiting = c; not-16 = d },
+    λ w. rw (wrong-kind-iff C x (λ e h. k .bound x (thread-of e) h) .1 (w .meets, w .no-rule, w .no-waiting, w .not-16)) refl,
+  )
+    where
+      only : {a : Answer} → Told a (Refused wrong-kind-cause) → a ≡ wrong-kind
+      only told-wrong = refl
+
+-- the image that a rule leaves
+rule-image : (s : List ℕ) (C C′ : Config) (x : ℕ) (by : RuleName) (out : List ℕ) → ImageOf s C → Reduces C x by C′ → WithinLimits C′ → max-image-length ≤ length out →
+    (out-after-step s x out ≡ image-of C′ ++ drop (length (image-of C′)) out) × (length (image-of C′) ≤ length out)
+unfolding out-after-step out-after-reply reply-of
+rule-image s C C′ x by out i m w l = (
+  ap (λ (t : List ℕ). out-after-reply (step-reply t x (length out)) out) (i .bytes)
+      ∙ rw (step-is C (i .rule) (i .writable) x (length out) l, rule-iff C C′ x by .1 m, limits-test-iff C′ .1 w) refl,
+  omega (arith, length-image-of C′, image-fits C′ w),
+)
+
+pub second-demand : SecondDemand
+second-demand = record {
+  accepted = accepts;
+  one-recipe = λ file T T′ es es′ r r′. one-recipe r r′;
+  bays = λ file T es r. bays-are r;
+  types = λ file T es r. types-are r;
+  many-types = λ file T es r. many-types r;
+  types-beyond = λ file T es r. types-beyond r;
+  types-length = types-length;
+  loaded = loads;
+  loaded-answer = λ file T es r. loaded-answer r;
+  loaded-image = λ file b T es r out l. loaded-image r out l b;
+  rule = λ s b x out k size. means s b x out (Rule k size) (Moves x k size) (record { not-12 = λ e. clash (cc); not-13 = λ e. clash (cc) }) (λ C r. moves-iff C x k size);
+  rule-image = rule-image;
+  done = λ s b x out. means s b x out Done _ (record { not-12 = λ e. clash (cc); not-13 = λ e. clash (cc) }) (λ C r. done-told C x);
+  waiting = λ s b x out y. means s b x out (Waiting y) _ (record { not-12 = λ e. clash (cc); not-13 = λ e. clash (cc) }) (λ C r. waiting-told C x y);
+  thirteen = thirteen;
+  fourteen = λ s b x out. means s b x out (Refused no-thread-cause) _ (later no-thread-cause (omega arith)) (λ C r. no-thread-told C x);
+  fifteen = λ s b x out. means s b x out (Refused room-cause) (LacksRoom x) (later room-cause (omega arith)) (λ C r. room-iff C x);
+  sixteen = λ s b x out. means s b x out (Refused used-handle-cause) _ (later used-handle-cause (omega arith)) (λ C r. used-told C x);
+  seventeen = λ s b x out. means s b x out (Refused wrong-kind-cause) (WrongKind x) (later wrong-kind-cause (omega arith)) (λ C r. wrong-told C x r);
+}
+  where
+    later : (n : ℕ) → image-cause < n → Later (Refused n)
+    later n l = record { not-12 = λ e. let q : n ≡ buffer-cause = cc in omega arith; not-13 = λ e. let q : n ≡ image-cause = cc in omega arith }

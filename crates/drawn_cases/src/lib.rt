@@ -1,0 +1,1 @@
+// Drawn cases: rows that the model answered. They stand in specs/.

@@ -1,0 +1,57 @@
+-- What a step replies to any slice, and what is answered and left for each answer of the calculus.
+use mathlib.Core.Path.{_≡_, refl}
+use mathlib.Core.Bool.{Bool, cond, false, true}
+use mathlib.Core.List.{List}
+use Prim.Native.Nat.{_<_, _≤_, ℕ}
+use lib.ListN.{length}
+use Rattle.calculus.specs.Syntax.{Config}
+use Rattle.calculus.specs.Reduction.{Rule as RuleName, number}
+use Rattle.calculus.specs.Step.{Answer, rule, waiting, done, no-thread, used-handle, wrong-kind, step-of}
+use Rattle.calculus.specs.Limits.{max-image-length}
+use Rattle.calculus.specs.Causes.{buffer-cause, image-cause, no-thread-cause, room-cause, used-handle-cause, wrong-kind-cause}
+use Rattle.calculus.specs.Image.{limits-test}
+use Rattle.calculus.specs.Reply.{moved, refuses, reply-of}
+use Rattle.calculus.specs.Theory.Tests.{ltb-complete, ltb-not}
+use Rattle.image.specs.Configuration.{image-of, config-of}
+use Rattle.image.specs.Stands.{image-stands}
+use Rattle.step_spec.specs.declared.Outcome.{Outcome}
+use Rattle.step_spec.specs.declared.Outcome.the-variants.{Rule, Done, Waiting, Refused}
+use Rattle.step_spec.specs.Stepping.{step-reply, outcome-of-reply}
+
+-- 12, then 13, then the calculus
+module _ (s : List ℕ) (x room : ℕ) where
+  pub reply-short : room < max-image-length → step-reply s x room ≡ refuses buffer-cause
+  unfolding step-reply
+  reply-short l = rw (ltb-complete room max-image-length l) refl
+
+  module _ (long : max-image-length ≤ room) where
+    pub reply-broken : image-stands s ≡ false → step-reply s x room ≡ refuses image-cause
+    unfolding step-reply
+    reply-broken e = rw (ltb-not room max-image-length long, e) refl
+
+    pub reply-stands : image-stands s ≡ true → step-reply s x room ≡ reply-of (step-of (config-of s) x)
+    unfolding step-reply
+    reply-stands e = rw (ltb-not room max-image-length long, e) refl
+
+-- the outcome that each answer of the calculus is told as
+pub data Told : Answer → Outcome → Type 0 where
+  told-moved : {r : RuleName} {C′ : Config} → limits-test C′ ≡ true → Told (rule r C′) (Rule (number r) (length (image-of C′)))
+  told-room : {r : RuleName} {C′ : Config} → limits-test C′ ≡ false → Told (rule r C′) (Refused room-cause)
+  told-waiting : {y : ℕ} → Told (waiting y) (Waiting y)
+  told-done : Told done Done
+  told-no-thread : Told no-thread (Refused no-thread-cause)
+  told-used : Told used-handle (Refused used-handle-cause)
+  told-wrong : Told wrong-kind (Refused wrong-kind-cause)
+
+pub tells : (a : Answer) → Told a (outcome-of-reply (reply-of a))
+unfolding outcome-of-reply reply-of
+tells (rule r C′) = go (limits-test C′) refl
+  where
+    go : (b : Bool) → limits-test C′ ≡ b → Told (rule r C′) (outcome-of-reply (cond b (moved (number r) C′) (refuses room-cause)))
+    go true e = told-moved e
+    go false e = told-room e
+tells (waiting y) = told-waiting
+tells done = told-done
+tells no-thread = told-no-thread
+tells used-handle = told-used
+tells wrong-kind = told-wrong

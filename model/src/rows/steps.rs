@@ -1,0 +1,169 @@
+//! Rows of a step: images of runs, drawn ones, damaged ones and ones at the limits, with every answer.
+
+use crate::answers::{Implementation, Model, SteppedAnswer, DONE, REFUSED, RULE, WAITING};
+use crate::causes;
+use crate::config::{Component, Configuration};
+use crate::draw::Draw;
+use crate::expression::Expression;
+use crate::generate::configurations::configuration_of;
+use crate::generate::{images, recipes};
+use crate::image::write_image;
+use crate::limits;
+use crate::nodes::Node;
+use crate::rows::quota::fill;
+use crate::rows::{antt, Written, FILLER};
+use crate::rules;
+use crate::types::Constant;
+use std::collections::BTreeMap;
+use std::rc::Rc;
+
+/// No longer image is taken, but for those at a limit.
+const LONGEST: usize = 90;
+/// The most turns of a run before the image is taken.
+const TURNS: usize = 12;
+
+/// Where an image comes from.
+#[derive(Debug, Clone, Copy, PartialEq, Eq, PartialOrd, Ord)]
+enum Origin {
+    Run,
+    Drawn,
+    Damaged,
+    Copying,
+    Crowded,
+}
+
+/// Where the image comes from, the image, the thread, and the length of the out buffer.
+type Call = (Origin, Vec<u8>, u64, usize);
+/// Origin, outcome, and the number of a rule or refusal.
+type Class = (Origin, u32, u32);
+
+/// A row: an image, a thread and the length of the out buffer; what step answers, and the new image.
+pub struct StepRow {
+    pub image: Vec<u8>,
+    pub thread: u64,
+    pub room: usize,
+    pub answer: SteppedAnswer,
+    pub new: Vec<u8>,
+}
+
+fn wanted() -> BTreeMap<Class, usize> {
+    let mut wanted = BTreeMap::new();
+    for origin in [Origin::Run, Origin::Drawn] {
+        for rule in rules::BETA..=rules::CELL_EXCH {
+            wanted.insert((origin, RULE, u32::from(rule)), 5);
+        }
+        wanted.insert((origin, DONE, 0), 4);
+        wanted.insert((origin, WAITING, 0), 5);
+        wanted.insert((origin, REFUSED, causes::BUFFER), 4);
+        wanted.insert((origin, REFUSED, causes::NO_THREAD), 5);
+    }
+    wanted.insert((Origin::Damaged, REFUSED, causes::IMAGE), 14);
+    wanted.insert((Origin::Copying, REFUSED, causes::ROOM), 8);
+    wanted.insert((Origin::Crowded, REFUSED, causes::ROOM), 1);
+    wanted.insert((Origin::Drawn, REFUSED, causes::USED_HANDLE), 8);
+    wanted.insert((Origin::Drawn, REFUSED, causes::WRONG_KIND), 10);
+    wanted
+}
+
+/// The image after some turns of a small recipe.
+fn of_a_run(draw: &mut Draw) -> Option<Vec<u8>> {
+    let file = recipes::small(draw).write();
+    let mut out = vec![FILLER; limits::MAX_IMAGE];
+    let loaded = Model.load(&file, &mut out)?;
+    let mut image = out[..loaded.length as usize].to_vec();
+    for _ in 0..draw.below(TURNS) {
+        let thread = images::thread_number(draw, &image);
+        let answer = Model.step(&image, thread, &mut out)?;
+        if answer.outcome == RULE {
+            image = out[..answer.length as usize].to_vec();
+        }
+    }
+    (loaded.refusal == 0).then_some(image)
+}
+
+fn of_a_configuration(draw: &mut Draw) -> Vec<u8> {
+    let names = draw.between(1, 5);
+    let fuel = draw.pick(&[1, 2, 4]);
+    write_image(&configuration_of(draw, names, fuel))
+}
+
+/// (λx. x (x .. unit)) v: as small as it is, the outcome of rule 1 is just above the limit of nodes.
+fn copying(draw: &mut Draw) -> Vec<u8> {
+    let uses = draw.between(40, 90);
+    let mut term = vec![Node::Application, Node::Lambda(draw.byte())];
+    for _ in 0..uses {
+        term.extend([Node::Application, Node::Variable(0)]);
+    }
+    term.push(Node::Constant(Constant::Exch, draw.byte()));
+    let value = limits::MAX_NODES / uses;
+    term.resize(term.len() + value - 1, Node::Lambda(draw.byte()));
+    term.push(Node::Unit);
+    let thread = Component::Thread(Rc::new(Expression::of_nodes(&term)));
+    let components = vec![Component::UsedHandle, thread];
+    write_image(&Configuration { components })
+}
+
+/// One name less than there may be, and a thread that asks for a handle and its future. Such an image
+/// takes a prover seconds and memory: one of them is enough.
+fn crowded(draw: &mut Draw) -> Vec<u8> {
+    let names = limits::MAX_NAMES - 1;
+    let term = [
+        Node::Application,
+        Node::Constant(Constant::Handle, draw.byte()),
+        Node::Unit,
+    ];
+    let mut components = vec![Component::UsedHandle; names];
+    let thread = Component::Thread(Rc::new(Expression::of_nodes(&term)));
+    components[draw.below(names)] = thread;
+    write_image(&Configuration { components })
+}
+
+fn drawn(draw: &mut Draw) -> Option<Call> {
+    let (origin, image) = match draw.below(50) {
+        0 => (Origin::Copying, copying(draw)),
+        1 => (Origin::Crowded, crowded(draw)),
+        2..=20 => (Origin::Run, of_a_run(draw)?),
+        21..=30 => {
+            let mut image = of_a_configuration(draw);
+            images::damage(&mut image, draw);
+            (Origin::Damaged, image)
+        }
+        _ => (Origin::Drawn, of_a_configuration(draw)),
+    };
+    let thread = images::thread_number(draw, &image);
+    let room = images::out_length(draw);
+    let at_a_limit = matches!(origin, Origin::Copying | Origin::Crowded);
+    let fits = image.len() <= LONGEST || at_a_limit;
+    fits.then_some((origin, image, thread, room))
+}
+
+fn row((_, image, thread, room): Call) -> StepRow {
+    let mut out = vec![FILLER; room];
+    let answer = Model.step(&image, thread, &mut out).unwrap_or_default();
+    out.truncate(answer.length as usize);
+    StepRow {
+        image,
+        thread,
+        room,
+        answer,
+        new: out,
+    }
+}
+
+fn class(call: &Call) -> Class {
+    let answer = row(call.clone()).answer;
+    let number = match answer.outcome {
+        WAITING => 0,
+        _ => answer.number,
+    };
+    (call.0, answer.outcome, number)
+}
+
+pub fn rows(draw: &mut Draw) -> Vec<StepRow> {
+    let found = fill(&wanted(), || drawn(draw), class);
+    found.into_iter().map(row).collect()
+}
+
+pub fn files(draw: &mut Draw) -> Vec<Written> {
+    antt::STEPS.files(&rows(draw), antt::step_row)
+}
