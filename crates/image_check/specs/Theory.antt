@@ -6,5 +6,3 @@ pub mod Names
 pub mod Whole
 -- what an answer says
 pub mod Answers
--- what an image that stands says of each name: the laws for who works on its bytes
-pub mod Standing

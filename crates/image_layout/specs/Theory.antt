@@ -14,7 +14,5 @@ pub mod Exactly
 pub mod Reading
 -- loops over names that write an image
 pub mod Turns
--- when an image stands in bytes
-pub mod InBytes
 -- cases, computed
 pub mod Cases

@@ -6,11 +6,12 @@ use Prim.Native.Nat.{ℕ, _+_, _-_}
 use lib.Dec.{ltb}
 use Rattle.recipe_file.specs.File.{bays, term-bytes}
 use Rattle.calculus.specs.Kinds.{thread-kind, cell-kind}
+use Rattle.term.specs.Forms.{num-tag}
 use Rattle.image_layout.specs.Encoded.{Encoded}
 
 -- the starting image name by name (Theory.Image, `starting-tabulated`): a setting, "a cell of num, starting at 0"
 abbrev pub setting : Encoded
-setting = record { kind = cell-kind; companion = 0; expression = 4 ∷ 0 ∷ 0 ∷ [] }
+setting = record { kind = cell-kind; companion = 0; expression = num-tag ∷ 0 ∷ 0 ∷ [] }
 
 -- how many bytes it holds
 abbrev pub setting-length : ℕ

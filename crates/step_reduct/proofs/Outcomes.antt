@@ -20,7 +20,7 @@ use Rattle.term_scan.specs.declared.Extent.the-variants.{Ends, Refused}
 use Rattle.term_scan.specs.Extents.{extent-at, small}
 use Rattle.term_scan.proofs.Answers.{small-good, small-stands}
 use Rattle.term_scan.proofs.Many.{refused-ends}
-use Rattle.term_subst.specs.Outcome.{size-substitute, uses-nodes}
+use Rattle.term_subst.specs.Theory.Outcome.{size-substitute, uses-nodes}
 use Rattle.step_rules.specs.declared.Move.{Move}
 use Rattle.step_rules.specs.Positions.{variable-length, to-body}
 use Rattle.step_rules.specs.Moves.{redex-after}

@@ -7,6 +7,7 @@ use native.Mathlib.Omega.{arith}
 use lib.ListN.{length, length-append, length-take, length-drop}
 use Rattle.calculus.specs.Limits.{byte-values}
 use Rattle.calculus.specs.Reduction.{substitute, BETA, THREAD-NEW, FUTURE-DEREF, HANDLE-NEW, HANDLE-BIND, CELL-NEW, CELL-EXCH, number}
+use Rattle.term.specs.Forms.{application-tag, unit-tag}
 use Rattle.term.specs.Expressions.{bytes, term-at}
 use Rattle.image_layout.specs.Slice.{names, offset-at, length-at}
 use Rattle.image_layout.specs.Readable.{HasHead}
@@ -45,11 +46,11 @@ module _ {s : List ℕ} {move : Move} (w : CanWrite s move) where
   unfolding redex-after redexes
   redex-3 e = rw e refl
 
-  pub redex-4 : move .rule ≡ number HANDLE-NEW → redex-after s move ≡ 2 ∷ 2 ∷ (argument-bytes s move ++ name-bytes (names s) ++ name-bytes (names s + 1))
+  pub redex-4 : move .rule ≡ number HANDLE-NEW → redex-after s move ≡ application-tag ∷ application-tag ∷ (argument-bytes s move ++ name-bytes (names s) ++ name-bytes (names s + 1))
   unfolding redex-after redexes
   redex-4 e = rw e refl
 
-  pub redex-5 : move .rule ≡ number HANDLE-BIND → redex-after s move ≡ 3 ∷ []
+  pub redex-5 : move .rule ≡ number HANDLE-BIND → redex-after s move ≡ unit-tag ∷ []
   unfolding redex-after redexes
   redex-5 e = rw e refl
 

@@ -12,7 +12,7 @@ use term::Node;
 use term_scan::Extent;
 use term_scan::scan_small;
 use term_subst::count_uses;
-use term_subst::put_substituted;
+use term_subst::put_applied;
 ghost use mathlib.Core.Path.{_≡_};
 ghost use Prim.Native.Nat.{_+_, _<_, _≤_};
 ghost use lib.ListN.{length};
@@ -81,7 +81,7 @@ fn put_redex_after(out: &mut [u8], at: usize, image: &[u8], step: Move) -> usize
 {
     let rule = step.rule;
     if rule == Rule::BETA {
-        return put_substituted(
+        return put_applied(
             out,
             at,
             image,

@@ -7,7 +7,7 @@ use lib.ListN.{length}
 use Rattle.calculus.specs.Names.{uses}
 use Rattle.calculus.specs.Limits.{first-head, max-nodes}
 use Rattle.term.specs.Expressions.{term-at}
-use Rattle.term_subst.specs.Outcome.{uses-nodes}
+use Rattle.term_subst.specs.Theory.Outcome.{uses-nodes}
 use Rattle.step_rules.specs.declared.Move.{Move}
 use Rattle.step_rules.specs.Stepped.{Counted, Movable}
 

@@ -10,6 +10,7 @@ use Rattle.calculus.specs.Names.{uses}
 use Rattle.calculus.specs.Reduction.{substitute}
 use Rattle.term.specs.Expressions.{bytes, term-at}
 use Rattle.calculus.specs.Kinds.{thread-kind, cell-kind, open-handle-kind, used-handle-kind, future-kind}
+use Rattle.term.specs.Forms.{application-tag, unit-tag, name-tag}
 use Rattle.image_layout.specs.Encoded.{Encoded, image-bytes}
 use Rattle.image_layout.specs.Slice.{names, offset-at, length-at, encoded-at}
 use Rattle.step_rules.specs.declared.Move.{Move}
@@ -45,11 +46,11 @@ copied-bytes s move = bytes-between s (move .from) (move .to)
 
 -- a name
 abbrev pub name-bytes : ℕ → List ℕ
-name-bytes k = 9 ∷ k ∷ []
+name-bytes k = name-tag ∷ k ∷ []
 
 -- the new thread of rule 2: the argument applied to the thread's own name
 abbrev pub started-bytes : List ℕ → Move → List ℕ
-started-bytes s move = 2 ∷ (argument-bytes s move ++ name-bytes (names s))
+started-bytes s move = application-tag ∷ (argument-bytes s move ++ name-bytes (names s))
 
 -- what stands in place of the application, by rule. The name of rule 3 stands right before the argument.
 unfoldable pub redexes : List ℕ → Move → List (List ℕ)
@@ -58,8 +59,8 @@ redexes s move =
     ∷ bytes (substitute 0 (term-at s (move .argument)) (term-at s (move .at + to-body)))
     ∷ name-bytes (names s)
     ∷ (bytes-between s (move .at) (move .argument - name-length) ++ copied-bytes s move ++ argument-bytes s move)
-    ∷ (2 ∷ 2 ∷ (argument-bytes s move ++ name-bytes (names s) ++ name-bytes (names s + 1)))
-    ∷ (3 ∷ [])
+    ∷ (application-tag ∷ application-tag ∷ (argument-bytes s move ++ name-bytes (names s) ++ name-bytes (names s + 1)))
+    ∷ (unit-tag ∷ [])
     ∷ name-bytes (names s)
     ∷ copied-bytes s move
     ∷ []

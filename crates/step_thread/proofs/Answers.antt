@@ -1,5 +1,5 @@
 -- What a step answers and leaves, by what leads to each answer.
-use mathlib.Core.Path.{_∙_, _≡_, refl, subst, sym}
+use mathlib.Core.Path.{_∙_, _≡_, ap, refl, subst, sym}
 use mathlib.Core.Logic.{inl, inr}
 use mathlib.Core.Bool.{false, false≢true, true}
 use mathlib.Core.Option.{some}
@@ -12,7 +12,7 @@ use denote.Enum.Declared.{tagOf}
 use types.Run.{OneOf}
 use Rattle.step_decide.proofs.Decision.{the-type}
 use Rattle.calculus.specs.Bytes.{Bytes}
-use Rattle.calculus.specs.Syntax.{at, thread-of}
+use Rattle.calculus.specs.Syntax.{Exp, at, thread-of}
 use Rattle.calculus.specs.Reduction.{Rule, BETA, THREAD-NEW, FUTURE-DEREF, HANDLE-NEW, HANDLE-BIND, CELL-NEW, CELL-EXCH, number}
 use Rattle.calculus.specs.Step.{done, no-thread, step-of}
 use Rattle.calculus.specs.Limits.{max-image-length}
@@ -21,24 +21,28 @@ use Rattle.calculus.specs.Reply.{reply-of}
 use Rattle.calculus.specs.Theory.Tests.{and-parts, and-true, eqb-complete, eqb-sound, ltb-complete, ltb-not, ltb-sound}
 use Rattle.calculus.specs.Theory.Step.{no-thread-iff}
 use Rattle.term.specs.Expressions.{term-at}
+use Rattle.term.proofs.Expressions.{found-at}
 use Rattle.buffer.specs.Written.{Wrote}
 use Rattle.buffer.specs.Theory.Writes.{beyond}
 use Rattle.calculus.specs.Kinds.{thread-kind}
 use Rattle.calculus.specs.Causes.{buffer-cause, image-cause, no-thread-cause, room-cause}
+use Rattle.image_layout.specs.Encoded.{Encoded}
 use Rattle.image_layout.specs.Slice.{kind-at, names, offset-at}
-use Rattle.image.specs.Configuration.{config-of, image-of}
+use Rattle.image_layout.specs.Theory.Slice.{encoded-kind}
+use Rattle.image.specs.Configuration.{config-of, encode, image-of}
 use Rattle.image.specs.Stands.{image-stands}
 use Rattle.image.specs.Theory.Lengths.{stands-length, within-length}
 use Rattle.step_rules.specs.declared.Move.{Move}
 use Rattle.step_rules.specs.Moves.{image-after}
 use Rattle.step_rules.specs.Stepped.{Stepped}
+use Rattle.step_rules.specs.Theory.Reading.{encoded-is, thread-stands}
+use Rattle.step_decide.proofs.Names.{as-thread, kind-there}
 use Rattle.step_reduct.specs.CanWrite.{CanWrite}
 use Rattle.step_room.specs.Room.{has-room}
 use Rattle.step_room.specs.Theory.Room.{room-is, room-within}
 use Rattle.step_decide.specs.declared.Decision.{Decision}
 use Rattle.step_decide.specs.declared.Decision.the-variants.{Goes}
 use Rattle.step_decide.specs.Decided.{Decided, goes, refuses-used, refuses-wrong, waits}
-use Rattle.image_check.specs.Theory.Standing.{thread-kind-is, thread-there}
 use Rattle.image_check.specs.Theory.Names.{config-parts}
 use Rattle.image_check.specs.Theory.Whole.{whole-sound}
 use Rattle.step_spec.specs.declared.Outcome.{Outcome}
@@ -83,18 +87,23 @@ module _ (s : List ℕ) (x : ℕ) (out : List ℕ) where
 
 -- refusal 14
 module _ (s : List ℕ) (b : Bytes s) (stands : image-stands s ≡ true) (x : ℕ) where
+  thread-kind-is : {e : Exp} → at (config-of s) x ≡ some (thread-of e) → kind-at s x ≡ thread-kind
+  unfolding encode
+  thread-kind-is h = sym (encoded-kind s x) ∙ ap (λ (c : Encoded). c .kind) (sym (encoded-is s b stands x h))
+
   pub no-thread-there : is-thread s x ≡ false → step-of (config-of s) x ≡ no-thread
   unfolding is-thread
   no-thread-there f = no-thread-iff (config-of s) x .1 λ e h.
       let t : (is-thread s x) ≡ true =
-      and-true (ltb-complete x (names s) (config-parts s x h .0)) (eqb-complete (kind-at s x) thread-kind (thread-kind-is s b stands x h)) in
+      and-true (ltb-complete x (names s) (config-parts s x h .0)) (eqb-complete (kind-at s x) thread-kind (thread-kind-is h)) in
       false≢true (sym f ∙ t)
 
   pub thread-is-there : is-thread s x ≡ true → at (config-of s) x ≡ some (thread-of (term-at s (offset-at s x)))
   unfolding is-thread
   thread-is-there t =
       let (p, q) = and-parts _ _ t in
-      thread-there s b stands x (ltb-sound x (names s) p) (eqb-sound (kind-at s x) thread-kind q)
+      let (e, h) = as-thread (kind-there s b stands x (ltb-sound x (names s) p)) (eqb-sound (kind-at s x) thread-kind q) in
+      h ∙ ap (λ (g : Exp). some (thread-of g)) (sym (found-at (thread-stands s b stands x e h .term) .term))
 
 -- a rule's number
 rule-between : (r : Rule) → (number BETA ≤ number r) × (number r ≤ number CELL-EXCH)

@@ -32,13 +32,6 @@ plug-nodes hole e = omega arith
 plug-nodes (in-function F a) e = omega (arith, plug-nodes F e)
 plug-nodes (in-argument v w F) e = omega (arith, plug-nodes F e)
 
--- another expression in the same context
-pub plug-nodes-other : (F : Context) (e r : Exp) → nodes (plug F e) + nodes r ≡ nodes (plug F r) + nodes e
-plug-nodes-other F e r = omega (arith, plug-nodes F e, plug-nodes F r)
-
-pub plug-size-other : (F : Context) (e r : Exp) → size (plug F e) + size r ≡ size (plug F r) + size e
-plug-size-other F e r = omega (arith, plug-size F e, plug-size F r)
-
 -- What fits in bytes
 
 pub fits-in-app : {f a : Exp} → FitsBytes f → FitsBytes a → FitsBytes (app f a)

@@ -10,11 +10,12 @@ use Rattle.calculus.specs.Bytes.{Bytes}
 use Rattle.calculus.specs.Syntax.{Exp}
 use Rattle.calculus.specs.Step.{place}
 use Rattle.calculus.specs.Image.{Closed, is-settled}
+use Rattle.term.specs.Forms.{exch-tag, variable-tag}
 use Rattle.term.specs.declared.Front.the-variants.{Is}
 use Rattle.term.specs.declared.Node.{Node}
 use Rattle.term.specs.Reader.{end-at, GoodAt, node-at}
 use Rattle.term.specs.Expressions.{term-at}
-use Rattle.term_redex.specs.Shapes.{exch-tag, is-application, is-exchange, variable-tag}
+use Rattle.term_redex.specs.Shapes.{is-application, is-exchange}
 use Rattle.term_redex.specs.Exchanges.{Inner}
 use Rattle.term_redex.specs.Places.{place-of}
 use Rattle.term_redex.proofs.Contexts.{closed-parts}

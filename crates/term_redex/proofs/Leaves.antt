@@ -11,9 +11,9 @@ use Rattle.calculus.specs.Syntax.{unit, Exp, const}
 use Rattle.calculus.specs.Step.{place}
 use Rattle.calculus.specs.Image.{is-settled}
 use Rattle.calculus.specs.Theory.Tests.{and-parts, of-true, true-of}
-use Rattle.term.specs.Forms.{tags}
+use Rattle.term.specs.Forms.{tags, exch-tag, variable-tag}
 use Rattle.term.specs.Expressions.{leaf-exp, leaf-forms}
-use Rattle.term_redex.specs.Shapes.{exch-tag, is-application, exp-is-exch, const-is-exch, op-is-exch, variable-tag}
+use Rattle.term_redex.specs.Shapes.{is-application, exp-is-exch, const-is-exch, op-is-exch}
 
 -- two tests say the same
 abbrev same : Bool → Bool → Bool

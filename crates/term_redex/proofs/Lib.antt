@@ -12,8 +12,6 @@ pub mod Nodes
 pub mod Exchanges
 -- the search at a position
 pub mod Search
--- what a loop that looks for the end of a term knows
-pub mod Ends
 -- what an answer of the search says of the expression, and where the two values stand
 pub mod Meetings
 -- the place of document 01's cases, by computing it

@@ -1,6 +1,5 @@
 -- What an answer of the search says of the expression, and where the two values stand.
 use mathlib.Core.Path.{_≡_, ap, refl, subst, sym, _∙_}
-use mathlib.Core.Bool.{true}
 use mathlib.Core.List.{List, _++_}
 use Prim.Native.Nat.{_+_, _-_, ℕ}
 use native.Mathlib.Omega.{arith}
@@ -9,7 +8,7 @@ use lib.Seq.{take-at}
 use Rattle.calculus.specs.Syntax.{Exp, app, Value}
 use Rattle.calculus.specs.Reduction.{Context, plug}
 use Rattle.calculus.specs.Step.{Place, settled, meet, loose, place}
-use Rattle.calculus.specs.Image.{Closed, is-settled, size}
+use Rattle.calculus.specs.Image.{Closed, size}
 use Rattle.calculus.specs.Theory.Places.{Placed, place-sound, place-value}
 use Rattle.calculus.specs.Theory.Tests.{clash}
 use Rattle.term.specs.Expressions.{TermAt}
@@ -28,10 +27,6 @@ done-value base e c d = let w = go (place e) (place-sound e) d in (w, place-valu
     go (settled v w) s d = rw s w
     go (meet F f v wf wv) s d = absurd (clash (cc))
     go loose s d = absurd (s c)
-
-pub value-settled : {e : Exp} → Value e → is-settled (place e) ≡ true
-unfolding is-settled
-value-settled w = ap is-settled (place-value w)
 
 -- Meet: what meets, and in which context
 pub record Met (base : ℕ) (e : Exp) (m : Meeting) : Type 0 where

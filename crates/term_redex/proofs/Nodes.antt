@@ -14,13 +14,13 @@ use Rattle.calculus.specs.Image.{is-settled, size}
 use Rattle.term.specs.declared.Front.{Front}
 use Rattle.term.specs.declared.Front.the-variants.{Bad, Is}
 use Rattle.term.specs.declared.Node.{Node}
-use Rattle.term.specs.Forms.{form-of, forms, subterms-of, tags}
+use Rattle.term.specs.Forms.{form-of, forms, subterms-of, tags, exch-tag, variable-tag}
 use Rattle.term.specs.Reader.{end-at, GoodAt, node-at}
 use Rattle.term.specs.Expressions.{term-at}
 use Rattle.term.proofs.Nodes.{head-is}
 use Rattle.term.proofs.Views.{leaf-from, node-there, not-bad, one-from, two-from}
 use Rattle.term.proofs.Expressions.{term-stands}
-use Rattle.term_redex.specs.Shapes.{exch-tag, exp-is-exch, is-application, variable-tag}
+use Rattle.term_redex.specs.Shapes.{exp-is-exch, is-application}
 use Rattle.term_redex.proofs.Leaves.{leaf-application, leaf-exch, leaf-settled}
 
 -- a good term has a node at its front

@@ -4,14 +4,16 @@ use Prim.Native.Nat.{_+_, ℕ}
 use lib.ListN.{length}
 use Rattle.calculus.specs.Reduction.{Context, hole, in-function, in-argument}
 use Rattle.calculus.specs.Image.{nodes}
+use Rattle.term.specs.Forms.{application-tag}
 use Rattle.term.specs.Expressions.{bytes}
 
--- document 01, the table of node forms: an application is its tag, 2, then function, then argument
+-- document 01, the table of node forms: an application is its tag, then function, then argument
 unfoldable pub front : Context → List ℕ
 front hole = []
-front (in-function F a) = 2 ∷ front F
-front (in-argument v w F) = 2 ∷ (bytes v ++ front F)
+front (in-function F a) = application-tag ∷ front F
+front (in-argument v w F) = application-tag ∷ (bytes v ++ front F)
 
+-- and what stands after it
 unfoldable pub back : Context → List ℕ
 back hole = []
 back (in-function F a) = back F ++ bytes a

@@ -1,15 +1,8 @@
 -- What a search of an expression asks of a node: is it an application, and is it exch applied.
 use mathlib.Core.Bool.{Bool, false, true}
-use Prim.Native.Nat.{ℕ}
 use Rattle.calculus.specs.Syntax.{Const, unit, num, op, Exp, var, name, const, lam, app, Op, cell, exch, thread, handle}
 
--- document 01, the table of node forms: exch has tag 6, a variable 0
-abbrev pub exch-tag : ℕ
-exch-tag = 6
-
-abbrev pub variable-tag : ℕ
-variable-tag = 0
-
+-- an application
 unfoldable pub is-application : Exp → Bool
 is-application (app f a) = true
 is-application (var i) = false
@@ -17,6 +10,7 @@ is-application (name k) = false
 is-application (const c) = false
 is-application (lam t e) = false
 
+-- the constant exch, step by step
 unfoldable pub op-is-exch : Op → Bool
 op-is-exch exch = true
 op-is-exch cell = false

@@ -2,6 +2,7 @@
 // never a value, so the place is inside it or it is the place itself: the search goes down, and never comes back up.
 use term::Front;
 use term::Node;
+use term_scan::Extent;
 ghost use mathlib.Core.Path.{_≡_};
 ghost use mathlib.Core.Bool.{false};
 ghost use Rattle.calculus.specs.Step.{place};
@@ -47,21 +48,15 @@ fn known_node(s: &[u8], at: usize) -> Node
     node
 }
 
-// Where a term ends: one node after the other, with the number of subterms still to come.
+// Where a term ends.
 fn end_of(s: &[u8], at: usize) -> usize
     requires { ⌜ GoodAt (now s) at ⌝ }
     ensures { λ r. ⌜ r ≡ end-at (now (s .entry)) at ⌝ }
 {
-    let mut here = at;
-    let mut pending: usize = 1;
-    while 0 < pending {
-        let node = known_node(s, here);
-        let size = node.size;
-        let subterms = node.subterms;
-        here += size;
-        pending = pending - 1 + (subterms as usize);
-    }
-    here
+    let Extent::Ends(end, _) = term_scan::scan(s, at) else {
+        return at;
+    };
+    end
 }
 
 // Whether a term is an application.

@@ -7,6 +7,7 @@ use lib.ListN.{drop, length, length-drop, take}
 use lib.Seq.{length-take-le, take-append-seam}
 use Rattle.calculus.specs.Bytes.{Bytes}
 use Rattle.calculus.specs.Image.{size}
+use Rattle.term.specs.Forms.{lambda-tag, application-tag}
 use Rattle.term.specs.declared.Front.the-variants.{Is}
 use Rattle.term.specs.declared.Node.{Node}
 use Rattle.term.specs.Reader.{end-at, GoodAt, node-at}
@@ -39,19 +40,19 @@ module _ {s : List ℕ} (b : Bytes s) where
     pub copied-leaf : h .subterms ≡ 0 → part s here (here + h .size) ≡ bytes (leaf-exp (h .tag) (h .arg))
     copied-leaf m = let v = leaf-from is g m in copied-term g (sym (v .ends)) ∙ ap bytes (v .term)
 
-    pub copied-one : h .subterms ≡ 1 → part s here (here + h .size) ≡ 1 ∷ h .arg ∷ []
+    pub copied-one : h .subterms ≡ 1 → part s here (here + h .size) ≡ lambda-tag ∷ h .arg ∷ []
     unfolding bytes size
     copied-one m =
         let v = one-from is g m in
         let (t, e) = term-stands b g in
         let (t′, e′) = term-stands b (v .good) in
-        front s (1 ∷ h .arg ∷ []) _ here (here + h .size) (rw (v .term) at (t .stands)) (omega (arith, e, e′, v .ends, ap size (v .term)))
+        front s (lambda-tag ∷ h .arg ∷ []) _ here (here + h .size) (rw (v .term) at (t .stands)) (omega (arith, e, e′, v .ends, ap size (v .term)))
 
-    pub copied-two : h .subterms ≡ 2 → part s here (here + h .size) ≡ 2 ∷ []
+    pub copied-two : h .subterms ≡ 2 → part s here (here + h .size) ≡ application-tag ∷ []
     unfolding bytes size
     copied-two m =
         let v = two-from is g m in
         let (t, e) = term-stands b g in
         let (t′, e′) = term-stands b (v .good) in
         let (t″, e″) = term-stands b (v .second) in
-        front s (2 ∷ []) _ here (here + h .size) (rw (v .term) at (t .stands)) (omega (arith, e, e′, e″, v .ends, ap size (v .term)))
+        front s (application-tag ∷ []) _ here (here + h .size) (rw (v .term) at (t .stands)) (omega (arith, e, e′, e″, v .ends, ap size (v .term)))

@@ -11,7 +11,7 @@ use Rattle.term.specs.declared.Front.the-variants.{Is}
 use Rattle.term.specs.declared.Node.{Node}
 use Rattle.term.specs.Reader.{GoodAt, node-at}
 use Rattle.term.specs.Expressions.{leaf-exp, term-at}
-use Rattle.term_subst.specs.Outcome.{uses-nodes}
+use Rattle.term_subst.specs.Theory.Outcome.{uses-nodes}
 use Rattle.term_subst.proofs.Ahead.{Due, due}
 use Rattle.term_subst.proofs.Walked.{SubstWalked, walked-done, walked-leaf, walked-one, walked-pop, walked-start, walked-two}
 

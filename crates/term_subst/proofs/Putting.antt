@@ -1,5 +1,5 @@
--- What the loop of `put_substituted` knows, and what each of its turns keeps.
-use mathlib.Core.Path.{_≡_, ap, ap₂, refl, sym, _∙_}
+-- What the loop of `put_applied` knows, and what each of its turns keeps.
+use mathlib.Core.Path.{_≡_, ap, ap₂, refl, subst, subst⁻¹, sym, _∙_}
 use mathlib.Core.Bool.{Bool, cond, false, true}
 use mathlib.Core.List.{List, [], _++_, _∷_, append-assoc, append-nil}
 use Prim.Native.Nat.{ℕ, suc, zero, _+_, _-_, _≤_}
@@ -18,7 +18,8 @@ use Rattle.term.proofs.Views.{end-inside, end-onward}
 use Rattle.term.proofs.Sizes.{length-bytes}
 use Rattle.buffer.specs.Written.{Wrote}
 use Rattle.buffer.specs.Theory.Writes.{known-as, same, still, then}
-use Rattle.term_subst.specs.Variable.{is-variable}
+use Rattle.term_subst.specs.Variable.{is-variable, span}
+use Rattle.term_subst.specs.declared.Span.{Span}
 use Rattle.term_subst.proofs.Ahead.{Due, due}
 use Rattle.term_subst.proofs.Leaves.{substitute-leaf, variable-leaf}
 use Rattle.term_subst.proofs.Copies.{copied-leaf, copied-one, copied-term, copied-two, length-part, part}
@@ -156,16 +157,16 @@ module _ {s : List ℕ} {at from : ℕ} {old : List ℕ} {pos here k n : ℕ} {a
       value : Turn (term-at s from) (c .left) (part s from to) s (here + h .size) (k - 1) n a
       value = rw (copied-term b g ends) (turn-variable (c .walked) some is (term-at s from) v)
 
-      pub putting-value-asks : (from ≤ to) × ((to ≤ length s) × (next + (to - from) ≤ length out))
+      putting-value-asks : (from ≤ to) × ((to ≤ length s) × (next + (to - from) ≤ length out))
       putting-value-asks = putting-asks value from to refl (omega (arith, ends, end-onward s from)) (omega (arith, ends, end-inside g))
 
-      pub putting-value : {out′ : List ℕ} {next′ : ℕ} → Wrote out next (part s from to) out′ next′ →
+      putting-value : {out′ : List ℕ} {next′ : ℕ} → Wrote out next (part s from to) out′ next′ →
           Putting s at from old pos (here + h .size) (k - 1) n a out′ next′
       putting-value w = putting-turn value w
 
     -- any other node: its head is written
     module _ (v : is-variable n (leaf-exp (h .tag) (h .arg)) ≡ false) where
-      pub putting-head-asks : (here ≤ here + h .size) × ((here + h .size ≤ length s) × (next + (here + h .size - here) ≤ length out))
+      putting-head-asks : (here ≤ here + h .size) × ((here + h .size ≤ length s) × (next + (here + h .size - here) ≤ length out))
       putting-head-asks = go (h .subterms) refl
         where
           inside : here + h .size ≤ length s
@@ -178,12 +179,49 @@ module _ {s : List ℕ} {at from : ℕ} {old : List ℕ} {pos here k n : ℕ} {a
               let two = walked-two-subterms (c .walked) some is (λ z. absurd (omega (arith, z, e))) (λ z. absurd (omega (arith, z, e))) in
               putting-asks (turn-two (c .walked) some is (term-at s from) b two) here (here + h .size) refl (omega arith) inside
 
-      module _ {out′ : List ℕ} {next′ : ℕ} (w : Wrote out next (part s here (here + h .size)) out′ next′) where
-        pub putting-leaf : h .subterms ≡ 0 → Putting s at from old pos (here + h .size) (k - 1) n a out′ next′
-        putting-leaf m = putting-turn (turn-leaf (c .walked) some is (term-at s from) b v m) w
+    -- what is written for the node, and what is known then
+    module _ {to : ℕ} (g : GoodAt s from) (ends : to ≡ end-at s from) where
+      abbrev variable : Bool
+      variable = is-variable n (leaf-exp (h .tag) (h .arg))
 
-        pub putting-one : h .subterms ≡ 1 → Putting s at from old pos (here + h .size) 1 (n + 1) (set a n (k - 1)) out′ next′
-        putting-one m = putting-turn (turn-one (c .walked) some is (term-at s from) b m) w
+      abbrev span-of : Bool → Span
+      span-of t = cond t (span from to) (span here (here + h .size))
 
-        pub putting-two : h .subterms ≡ 2 → Putting s at from old pos (here + h .size) (k + 1) n a out′ next′
-        putting-two m = putting-turn (turn-two (c .walked) some is (term-at s from) b m) w
+      abbrev Asks : Span → Type 0
+      Asks q = (q .from ≤ q .to) × ((q .to ≤ length s) × (next + (q .to - q .from) ≤ length out))
+
+      abbrev Copied : List ℕ → ℕ → Span → Type 0
+      Copied out′ next′ q = Wrote out next (part s (q .from) (q .to)) out′ next′
+
+      module _ {p : Span} (chosen : p ≡ span-of variable) where
+        pub putting-node-asks : Asks p
+        putting-node-asks = subst⁻¹ Asks chosen (go variable refl)
+          where
+            go : (t : Bool) → variable ≡ t → Asks (span-of t)
+            go true v = putting-value-asks v g ends
+            go false v = putting-head-asks v
+
+        module _ {out′ : List ℕ} {next′ : ℕ} (w : Copied out′ next′ p) where
+          wrote : Copied out′ next′ (span-of variable)
+          wrote = subst (Copied out′ next′) chosen w
+
+          pub putting-leaf : h .subterms ≡ 0 → Putting s at from old pos (here + h .size) (k - 1) n a out′ next′
+          putting-leaf m = go variable refl wrote
+            where
+              go : (t : Bool) → variable ≡ t → Copied out′ next′ (span-of t) → Putting s at from old pos (here + h .size) (k - 1) n a out′ next′
+              go true v w = putting-value v g ends w
+              go false v w = putting-turn (turn-leaf (c .walked) some is (term-at s from) b v m) w
+
+          -- a node with subterms is no variable
+          as-it-stands : ¬ (h .subterms ≡ 0) → Copied out′ next′ (span-of false)
+          as-it-stands m = go variable refl wrote
+            where
+              go : (t : Bool) → variable ≡ t → Copied out′ next′ (span-of t) → Copied out′ next′ (span-of false)
+              go true v w = absurd (m (variable-leaf s here n is v))
+              go false v w = w
+
+          pub putting-one : h .subterms ≡ 1 → Putting s at from old pos (here + h .size) 1 (n + 1) (set a n (k - 1)) out′ next′
+          putting-one m = putting-turn (turn-one (c .walked) some is (term-at s from) b m) (as-it-stands (λ z. absurd (omega (arith, z, m))))
+
+          pub putting-two : h .subterms ≡ 2 → Putting s at from old pos (here + h .size) (k + 1) n a out′ next′
+          putting-two m = putting-turn (turn-two (c .walked) some is (term-at s from) b m) (as-it-stands (λ z. absurd (omega (arith, z, m))))

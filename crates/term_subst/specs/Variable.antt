@@ -3,6 +3,11 @@ use mathlib.Core.Bool.{Bool, false}
 use Prim.Native.Nat.{ℕ}
 use lib.Dec.{eqb}
 use Rattle.calculus.specs.Syntax.{Exp, var, name, const, lam, app}
+use Rattle.term_subst.specs.declared.Span.{Span}
+
+-- the bytes of a slice from one position to another
+abbrev pub span : ℕ → ℕ → Span
+span from to = record { from = from; to = to }
 
 -- this is the variable of the lambda `depth` lambdas out
 unfoldable pub is-variable : ℕ → Exp → Bool

@@ -6,6 +6,7 @@ use numbers::Image;
 use term::Front;
 use term::Node;
 ghost use mathlib.Core.Path.{_≡_};
+ghost use mathlib.Core.Bool.{cond};
 ghost use Prim.Native.Nat.{_+_, _≤_};
 ghost use lib.ListN.{length};
 ghost use Rattle.calculus.specs.Limits.{max-nodes};
@@ -15,7 +16,7 @@ ghost use Rattle.calculus.specs.Image.{nodes, size};
 ghost use Rattle.term.specs.Reader.{end-at, GoodAt};
 ghost use Rattle.term.specs.Expressions.{bytes, leaf-exp, term-at};
 ghost use Rattle.buffer.specs.Written.{Wrote};
-ghost use Rattle.term_subst.specs.Variable.{is-variable};
+ghost use Rattle.term_subst.specs.Variable.{is-variable, span};
 
 // Whether a node with so many lambdas around is the variable of the lambda around them all.
 fn is_variable(node: Node, lambdas: usize) -> bool
@@ -76,16 +77,28 @@ pub fn count_uses(s: &[u8], at: usize) -> usize
     }
 }
 
+// Bytes of a slice, from one position to another.
+pub struct Span {
+    pub from: usize,
+    pub to: usize,
+}
+
+// What is written for a node: the value for the variable, any other node as it stands.
+fn span_for(variable: bool, from: usize, to: usize, here: usize, past: usize) -> Span
+    ensures { λ r. ⌜ r ≡ cond variable (span from to) (span here past) ⌝ }
+{
+    if variable {
+        return Span { from, to };
+    }
+    Span {
+        from: here,
+        to: past,
+    }
+}
+
 // Writes the body of a lambda, the term at `at`, with the value from `from` to `to` in each place of the lambda's variable. Nothing else changes: every other
 // node is copied as it stands.
-pub fn put_substituted(
-    out: &mut [u8],
-    pos: usize,
-    s: &[u8],
-    at: usize,
-    from: usize,
-    to: usize,
-) -> usize
+pub fn put_applied(out: &mut [u8], pos: usize, s: &[u8], at: usize, from: usize, to: usize) -> usize
     requires { ⌜ GoodAt (now s) at × (nodes (term-at (now s) at) ≤ max-nodes) ⌝ }
     requires { ⌜ GoodAt (now s) from × (to ≡ end-at (now s) from) ⌝ }
     requires { ⌜ pos + size (substitute 0 (term-at (now s) from) (term-at (now s) at)) ≤ length (now out) ⌝ }
@@ -108,21 +121,15 @@ pub fn put_substituted(
         let Front::Is(node) = term::node_at(s, here) else {
             return next;
         };
-        let subterms = node.subterms;
         let past = here + node.size;
-        if is_variable(node, lambdas) {
-            next = put_part(out, next, s, from, to);
-            here = past;
-            pending -= 1;
-            continue;
-        }
-        next = put_part(out, next, s, here, past);
+        let span = span_for(is_variable(node, lambdas), from, to, here, past);
+        next = put_part(out, next, s, span.from, span.to);
         here = past;
-        if subterms == 0 {
+        if node.subterms == 0 {
             pending -= 1;
             continue;
         }
-        if subterms == 1 {
+        if node.subterms == 1 {
             outer[lambdas] = pending - 1; // this term is no longer to come
             lambdas += 1; // inside the body of this one
             pending = 1;

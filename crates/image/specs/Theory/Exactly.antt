@@ -25,6 +25,7 @@ use Rattle.calculus.specs.Theory.Tabulate.{tabulate-parts}
 use Rattle.image_layout.specs.Layout.{heads-stand, EachHead}
 use Rattle.image_layout.specs.Theory.ReadBack.{names-read, component-read}
 use Rattle.image_layout.specs.Theory.Exactly.{exactly, image-stands as layout-stands, one-reading}
+use Rattle.image.specs.Theory.Maps.{at-map}
 use Rattle.image.specs.Configuration.{encode, image-of, decode, config-of}
 use Rattle.image.specs.Stands.{terms-stand, image-stands}
 use Rattle.image.specs.Theory.Components.{FitsIn, decode-encode, encode-rule, Said, encode-decode, decode-fits, fits-writable, writable-fits}
@@ -83,11 +84,6 @@ module _ (s : List ℕ) (b : Bytes s) (stands : image-stands s ≡ true) where
   unfolding config-of
   config-fits k c h = let (x, g, e) = map-at decode (encoded-all s) k h in rw e (decode-fits x (said k x g))
 
-at-map : {A B : Type 0} (f : A → B) (l : List A) (k : ℕ) (x : A) → at l k ≡ some x → at (map f l) k ≡ some (f x)
-at-map f [] k x h = absurd (clash (cc))
-at-map f (y ∷ l) zero x h = let e : y ≡ x = cc in rw e refl
-at-map f (y ∷ l) (suc k) x h = at-map f l k x h
-
 -- a component that was written has one term, or none
 kind-and-term : (kind : ℕ) (expression : List ℕ) (c : Component) → FitsIn c → kind ≡ encode c .kind → expression ≡ encode c .expression →
     (leb open-handle-kind kind || one-term (read-term expression)) ≡ true
@@ -114,7 +110,7 @@ module _ (C : Config) (rule : ImageRule C) (w : EachAll Writable C) where
   unfolding terms-stand image-of encoded-at
   terms-written = each-below-complete (names (image-of C)) _ λ k l.
       let (c, h) = at-below C k (omega (arith, names-read (map encode C), length-map C encode)) in
-      let e = component-read (map encode C) k (encode c) (at-map encode C k c h) in
+      let e = component-read (map encode C) k (encode c) (at-map encode C k h) in
       kind-and-term _ _ c (each-fits k c h) (ap (λ (x : Encoded). x .kind) e) (ap (λ (x : Encoded). x .expression) e)
 
   pub image-written : image-stands (image-of C) ≡ true

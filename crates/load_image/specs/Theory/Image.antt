@@ -1,7 +1,7 @@
 -- The starting image of an accepted recipe, name by name.
 use mathlib.Core.Path.{_≡_, refl, sym, ap, _∙_}
-use mathlib.Core.List.{List, [], _++_, _∷_, map}
-use Prim.Native.Nat.{ℕ, zero, suc, _+_, _<_}
+use mathlib.Core.List.{List, _∷_, map}
+use Prim.Native.Nat.{ℕ, zero, suc, _<_}
 use lib.ListN.{replicate}
 use Rattle.calculus.specs.Bytes.{Bytes}
 use Rattle.calculus.specs.Lists.{tabulate}
@@ -15,14 +15,11 @@ use Rattle.check_spec.specs.Bays.{bay-term, bay-terms}
 use Rattle.check_spec.specs.Verdict.{refusal}
 use Rattle.image_layout.specs.Encoded.{image-bytes}
 use Rattle.image.specs.Configuration.{encode, image-of}
+use Rattle.image.specs.Theory.Maps.{map-append}
 use Rattle.load_spec.specs.Starting.{starting-image}
 use Rattle.load_spec.specs.Theory.Image.{says}
 use Rattle.load_image.specs.Starting.{bay-thread, starting-at, starting-names}
 use Rattle.load_image.specs.Theory.Parts.{starting-parts}
-
-map-parts : {A B : Type 0} (f : A → B) (l m : List A) → map f (l ++ m) ≡ map f l ++ map f m
-map-parts f [] m = refl
-map-parts f (x ∷ l) m = ap (λ r. f x ∷ r) (map-parts f l m)
 
 map-replicate : {A B : Type 0} (f : A → B) (n : ℕ) (x : A) → map f (replicate n x) ≡ tabulate n (λ k. f x)
 unfolding tabulate
@@ -39,4 +36,4 @@ module _ (s : List ℕ) (b : Bytes s) (accepted : refusal s ≡ 0) where
   unfolding starting-image image-of loaded bay-terms encode bytes const-bytes little-endian
   starting-tabulated =
       ap image-bytes
-      (rw (length-tabulate (bays s) (bay-term s), map-parts encode, map-replicate encode, map-tabulate thread-of (bays s) (bay-term s), map-tabulate encode (bays s), tabulate-same (bays s) _ (bay-thread s) bay-bytes, starting-parts s) refl)
+      (rw (length-tabulate (bays s) (bay-term s), map-append encode, map-replicate encode, map-tabulate thread-of (bays s) (bay-term s), map-tabulate encode (bays s), tabulate-same (bays s) _ (bay-thread s) bay-bytes, starting-parts s) refl)

@@ -14,8 +14,8 @@ use Rattle.step_reduct.proofs.put_redex_after.Tie as tie
 abbrev before-else1 : tie.Else1 → tie.Start
 before-else1 c = c .before .before .before
 
-put-substituted-requires : tie.Need-put-substituted-requires
-put-substituted-requires c κs =
+put-applied-requires : tie.Need-put-applied-requires
+put-applied-requires c κs =
     let start = c .before .before .before .before .before in
     let w = start .pre .0 in
     let e = c .before .before .if1 .taken in
@@ -25,7 +25,7 @@ returns : tie.Need-returns
 returns c =
     let in-then1 = c .before .before .before .before .before in
     let start = in-then1 .before .before .before in
-    known-as (c .before .before .put-substituted .ensures) (sym (redex-1 (start .pre .0) (in-then1 .if1 .taken)))
+    known-as (c .before .before .put-applied .ensures) (sym (redex-1 (start .pre .0) (in-then1 .if1 .taken)))
 
 put-byte-requires : tie.Need-put-byte-requires
 put-byte-requires c κs =
@@ -80,7 +80,7 @@ put-redex-after-spec =
     tie.close
     (tie.spec
     (λ c. search needs)
-    put-substituted-requires
+    put-applied-requires
     (λ c. search needs)
     returns
     (λ c κs. search needs)

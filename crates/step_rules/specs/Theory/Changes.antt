@@ -14,6 +14,7 @@ use Rattle.calculus.specs.Theory.Tests.{clash, eqb-sound}
 use Rattle.calculus.specs.Theory.Tabulate.{length-tabulate, set-tabulate, tabulate-more}
 use Rattle.image_layout.specs.Encoded.{Encoded}
 use Rattle.image.specs.Configuration.{encode}
+use Rattle.image.specs.Theory.Maps.{map-append}
 
 -- the components of a configuration in bytes are the first n values of f
 pub record Table (C : Config) (n : ℕ) (f : ℕ → Encoded) : Type 0 where
@@ -26,10 +27,6 @@ map-set : {A B : Type 0} (g : A → B) (l : List A) (x : ℕ) (a : A) → map g 
 map-set g [] x a = refl
 map-set g (b ∷ l) zero a = refl
 map-set g (b ∷ l) (suc x) a = ap (λ r. g b ∷ r) (map-set g l x a)
-
-map-append : {A B : Type 0} (g : A → B) (l m : List A) → map g (l ++ m) ≡ map g l ++ map g m
-map-append g [] m = refl
-map-append g (b ∷ l) m = ap (λ r. g b ∷ r) (map-append g l m)
 
 -- one changed
 pub table-set : {C : Config} {n : ℕ} {f : ℕ → Encoded} (x : ℕ) (c : Component) → Table C n f → Table (set C x c) n (λ i. cond (eqb i x) (encode c) (f i))

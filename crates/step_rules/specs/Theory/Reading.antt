@@ -2,15 +2,15 @@
 use mathlib.Core.Path.{_∙_, _≡_, ap, refl, sym}
 use mathlib.Core.Bool.{true}
 use mathlib.Core.Option.{some}
-use mathlib.Core.List.{List, [], _∷_, map}
-use Prim.Native.Nat.{ℕ, _+_, _≤_, _<_, suc, zero}
+use mathlib.Core.List.{List}
+use Prim.Native.Nat.{ℕ, _+_, _≤_, _<_}
 use native.Mathlib.Omega.{arith}
 use lib.ListN.{drop, length, length-map, take, take-append-drop}
 use lib.Seq.{drop-drop}
 use Rattle.calculus.specs.Bytes.{Bytes}
 use Rattle.calculus.specs.Syntax.{Exp, Component, thread-of, holds, at}
 use Rattle.calculus.specs.Image.{ImageRule, size}
-use Rattle.calculus.specs.Theory.Tests.{and-parts, clash}
+use Rattle.calculus.specs.Theory.Tests.{and-parts}
 use Rattle.calculus.specs.Theory.Lists.{at-bound}
 use Rattle.calculus.specs.Theory.ImageTest.{image-test-iff}
 use Rattle.term.specs.Expressions.{bytes, FitsBytes, TermAt}
@@ -22,12 +22,8 @@ use Rattle.image_layout.specs.Layout.{heads-stand}
 use Rattle.image_layout.specs.Theory.Reading.{has-expression, expression-length}
 use Rattle.image.specs.Configuration.{encode, config-of}
 use Rattle.image.specs.Stands.{image-stands}
+use Rattle.image.specs.Theory.Maps.{at-map}
 use Rattle.image.specs.Theory.Exactly.{image-tested, written-back, config-fits}
-
-at-map : {A B : Type 0} (f : A → B) (l : List A) (k : ℕ) {x : A} → at l k ≡ some x → at (map f l) k ≡ some (f x)
-at-map f [] k h = absurd (clash (cc))
-at-map f (y ∷ l) zero h = ap (λ o. some (f o)) cc
-at-map f (y ∷ l) (suc k) h = at-map f l k h
 
 -- an expression stands whole at a position, with so many bytes
 pub record Stands (s : List ℕ) (k : ℕ) (e : Exp) : Type 0 where

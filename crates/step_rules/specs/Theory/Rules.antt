@@ -22,7 +22,7 @@ use Rattle.image_layout.specs.Slice.{names, offset-at, length-at, encoded-at}
 use Rattle.image.specs.Configuration.{encode, config-of, image-of}
 use Rattle.term_redex.specs.declared.Meeting.{Meeting}
 use Rattle.term_redex.proofs.Contexts.{plug-nodes}
-use Rattle.term_subst.specs.Outcome.{nodes-substitute}
+use Rattle.term_subst.specs.Theory.Outcome.{nodes-substitute}
 use Rattle.step_rules.specs.Positions.{name-length, to-body}
 use Rattle.step_rules.specs.Moves.{bytes-between, thread-holding, cell-holding, argument-bytes, copied-bytes, name-bytes, redexes, redex-after, others, other-after, new-names, names-after, image-after, node-counts, nodes-after}
 use Rattle.step_rules.specs.Stepped.{Movable, Stepped}

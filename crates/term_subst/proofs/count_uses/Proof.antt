@@ -6,6 +6,7 @@ use Prim.Native.Nat.{_*_, _+_, _-_, _<_, _≤_, ℕ}
 use native.Mathlib.Omega.{arith}
 use borrow.Author.Needs.{needs}
 use lib.ListN.{length}
+use Rattle.calculus.specs.Limits.{max-nodes}
 use Rattle.term.specs.declared.Front.the-variants.{Is}
 use Rattle.term.specs.declared.Node.{Node}
 use Rattle.term.specs.Reader.{node-at}
@@ -90,7 +91,7 @@ loop-again-2 c =
 sub-outer : tie.Need-sub-outer Inv-loop μ-loop
 sub-outer c = omega (arith, some (c .before .before))
 
-deep : (n : AtNode) → head n .subterms ≡ 1 → loop n .loop .lambdas < 4096
+deep : (n : AtNode) → head n .subterms ≡ 1 → loop n .loop .lambdas < max-nodes
 deep n m = walked-deep (loop n .loop .inv .walked) (some n) (is-head n) m
 
 array-write-outer : tie.Need-array-write-outer Inv-loop μ-loop

@@ -1,18 +1,13 @@
--- The outcome of a substitution: its nodes, its size, its bytes, and that it can be written.
-use mathlib.Core.Path.{_≡_, ap, ap₂, refl}
+-- The outcome of a substitution: its nodes and its size.
+use mathlib.Core.Path.{_≡_, refl}
 use mathlib.Core.Bool.{Bool, cond, false, true}
-use mathlib.Core.List.{List, [], _++_, _∷_}
 use Prim.Native.Nat.{_*_, _+_, _≤_, suc, ℕ}
 use native.Mathlib.Omega.{arith}
-use native.Mathlib.Nat.{mul-zero}
 use lib.Dec.{eqb}
 use Rattle.calculus.specs.Syntax.{Exp, var, name, const, lam, app}
 use Rattle.calculus.specs.Reduction.{substitute}
 use Rattle.calculus.specs.Names.{uses}
 use Rattle.calculus.specs.Image.{nodes, size}
-use Rattle.calculus.specs.Theory.Expressions.{count-substitute}
-use Rattle.calculus.specs.Theory.Each.{each-substitute}
-use Rattle.term.specs.Expressions.{bytes, FitsBytes}
 
 -- a weight that adds up: w at a variable, l at a lambda, a at an application
 module _ (weight : Exp → ℕ) (w l a : ℕ)
@@ -42,27 +37,6 @@ pub size-substitute : (d : ℕ) (v e : Exp) → size (substitute d v e) + uses d
 unfolding size
 size-substitute d v e = weight-substitute size 2 2 1 (λ i. refl) (λ t e. refl) (λ f e. omega arith) d v e
 
--- the bytes of an expression with others in the variable's places: nothing else changes
-unfoldable pub replaced : ℕ → List ℕ → Exp → List ℕ
-replaced depth x (var i) = cond (eqb i depth) x (bytes (var i))
-replaced depth x (name k) = bytes (name k)
-replaced depth x (const c) = bytes (const c)
-replaced depth x (lam t e) = 1 ∷ t ∷ replaced (suc depth) x e
-replaced depth x (app f a) = 2 ∷ (replaced depth x f ++ replaced depth x a)
-
--- are the outcome's
-pub bytes-substitute : (d : ℕ) (v e : Exp) → bytes (substitute d v e) ≡ replaced d (bytes v) e
-unfolding bytes substitute replaced
-bytes-substitute d v (var i) = at-var (eqb i d)
-  where
-    at-var : (b : Bool) → bytes (cond b v (var i)) ≡ cond b (bytes v) (0 ∷ i ∷ [])
-    at-var true = refl
-    at-var false = refl
-bytes-substitute d v (name k) = refl
-bytes-substitute d v (const c) = refl
-bytes-substitute d v (lam t e) = ap (λ l. 1 ∷ t ∷ l) (bytes-substitute (suc d) v e)
-bytes-substitute d v (app f a) = ap₂ (λ l m. 2 ∷ (l ++ m)) (bytes-substitute d v f) (bytes-substitute d v a)
-
 -- a variable has no more places than there are nodes
 pub uses-nodes : (d : ℕ) (e : Exp) → uses d e ≤ nodes e
 unfolding uses nodes
@@ -75,14 +49,3 @@ uses-nodes d (name k) = omega arith
 uses-nodes d (const c) = omega arith
 uses-nodes d (lam t e) = omega (arith, uses-nodes (suc d) e)
 uses-nodes d (app f e) = omega (arith, uses-nodes d f, uses-nodes d e)
-
--- what can be written goes into what can be written
-pub fits-substitute : (d : ℕ) {v e : Exp} → FitsBytes v → FitsBytes e → FitsBytes (substitute d v e)
-fits-substitute d {v} {e} fv fe =
-    record {
-      writable = each-substitute d (fv .writable) (fe .writable);
-      names = λ k le. omega (arith, count-substitute k d v e, fe .names k le, no-times (uses d e) (fv .names k le));
-    }
-  where
-    no-times : (n : ℕ) {m : ℕ} → m ≡ 0 → n * m ≡ 0
-    no-times n z = rw z (mul-zero n)

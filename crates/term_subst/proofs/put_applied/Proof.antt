@@ -1,23 +1,25 @@
--- `term_subst::put_substituted` meets its contract. The loop's invariant: what is written, and then the terms still to be read with the value for the
+-- `term_subst::put_applied` meets its contract. The loop's invariant: what is written, and then the terms still to be read with the value for the
 -- variable, is the outcome. The measure: a node takes a byte, and adds at most one lambda.
-use mathlib.Core.Path.{_≡_, refl, sym, _∙_}
-use mathlib.Core.Bool.{false}
+use mathlib.Core.Path.{_≡_, ap, refl, sym, _∙_}
+use mathlib.Core.Bool.{Bool, cond}
 use mathlib.Core.List.{List}
 use Prim.Native.Nat.{_*_, _+_, _-_, _<_, _≤_, ℕ}
 use native.Mathlib.Omega.{arith}
 use borrow.Author.Needs.{needs}
 use lib.ListN.{length}
 use Rattle.calculus.specs.Bytes.{Bytes}
+use Rattle.calculus.specs.Limits.{max-nodes}
 use Rattle.term.specs.declared.Front.the-variants.{Is}
 use Rattle.term.specs.declared.Node.{Node}
 use Rattle.term.specs.Reader.{node-at}
 use Rattle.term.specs.Expressions.{leaf-exp}
 use Rattle.buffer.specs.Theory.Writes.{same}
-use Rattle.term_subst.specs.Variable.{is-variable}
+use Rattle.term_subst.specs.declared.Span.{Span}
+use Rattle.term_subst.specs.Variable.{is-variable, span}
 use Rattle.term_subst.proofs.Walked.{walked-deep, walked-good, walked-in, walked-low, walked-not-bad, walked-pending, walked-two-subterms}
-use Rattle.term_subst.proofs.Putting.{Putting, putting-done, putting-head-asks, putting-leaf, putting-one, putting-pop, putting-start, putting-two, putting-value, putting-value-asks}
-use Rattle.term_subst.proofs.put_substituted.Statement.{statement}
-use Rattle.term_subst.proofs.put_substituted.Tie as tie
+use Rattle.term_subst.proofs.Putting.{Putting, putting-done, putting-leaf, putting-node-asks, putting-one, putting-pop, putting-start, putting-two}
+use Rattle.term_subst.proofs.put_applied.Statement.{statement}
+use Rattle.term_subst.proofs.put_applied.Tie as tie
 
 abbrev Inv-loop : tie.InvT-loop
 Inv-loop out₀ pos s at from to outer₀ lambdas₀ here₀ pending₀ next₀ out outer lambdas here pending next =
@@ -33,19 +35,18 @@ AtLoop = tie.At-loop Inv-loop μ-loop
 abbrev AtNode : Type 0
 AtNode = tie.After-struct-known Inv-loop μ-loop
 
--- where the value was written
-abbrev AtValue : Type 0
-AtValue = tie.After-slice-known2 Inv-loop μ-loop
+-- where it was written, or what stands for it
+abbrev AtWritten : Type 0
+AtWritten = tie.After-struct-known2 Inv-loop μ-loop
 
-abbrev at-value : AtValue → AtNode
-at-value c = c .before .before .before .before .before .before
+abbrev at-part : AtWritten → tie.After-put-part Inv-loop μ-loop
+at-part c = c .before .before .before
 
--- where a head was written
-abbrev AtHead : Type 0
-AtHead = tie.After-slice-known3 Inv-loop μ-loop
+abbrev at-span : AtWritten → tie.After-span-for Inv-loop μ-loop
+at-span c = at-part c .before .before
 
-abbrev at-head : AtHead → AtNode
-at-head c = c .before .before .before .before .before .before
+abbrev at-node : AtWritten → AtNode
+at-node c = at-span c .before .before
 
 abbrev loop : AtNode → AtLoop
 loop c = c .before .before .before .before .before .before
@@ -100,85 +101,77 @@ returns-2 c = absurd (not-bad c)
 add-past : tie.Need-add-past Inv-loop μ-loop
 add-past c = omega (arith, inside c .0)
 
+-- what is written for the node
+abbrev value : AtNode → Span
+value n = let p = loop n .before .before .before .args in span (p .from) (p .to)
+
+abbrev as-it-stands : AtNode → Span
+as-it-stands n = span (loop n .loop .here) (loop n .loop .here + head n .size)
+
+chosen : (c : tie.After-span-for Inv-loop μ-loop) → let n = c .before .before in
+    c .span-for .result ≡ cond (is-variable (loop n .loop .lambdas) (leaf-exp (head n .tag) (head n .arg))) (value n) (as-it-stands n)
+chosen c = let n = c .before .before in c .span-for .ensures ∙ ap (λ (b : Bool). cond b (value n) (as-it-stands n)) (c .before .is-variable .ensures)
+
 put-part-requires : tie.Need-put-part-requires Inv-loop μ-loop
 put-part-requires c κs =
-    let n = c .before .before .before in
+    let f = c .before in
+    let n = f .before .before in
     let p = loop n .before .before .before .pre in
-    putting-value-asks (loop n .loop .inv) (some n) (is-head n) (slice-bytes (loop n))
-    (sym (c .before .before .is-variable .ensures) ∙ c .before .if3 .taken) (p .1 .0 .0) (p .1 .0 .1)
+    putting-node-asks (loop n .loop .inv) (some n) (is-head n) (slice-bytes (loop n)) (p .1 .0 .0) (p .1 .0 .1) (chosen f)
 
 sub-pending : tie.Need-sub-pending Inv-loop μ-loop
-sub-pending c = omega (arith, some (at-value c))
+sub-pending c = omega (arith, some (at-node (c .before)))
 
 loop-less-2 : tie.Need-loop-less-2 Inv-loop μ-loop
-loop-less-2 c = omega (arith, inside (at-value c) .0, inside (at-value c) .1)
+loop-less-2 c = let n = at-node (c .before) in omega (arith, inside n .0, inside n .1)
 
 loop-again-2 : tie.Need-loop-again-2 Inv-loop μ-loop
 loop-again-2 c =
-    let n = at-value c in
-    let p = loop n .before .before .before .pre in
-    putting-value (loop n .loop .inv) (some n) (is-head n) (slice-bytes (loop n))
-    (sym (c .before .before .before .before .before .is-variable .ensures) ∙ c .before .before .before .before .if3 .taken) (p .1 .0 .0) (p .1 .0 .1)
-    (c .before .before .put-part .ensures)
-
-put-part-requires-2 : tie.Need-put-part-requires-2 Inv-loop μ-loop
-put-part-requires-2 c κs =
-    let n = c .before .before .before in
-    putting-head-asks (loop n .loop .inv) (some n) (is-head n) (slice-bytes (loop n))
-    (sym (c .before .before .is-variable .ensures) ∙ c .before .if3 .left)
-
--- it is no variable
-other : (c : AtHead) → is-variable (loop (at-head c) .loop .lambdas) (leaf-exp (head (at-head c) .tag) (head (at-head c) .arg)) ≡ false
-other c = sym (c .before .before .before .before .before .is-variable .ensures) ∙ c .before .before .before .before .if3 .left
-
-sub-pending-2 : tie.Need-sub-pending-2 Inv-loop μ-loop
-sub-pending-2 c = omega (arith, some (at-head (c .before)))
-
-loop-less-3 : tie.Need-loop-less-3 Inv-loop μ-loop
-loop-less-3 c = let n = at-head (c .before) in omega (arith, inside n .0, inside n .1)
-
-loop-again-3 : tie.Need-loop-again-3 Inv-loop μ-loop
-loop-again-3 c =
     let h = c .before in
-    let n = at-head h in
-    putting-leaf (loop n .loop .inv) (some n) (is-head n) (slice-bytes (loop n)) (other h) (h .before .before .put-part2 .ensures) (c .if4 .taken)
+    let n = at-node h in
+    let p = loop n .before .before .before .pre in
+    putting-leaf (loop n .loop .inv) (some n) (is-head n) (slice-bytes (loop n)) (p .1 .0 .0) (p .1 .0 .1) (chosen (at-span h)) (at-part h .put-part .ensures)
+    (c .if3 .taken)
 
 sub-outer : tie.Need-sub-outer Inv-loop μ-loop
-sub-outer c = omega (arith, some (at-head (c .before .before)))
+sub-outer c = omega (arith, some (at-node (c .before .before .before)))
 
-deep : (n : AtNode) → head n .subterms ≡ 1 → loop n .loop .lambdas < 4096
+deep : (n : AtNode) → head n .subterms ≡ 1 → loop n .loop .lambdas < max-nodes
 deep n m = walked-deep (loop n .loop .inv .walked) (some n) (is-head n) m
 
 array-write-outer : tie.Need-array-write-outer Inv-loop μ-loop
-array-write-outer c = deep (at-head (c .before .before)) (c .if5 .taken)
+array-write-outer c = deep (at-node (c .before .before .before)) (c .if4 .taken)
 
 add-lambdas : tie.Need-add-lambdas Inv-loop μ-loop
-add-lambdas c = omega (arith, deep (at-head (c .before .before)) (c .if5 .taken))
+add-lambdas c = omega (arith, deep (at-node (c .before .before .before)) (c .if4 .taken))
+
+loop-less-3 : tie.Need-loop-less-3 Inv-loop μ-loop
+loop-less-3 c = let n = at-node (c .before .before .before) in omega (arith, inside n .0, inside n .1)
+
+loop-again-3 : tie.Need-loop-again-3 Inv-loop μ-loop
+loop-again-3 c =
+    let h = c .before .before .before in
+    let n = at-node h in
+    let p = loop n .before .before .before .pre in
+    putting-one (loop n .loop .inv) (some n) (is-head n) (slice-bytes (loop n)) (p .1 .0 .0) (p .1 .0 .1) (chosen (at-span h)) (at-part h .put-part .ensures)
+    (c .if4 .taken)
+
+add-pending : tie.Need-add-pending Inv-loop μ-loop
+add-pending c = let n = at-node (c .before .before .before) in omega (arith, walked-pending (loop n .loop .inv .walked) (some n))
 
 loop-less-4 : tie.Need-loop-less-4 Inv-loop μ-loop
-loop-less-4 c = let n = at-head (c .before .before) in omega (arith, inside n .0, inside n .1)
+loop-less-4 c = let n = at-node (c .before .before .before) in omega (arith, inside n .0, inside n .1)
 
 loop-again-4 : tie.Need-loop-again-4 Inv-loop μ-loop
 loop-again-4 c =
-    let h = c .before .before in
-    let n = at-head h in
-    putting-one (loop n .loop .inv) (some n) (is-head n) (slice-bytes (loop n)) (other h) (h .before .before .put-part2 .ensures) (c .if5 .taken)
+    let h = c .before .before .before in
+    let n = at-node h in
+    let p = loop n .before .before .before .pre in
+    putting-two (loop n .loop .inv) (some n) (is-head n) (slice-bytes (loop n)) (p .1 .0 .0) (p .1 .0 .1) (chosen (at-span h)) (at-part h .put-part .ensures)
+    (walked-two-subterms (loop n .loop .inv .walked) (some n) (is-head n) (c .before .before .if3 .left) (c .if4 .left))
 
-add-pending : tie.Need-add-pending Inv-loop μ-loop
-add-pending c = let n = at-head (c .before .before) in omega (arith, walked-pending (loop n .loop .inv .walked) (some n))
-
-loop-less-5 : tie.Need-loop-less-5 Inv-loop μ-loop
-loop-less-5 c = let n = at-head (c .before .before) in omega (arith, inside n .0, inside n .1)
-
-loop-again-5 : tie.Need-loop-again-5 Inv-loop μ-loop
-loop-again-5 c =
-    let h = c .before .before in
-    let n = at-head h in
-    putting-two (loop n .loop .inv) (some n) (is-head n) (slice-bytes (loop n)) (other h) (h .before .before .put-part2 .ensures)
-    (walked-two-subterms (loop n .loop .inv .walked) (some n) (is-head n) (c .before .if4 .left) (c .if5 .left))
-
-pub put-substituted-spec : {M : Type 1} → statement M
-put-substituted-spec =
+pub put-applied-spec : {M : Type 1} → statement M
+put-applied-spec =
     tie.close
     (tie.spec
     Inv-loop
@@ -198,20 +191,17 @@ put-substituted-spec =
     returns-2
     add-past
     (λ c κs. search needs)
+    (λ c κs. search needs)
     put-part-requires
     sub-pending
     loop-less-2
     loop-again-2
-    put-part-requires-2
-    sub-pending-2
-    loop-less-3
-    loop-again-3
     sub-outer
     (λ c. search needs)
     array-write-outer
     add-lambdas
-    loop-less-4
-    loop-again-4
+    loop-less-3
+    loop-again-3
     add-pending
-    loop-less-5
-    loop-again-5)
+    loop-less-4
+    loop-again-4)
