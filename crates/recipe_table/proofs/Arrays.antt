@@ -1,6 +1,6 @@
 -- A table and the array that holds it.
 use mathlib.Core.Path.{_∙_, _≡_, ap, refl, sym}
-use mathlib.Core.Option.{none, some}
+use mathlib.Core.Option.{some}
 use mathlib.Core.List.{List, [], _++_, _∷_, map}
 use Prim.Native.Nat.{_*_, _+_, _-_, _/_, _<_, _≤_, suc, zero, ℕ}
 use native.Mathlib.Numerals.{add-one}
@@ -10,7 +10,6 @@ use lib.Seq.{append-snoc, getD-take, set-at, take-all, take-at, take-suc}
 use Rattle.calculus.specs.Limits.{max-entries}
 use Rattle.calculus.specs.Syntax.{at}
 use Rattle.calculus.specs.Table as calculus
-use Rattle.calculus.specs.Theory.Lists.{at-past}
 use Rattle.recipe_file.specs.File.{entry-length}
 use Rattle.recipe_table.specs.declared.Entry.{Entry}
 use Rattle.recipe_table.specs.Entries.{table-of}
@@ -99,6 +98,3 @@ module _ (a : List Entry) (count : ℕ) (h : count ≤ length a) where
   -- entry i, as a reader of the table finds it
   pub entry-at : (i : ℕ) → i < count → at (as-table a count) i ≡ some (as-entry (getD a i unused))
   entry-at i l = at-getD (as-table a count) i blank (rw length-as-table l) ∙ ap some (entry-of i l)
-
-  pub no-entry-at : (i : ℕ) → count ≤ i → at (as-table a count) i ≡ none
-  no-entry-at i l = at-past (as-table a count) i (rw length-as-table l)
