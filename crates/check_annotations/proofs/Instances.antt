@@ -7,7 +7,7 @@ use lib.Dec.{eqb}
 use Rattle.calculus.specs.Kinds.{cell-type-kind, once-type-kind, unit-entry}
 use Rattle.calculus.specs.Narrowing.{narrowed}
 use Rattle.calculus.specs.Table.{Table}
-use Rattle.calculus.specs.Verdict.{is-cell-type, is-exch-type, is-function-kind, is-handle-type, is-many, is-thread-type, on-cell, on-function, on-once-function}
+use Rattle.calculus.specs.Verdict.{cell-parts, exch-parts, handle-parts, is-function-kind, is-many, on-function, on-once-function, thread-parts}
 use Rattle.recipe_table.specs.declared.Entry.{Entry}
 use Rattle.recipe_table.specs.Filled.{as-entry}
 use Rattle.check_types.specs.Entries.{entry-of}
@@ -40,72 +40,48 @@ pub handle-tests : (x : Entry) (a : ℕ) → Asks (handle-of x a) (eqb (x .kind)
 unfolding handle-of all
 handle-tests x a = record { same = refl }
 
--- the tests of a constant's type, whose entry is w; the other entries are those that it names
-abbrev pub cell-type-list : Table → Entry → Entry → List Bool
-cell-type-list T w x = is-function-kind (w .kind) ∷ eqb (x .kind) cell-type-kind ∷ eqb (x .p) (w .p) ∷ narrowed T (w .p) ∷ []
+-- the tests of the type of a constant, a function from p to q; the entries are those that it names
+abbrev pub cell-list : Table → ℕ → Entry → List Bool
+cell-list T p x = eqb (x .kind) cell-type-kind ∷ eqb (x .p) p ∷ narrowed T p ∷ []
 
-abbrev pub exch-type-list : Table → Entry → Entry → Entry → List Bool
-exch-type-list T w x y = is-function-kind (w .kind) ∷ eqb (x .kind) cell-type-kind ∷ maps y (x .p) (x .p) ∷ narrowed T (x .p) ∷ []
+abbrev pub exch-list : Table → Entry → Entry → List Bool
+exch-list T x y = eqb (x .kind) cell-type-kind ∷ maps y (x .p) (x .p) ∷ narrowed T (x .p) ∷ []
 
-abbrev pub thread-type-list : Table → Entry → Entry → List Bool
-thread-type-list T w x = is-function-kind (w .kind) ∷ maps x (w .q) (w .q) ∷ is-many T (w .q) ∷ []
+abbrev pub thread-list : Table → ℕ → Entry → List Bool
+thread-list T q x = maps x q q ∷ is-many T q ∷ []
 
-abbrev pub handle-type-list : Table → Entry → Entry → Entry → Entry → List Bool
-handle-type-list T w o i h =
-    is-function-kind (w .kind)
-    ∷ is-function-kind (o .kind)
-    ∷ is-function-kind (i .kind)
-    ∷ handle-of h (o .p)
-    ∷ eqb (i .q) (w .q)
-    ∷ is-many T (o .p)
-    ∷ []
+abbrev pub handle-list : Table → ℕ → Entry → Entry → Entry → List Bool
+handle-list T q o i h = is-function-kind (o .kind) ∷ is-function-kind (i .kind) ∷ handle-of h (o .p) ∷ eqb (i .q) q ∷ is-many T (o .p) ∷ []
 
-module _ (T : Table) (t : ℕ) (w : Entry) (whole : as-entry w ≡ entry-of T t) where
-  pub cell-type-tests : (x : Entry) → as-entry x ≡ entry-of T (w .q) →
-      Asks (is-cell-type T t) (cell-type-list T w x)
-  unfolding is-cell-type all
-  cell-type-tests x result =
-      by (rw (on-function-is T t (λ a r. on-cell T r (λ a′. eqb a′ a) && narrowed T a), ← whole, on-cell-is T (w .q) (λ a′. eqb a′ (w .p)), ← result)
-      (ap (λ b. is-function-kind (w .kind) && b) (and-assoc (eqb (x .kind) cell-type-kind) (eqb (x .p) (w .p)) (narrowed T (w .p)))))
+module _ (T : Table) (p q : ℕ) where
+  pub cell-tests : (x : Entry) → as-entry x ≡ entry-of T q → Asks (cell-parts T p q) (cell-list T p x)
+  unfolding all
+  cell-tests x result = by (rw (on-cell-is T q (λ a′. eqb a′ p), ← result) (and-assoc (eqb (x .kind) cell-type-kind) (eqb (x .p) p) (narrowed T p)))
 
-  pub exch-type-tests : (x y : Entry) → as-entry x ≡ entry-of T (w .p) → as-entry y ≡ entry-of T (w .q) →
-      Asks (is-exch-type T t) (exch-type-list T w x y)
-  unfolding is-exch-type all
-  exch-type-tests x y parameter result =
+  pub exch-tests : (x y : Entry) → as-entry x ≡ entry-of T p → as-entry y ≡ entry-of T q → Asks (exch-parts T p q) (exch-list T x y)
+  unfolding all
+  exch-tests x y parameter result =
       by (rw (
-        on-function-is T t (λ r f. on-cell T r λ a. on-function T f λ a′ a″. eqb a′ a && (eqb a″ a && narrowed T a)),
-        ← whole,
-        on-cell-is T (w .p) (λ a. on-function T (w .q) λ a′ a″. eqb a′ a && (eqb a″ a && narrowed T a)),
+        on-cell-is T p (λ a. on-function T q λ a′ a″. eqb a′ a && (eqb a″ a && narrowed T a)),
         ← parameter,
-        on-function-is T (w .q) (λ a′ a″. eqb a′ (x .p) && (eqb a″ (x .p) && narrowed T (x .p))),
+        on-function-is T q (λ a′ a″. eqb a′ (x .p) && (eqb a″ (x .p) && narrowed T (x .p))),
         ← result,
         maps-and y (x .p) (x .p) (narrowed T (x .p)),
       ) refl)
 
-  pub thread-type-tests : (x : Entry) → as-entry x ≡ entry-of T (w .p) →
-      Asks (is-thread-type T t) (thread-type-list T w x)
-  unfolding is-thread-type all
-  thread-type-tests x parameter =
-      by (rw (
-        on-function-is T t (λ f a. on-function T f λ a′ a″. eqb a′ a && (eqb a″ a && is-many T a)),
-        ← whole,
-        on-function-is T (w .p) (λ a′ a″. eqb a′ (w .q) && (eqb a″ (w .q) && is-many T (w .q))),
-        ← parameter,
-        maps-and x (w .q) (w .q) (is-many T (w .q)),
-      ) refl)
+  pub thread-tests : (x : Entry) → as-entry x ≡ entry-of T p → Asks (thread-parts T p q) (thread-list T q x)
+  unfolding all
+  thread-tests x parameter =
+      by (rw (on-function-is T p (λ a′ a″. eqb a′ q && (eqb a″ q && is-many T q)), ← parameter, maps-and x q q (is-many T q)) refl)
 
-  pub handle-type-tests : (o i h : Entry) → as-entry o ≡ entry-of T (w .p) → as-entry i ≡ entry-of T (o .q) → as-entry h ≡ entry-of T (i .p) →
-      Asks (is-handle-type T t) (handle-type-list T w o i h)
-  unfolding is-handle-type handle-of all
+  pub handle-type-tests : (o i h : Entry) → as-entry o ≡ entry-of T p → as-entry i ≡ entry-of T (o .q) → as-entry h ≡ entry-of T (i .p) →
+      Asks (handle-parts T p q) (handle-list T q o i h)
+  unfolding handle-of all
   handle-type-tests o i h outer inner handle =
       by (rw (
-        on-function-is T t
-            (λ f r. on-function T f λ a g. on-function T g λ h r′. on-once-function T h (λ a′ u. eqb a′ a && eqb u unit-entry) && (eqb r′ r && is-many T a)),
-        ← whole,
-        on-function-is T (w .p)
-            (λ a g. on-function T g λ h r′. on-once-function T h (λ a′ u. eqb a′ a && eqb u unit-entry) && (eqb r′ (w .q) && is-many T a)),
+        on-function-is T p (λ a g. on-function T g λ h r′. on-once-function T h (λ a′ u. eqb a′ a && eqb u unit-entry) && (eqb r′ q && is-many T a)),
         ← outer,
-        on-function-is T (o .q) (λ h r′. on-once-function T h (λ a′ u. eqb a′ (o .p) && eqb u unit-entry) && (eqb r′ (w .q) && is-many T (o .p))),
+        on-function-is T (o .q) (λ h r′. on-once-function T h (λ a′ u. eqb a′ (o .p) && eqb u unit-entry) && (eqb r′ q && is-many T (o .p))),
         ← inner,
         on-once-is T (i .p) (λ a′ u. eqb a′ (o .p) && eqb u unit-entry),
         ← handle,

@@ -3,10 +3,11 @@ use numbers::Type;
 use recipe_table::Entry;
 use term::Node;
 ghost use mathlib.Core.Path.{_≡_};
-ghost use Prim.Native.Nat.{_<_};
+ghost use Prim.Native.Nat.{_<_, _≤_};
 ghost use Rattle.calculus.specs.Limits.{byte-values};
 ghost use Rattle.calculus.specs.Narrowing.{narrowed};
-ghost use Rattle.calculus.specs.Verdict.{annotated, is-cell-type, is-exch-type, is-handle-type, is-thread-type};
+ghost use Rattle.calculus.specs.Verdict.{annotated, cell-parts, exch-parts, handle-parts, thread-parts};
+ghost use Rattle.term.specs.Forms.{cell-tag, handle-tag};
 ghost use Rattle.term.specs.Expressions.{leaf-exp};
 ghost use Rattle.recipe_table.specs.Entries.{table-of};
 ghost use Rattle.check_annotations.specs.Nodes.{handle-of, maps};
@@ -44,16 +45,11 @@ fn is_handle_of(entry: Entry, a: u8) -> bool
     entry.q == Type::UNIT_ENTRY
 }
 
-// Fig. 8: a to a ref.
-pub fn is_cell_type(table: &[u8], t: usize) -> bool
-    requires { ⌜ t < byte-values ⌝ }
-    ensures { λ r. ⌜ r ≡ is-cell-type (table-of (now (table .entry))) t ⌝ }
+// Fig. 8: a to a ref. The type of the constant is a function with this entry, here and below.
+fn is_cell_type(table: &[u8], whole: Entry) -> bool
+    ensures { λ r. ⌜ r ≡ cell-parts (table-of (now (table .entry))) (whole .p) (whole .q) ⌝ }
 {
-    let whole = check_types::entry_at(table, t);
     let result = check_types::entry_at(table, whole.q as usize);
-    if !check_types::is_function(whole.kind) {
-        return false;
-    }
     if result.kind != Type::CELL {
         return false;
     }
@@ -64,16 +60,11 @@ pub fn is_cell_type(table: &[u8], t: usize) -> bool
 }
 
 // Fig. 8: a ref to (a to a).
-pub fn is_exch_type(table: &[u8], t: usize) -> bool
-    requires { ⌜ t < byte-values ⌝ }
-    ensures { λ r. ⌜ r ≡ is-exch-type (table-of (now (table .entry))) t ⌝ }
+fn is_exch_type(table: &[u8], whole: Entry) -> bool
+    ensures { λ r. ⌜ r ≡ exch-parts (table-of (now (table .entry))) (whole .p) (whole .q) ⌝ }
 {
-    let whole = check_types::entry_at(table, t);
     let parameter = check_types::entry_at(table, whole.p as usize);
     let result = check_types::entry_at(table, whole.q as usize);
-    if !check_types::is_function(whole.kind) {
-        return false;
-    }
     if parameter.kind != Type::CELL {
         return false;
     }
@@ -84,15 +75,10 @@ pub fn is_exch_type(table: &[u8], t: usize) -> bool
 }
 
 // Fig. 8: (a to a) to a, a of multiplicity many.
-pub fn is_thread_type(table: &[u8], t: usize) -> bool
-    requires { ⌜ t < byte-values ⌝ }
-    ensures { λ r. ⌜ r ≡ is-thread-type (table-of (now (table .entry))) t ⌝ }
+fn is_thread_type(table: &[u8], whole: Entry) -> bool
+    ensures { λ r. ⌜ r ≡ thread-parts (table-of (now (table .entry))) (whole .p) (whole .q) ⌝ }
 {
-    let whole = check_types::entry_at(table, t);
     let parameter = check_types::entry_at(table, whole.p as usize);
-    if !check_types::is_function(whole.kind) {
-        return false;
-    }
     if !is_from_to(parameter, whole.q, whole.q) {
         return false;
     }
@@ -100,17 +86,12 @@ pub fn is_thread_type(table: &[u8], t: usize) -> bool
 }
 
 // Document 01: "(a to ((a once to unit) to r)) to r, .. a of multiplicity many".
-pub fn is_handle_type(table: &[u8], t: usize) -> bool
-    requires { ⌜ t < byte-values ⌝ }
-    ensures { λ r. ⌜ r ≡ is-handle-type (table-of (now (table .entry))) t ⌝ }
+fn is_handle_type(table: &[u8], whole: Entry) -> bool
+    ensures { λ r. ⌜ r ≡ handle-parts (table-of (now (table .entry))) (whole .p) (whole .q) ⌝ }
 {
-    let whole = check_types::entry_at(table, t);
     let outer = check_types::entry_at(table, whole.p as usize);
     let inner = check_types::entry_at(table, outer.q as usize);
     let handle = check_types::entry_at(table, inner.p as usize);
-    if !check_types::is_function(whole.kind) {
-        return false;
-    }
     if !check_types::is_function(outer.kind) {
         return false;
     }
@@ -126,22 +107,23 @@ pub fn is_handle_type(table: &[u8], t: usize) -> bool
     check_types::many_at(table, outer.p as usize)
 }
 
-// The test of a term with no subterm.
-pub fn leaf_annotated(table: &[u8], tag: u8, arg: usize) -> bool
-    requires { ⌜ arg < byte-values ⌝ }
+// The test of a constant that has a type: one from cell to handle.
+pub fn constant_annotated(table: &[u8], tag: u8, arg: usize) -> bool
+    requires { ⌜ (arg < byte-values) × ((cell-tag ≤ tag) × (tag ≤ handle-tag)) ⌝ }
     ensures { λ r. ⌜ r ≡ annotated (table-of (now (table .entry))) (leaf-exp tag arg) ⌝ }
 {
+    let whole = check_types::entry_at(table, arg);
+    if !check_types::is_function(whole.kind) {
+        return false;
+    }
     if tag == Node::CELL {
-        return is_cell_type(table, arg);
+        return is_cell_type(table, whole);
     }
     if tag == Node::EXCH {
-        return is_exch_type(table, arg);
+        return is_exch_type(table, whole);
     }
     if tag == Node::THREAD {
-        return is_thread_type(table, arg);
+        return is_thread_type(table, whole);
     }
-    if tag == Node::HANDLE {
-        return is_handle_type(table, arg);
-    }
-    true
+    is_handle_type(table, whole)
 }

@@ -16,10 +16,11 @@ use Rattle.check_bays.specs.declared.BayTypes.{BayTypes}
 unfoldable pub bay-number : List ℕ → ℕ → Option ℕ
 bay-number s bay = type-number (type-table s) [] (bay-term s bay)
 
--- there is one, and it is the number of a many type
+-- document 01, cause 9 does not fit a bay's term: there is such a number
 unfoldable pub has-type : List ℕ → ℕ → Bool
 has-type s bay = on-number (bay-number s bay) (λ n. true)
 
+-- nor does cause 11: it is the number of a many type
 unfoldable pub has-many : List ℕ → ℕ → Bool
 has-many s bay = on-number (bay-number s bay) (is-many (type-table s))
 

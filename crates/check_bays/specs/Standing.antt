@@ -18,6 +18,7 @@ use Rattle.check_bays.specs.Terms.{bay-nodes}
 unfoldable pub bay-annotated : List ℕ → ℕ → Bool
 bay-annotated s bay = annotated (type-table s) (bay-term s bay)
 
+-- a part is a term
 abbrev pub is-term : Part → Bool
 is-term NoTerm = false
 is-term (Nodes n) = true
@@ -26,5 +27,6 @@ is-term (Nodes n) = true
 unfoldable pub bay-stands : List ℕ → ℕ → Bool
 bay-stands s bay = is-term (glance (type-table s) (bays s) (term-bytes s bay))
 
+-- none of causes 5 to 8 fits the file
 unfoldable pub all-stand : List ℕ → Bool
 all-stand s = each-below (bays s) (bay-stands s) && leb (sum-below (bays s) (bay-nodes s)) max-recipe-nodes

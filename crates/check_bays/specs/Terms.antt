@@ -14,8 +14,10 @@ use Rattle.check_spec.specs.Bays.{bay-term}
 unfoldable pub bay-single : List ℕ → ℕ → Bool
 bay-single s bay = one-term (read-term (term-bytes s bay))
 
+-- the nodes of a bay's term
 unfoldable pub bay-nodes : List ℕ → ℕ → ℕ
 bay-nodes s bay = nodes (bay-term s bay)
 
+-- the nodes of all terms, or that a part is no term
 unfoldable pub nodes-in : List ℕ → Part
 nodes-in s = cond (each-below (bays s) (bay-single s)) (Nodes (sum-below (bays s) (bay-nodes s))) NoTerm

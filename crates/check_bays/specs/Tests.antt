@@ -21,8 +21,10 @@ unfoldable pub passes : Table → ℕ → Test → Exp → Bool
 passes T names Nesting e = leb (nesting e) max-nesting
 passes T names Scope e = scoped (length T) names 0 e
 
+-- the term of a bay passes a test
 unfoldable pub bay-passes : List ℕ → Test → ℕ → Bool
 bay-passes s test bay = passes (type-table s) (bays s) test (bay-term s bay)
 
+-- the terms of all bays do
 unfoldable pub each-passes : List ℕ → Test → Bool
 each-passes s test = each-below (bays s) (bay-passes s test)

@@ -15,13 +15,15 @@ use Rattle.calculus.specs.Verdict.{is-function-kind, is-many}
 abbrev pub Marks : Type 0
 Marks = List ℕ
 
--- a many-variable; a once-variable still to be used; a once-variable that was used
+-- a many-variable
 abbrev pub many-mark : ℕ
 many-mark = 0
 
+-- a once-variable still to be used
 abbrev pub due-mark : ℕ
 due-mark = 1
 
+-- a once-variable that was used
 abbrev pub spent-mark : ℕ
 spent-mark = 2
 

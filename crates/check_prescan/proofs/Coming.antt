@@ -7,11 +7,12 @@ use native.Mathlib.Omega.{arith}
 use borrow.Author.Tests.{lt-leb}
 use lib.Dec.{leb, ltb}
 use lib.ListN.{drop, length, length-drop}
+use Rattle.term_scan.proofs.Depths.{some-nesting}
 use Rattle.calculus.specs.Limits.{max-nesting}
-use Rattle.calculus.specs.Syntax.{app, const, Exp, lam, name, var}
+use Rattle.calculus.specs.Syntax.{app, Exp, lam}
 use Rattle.calculus.specs.Table.{Table}
 use Rattle.calculus.specs.Verdict.{annotated, on-function, scoped}
-use Rattle.calculus.specs.Theory.Tests.{and-parts, leb-complete, leb-sound, ltb-complete, ltb-not}
+use Rattle.calculus.specs.Theory.Tests.{and-parts, leb-complete, leb-sound, ltb-complete, ltb-not, equal-from}
 use Rattle.term.specs.declared.Front.the-variants.{Bad, Is}
 use Rattle.term.specs.declared.Node.{Node}
 use Rattle.term.specs.Tree.{Tree, tree-nodes}
@@ -33,11 +34,6 @@ cond-same false x = refl
 cond-and : {A : Type 0} (a b : Bool) (x y : A) → cond (a && b) x y ≡ cond a (cond b x y) y
 cond-and true b x y = refl
 cond-and false b x y = refl
-
-equal-from : (b c : Bool) → (b ≡ true → c ≡ true) → (c ≡ true → b ≡ true) → b ≡ c
-equal-from true c there back = sym (there refl)
-equal-from false true there back = back refl
-equal-from false false there back = refl
 
 shuffle-one : (a b c p q : Bool) → (a && ((b && c) && (p && q))) ≡ ((b && p) && (a && (c && q)))
 shuffle-one a false c p q = and-false a
@@ -62,14 +58,6 @@ within-both d x y = equal-from _ _ there back
     back e =
         let (p, q) = and-parts (leb (suc d + x) max-nesting) _ e in
         leb-complete (d + suc (max x y)) max-nesting (omega (arith, leb-sound (suc d + x) max-nesting p, leb-sound (suc d + y) max-nesting q))
-
-nesting-some : (e : Exp) → 1 ≤ nesting e
-unfolding nesting
-nesting-some (var i) = omega arith
-nesting-some (name k) = omega arith
-nesting-some (const c) = omega arith
-nesting-some (lam t e) = omega arith
-nesting-some (app f a) = omega arith
 
 module _ (T : Table) (names : ℕ) where
   -- a lambda, its body apart
@@ -126,7 +114,7 @@ module _ (T : Table) (names : ℕ) where
     where
       by : (g : Got) → and-then d k (coming fs) n g ≡ NoTerm
       by none = refl
-      by (got t r) = rw (lt-leb (d + nesting (exp-of t)) max-nesting (omega (arith, nesting-some (exp-of t)))) refl
+      by (got t r) = rw (lt-leb (d + nesting (exp-of t)) max-nesting (omega (arith, some-nesting (exp-of t)))) refl
 
   module _ (d k n : ℕ) (fs : List Frame) (l : List ℕ) where
     pub coming-bad : node-of l ≡ Bad → coming (frame d k ∷ fs) n l ≡ NoTerm

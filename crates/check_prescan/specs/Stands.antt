@@ -28,6 +28,7 @@ exactly T names none = NoTerm
 exactly T names (got t []) = cond (stands T names 0 0 (exp-of t)) (Nodes (tree-nodes t)) NoTerm
 exactly T names (got t (x ∷ rest)) = NoTerm
 
+-- the same of the bytes of a part
 unfoldable pub glance : Table → ℕ → List ℕ → Part
 glance T names l = exactly T names (read-term l)
 

@@ -46,7 +46,7 @@ fn leaf_stands(
     if types <= arg {
         return false;
     }
-    check_annotations::leaf_annotated(table, tag, arg)
+    check_annotations::constant_annotated(table, tag, arg)
 }
 
 // Causes 7 and 8 of a lambda, its body apart.

@@ -26,6 +26,7 @@ entry-bytes (x ∷ T) = x .kind ∷ x .p ∷ x .q ∷ entry-bytes T
 abbrev pub Derived : Table → ℕ → Exp → Type 0
 Derived T b e = (α : LinType) × Derivation (type-at T) (setting-types b) [] e α × (multiplicity α ≡ many) × Narrow (type-at T) e
 
+-- the file s says the table T and the terms es, and they are what the papers ask
 pub record Recipe (s : List ℕ) (T : Table) (es : List Exp) : Type 0 where
   -- causes 1 to 3: the layout and its limits
   pub laid : FileRule s

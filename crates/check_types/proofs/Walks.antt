@@ -1,12 +1,12 @@
 -- The type of a term from those of its subterms.
-use mathlib.Core.Path.{_≡_, ap, refl, subst, sym, _∙_}
-use mathlib.Core.Bool.{_&&_, and-false, and-true, false, true}
+use mathlib.Core.Path.{_≡_, ap, refl, subst, sym}
+use mathlib.Core.Bool.{and-false}
 use mathlib.Core.Option.{Option, none, some}
 use mathlib.Core.List.{List, _∷_}
 use Prim.Native.Nat.{_+_, ℕ}
 use Rattle.calculus.specs.Syntax.{at as entry-at}
 use Rattle.calculus.specs.Table.{Entry, Table}
-use Rattle.calculus.specs.Verdict.{applied-number, is-function-kind, lambda-number, on-function, on-number, result-number, type-number}
+use Rattle.calculus.specs.Verdict.{applied-number, lambda-number, on-number, result-number, type-number}
 use Rattle.calculus.specs.Theory.Tests.{clash}
 use Rattle.term.specs.declared.Node.{Node}
 use Rattle.term.specs.Reader.{end-at}
@@ -15,7 +15,7 @@ use Rattle.term.proofs.Views.{LeafAt, OneAt, past-first, TwoAt}
 use Rattle.check_types.specs.declared.Typed.the-variants.{Has, Nothing}
 use Rattle.check_types.specs.Entries.{entry-of}
 use Rattle.check_types.specs.Walk.{HasNumber, typed-at, typed}
-use Rattle.check_types.proofs.Entries.{lambda-is, on-function-is, result-is}
+use Rattle.check_types.proofs.Entries.{lambda-is, result-is}
 
 record Found (o : Option ℕ) (n end end′ : ℕ) : Type 0 where
   pub number : o ≡ some n
@@ -35,10 +35,6 @@ no-body : (x : Entry) (t : ℕ) (body : ℕ → Option ℕ) → body (x .p) ≡ 
 unfolding lambda-number on-number
 no-body x t body e = simp (e, and-false)
 
-no-function : (x : Entry) (t : ℕ) (body : ℕ → Option ℕ) → (is-function-kind (x .kind) && true) ≡ false → lambda-number t (some x) body ≡ none
-unfolding lambda-number
-no-function x t body e = rw (sym (and-true (is-function-kind (x .kind))) ∙ e) refl
-
 body-is : (x : Entry) (t b : ℕ) (body : ℕ → Option ℕ) → body (x .p) ≡ some b → lambda-number t (some x) body ≡ lambda-number t (some x) (λ p. some b)
 unfolding lambda-number
 body-is x t b body e = rw e refl
@@ -55,10 +51,6 @@ module _ (T : Table) (Δ l : List ℕ) (at : ℕ) (h : Node) where
     lambda : type-number T Δ (term-at l at) ≡ lambda-number (h .arg) (some (entry-of T (h .arg))) body
     unfolding type-number entry-of
     lambda = rw (o .term) (lambda-is (entry-at T (h .arg)) (h .arg) body)
-
-    pub no-lambda : on-function T (h .arg) (λ p q. true) ≡ false → Nothing ≡ typed-at T Δ l at
-    unfolding typed-at typed
-    no-lambda e = rw (lambda, no-function (entry-of T (h .arg)) (h .arg) body (sym (on-function-is T (h .arg) (λ p q. true)) ∙ e)) refl
 
     pub one-nothing : Nothing ≡ typed-at T (entry-of T (h .arg) .p ∷ Δ) l (at + h .size) → Nothing ≡ typed-at T Δ l at
     unfolding typed-at typed

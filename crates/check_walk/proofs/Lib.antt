@@ -1,5 +1,3 @@
--- what the code of a type number says of its entry
-pub mod Codes
 -- where the subterms of a walkable term are walkable
 pub mod Ways
 -- what a walk leaves of the marks, node form by node form

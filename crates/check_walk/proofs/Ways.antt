@@ -8,18 +8,14 @@ use native.Mathlib.Omega.{arith}
 use lib.Dec.{ltb}
 use lib.ListN.{length}
 use Rattle.calculus.specs.Limits.{max-entries, max-nesting}
-use Rattle.calculus.specs.Syntax.{var}
 use Rattle.calculus.specs.Verdict.{scoped}
 use Rattle.calculus.specs.Theory.Tests.{and-parts, ltb-sound}
 use Rattle.term.specs.declared.Node.{Node}
-use Rattle.term.specs.Expressions.{leaf-exp, leaf-forms, nesting, term-at}
+use Rattle.term.specs.Expressions.{leaf-exp, nesting, term-at}
+use Rattle.term.proofs.Leaves.{leaf-variable}
 use Rattle.term.proofs.Views.{LeafAt, OneAt, past-first, TwoAt}
 use Rattle.check_types.specs.Walk.{LeafScoped}
 use Rattle.check_walk.specs.Walk.{InScope, WalkReady, Whole}
-
-pub leaf-variable : (tag arg : ℕ) → tag ≡ 0 → leaf-exp tag arg ≡ var arg
-unfolding leaf-exp leaf-forms
-leaf-variable tag arg z = rw z
 
 pub ready-whole : {s env marks : List ℕ} → Whole s → length env ≡ max-nesting → length marks ≡ max-nesting → WalkReady s 0 0 0 env marks
 ready-whole w wide long = record {

@@ -1,21 +1,24 @@
 -- The walk over a term at a position, what it asks and what it answers: document 01's causes 9 and 10.
 use mathlib.Core.Path.{_≡_}
-use mathlib.Core.Bool.{Bool, false, true}
+use mathlib.Core.Bool.{Bool, _&&_, not, true}
+use mathlib.Core.Option.{some}
 use mathlib.Core.List.{List, []}
 use Prim.Native.Nat.{_+_, _<_, _≤_, ℕ}
+use lib.Dec.{eqb}
 use lib.ListN.{length}
 use Rattle.calculus.specs.Limits.{max-entries, max-nesting}
-use Rattle.calculus.specs.Table.{Table}
+use Rattle.calculus.specs.Table.{Entry, Table}
 use Rattle.calculus.specs.Verdict as calculus
-use Rattle.term.specs.Reader.{end-at, GoodAt}
+use Rattle.term.specs.Forms.{variable-tag}
+use Rattle.term.specs.Reader.{GoodAt}
 use Rattle.term.specs.Expressions.{leaf-exp, nesting, term-at}
+use Rattle.check_linearity.specs.Spend.{due-mark}
 use Rattle.check_linearity.specs.Levels.{LinearWalk}
 use Rattle.check_types.specs.declared.Typed.{Typed}
 use Rattle.check_types.specs.declared.Typed.the-variants as typing
-use Rattle.check_types.specs.Walk.{environment, typed-at}
+use Rattle.check_types.specs.Walk.{environment, typed, typed-at}
 use Rattle.check_walk.specs.declared.Walked.{Walked as Answer}
 use Rattle.check_walk.specs.declared.Walked.the-variants.{Has, Nothing}
-use Rattle.check_walk.specs.Codes.{all-codes, Codes}
 
 -- a term stands at a position, below `above` lambdas whose marks are there; causes 6 and 7 do not fit it
 pub record WalkReady (s : List ℕ) (at above floor : ℕ) (env marks : List ℕ) : Type 0 where
@@ -40,7 +43,7 @@ pub record Whole (s : List ℕ) : Type 0 where
 
 -- a node with no subterm: the lambda of a variable is one of the `above`
 pub record InScope (tag arg above : ℕ) (marks : List ℕ) : Type 0 where
-  pub bound : tag ≡ 0 → arg < above
+  pub bound : tag ≡ variable-tag → arg < above
   pub room : above ≤ max-nesting
   pub long : length marks ≡ max-nesting
 
@@ -49,44 +52,37 @@ pub record LeafSpent (tag arg above floor : ℕ) (marks marks′ : List ℕ) (ke
   pub walked : (T : Table) → LinearWalk T floor above marks (leaf-exp tag arg) keeps marks′
   pub same : length marks′ ≡ length marks
 
--- a term keeps the rule and ends somewhere, or breaks it
-pub data Spent : Type 0 where
-  To : ℕ → Spent
-  Broken : Spent
-
-unfoldable pub keeps : Spent → Bool
-keeps (To end) = true
-keeps Broken = false
-
-unfoldable pub spent-of : Bool → ℕ → Spent
-spent-of true end = To end
-spent-of false end = Broken
-
--- what the marks are after the term at a position, with every table that has these codes
-pub record SpentAt (codes s : List ℕ) (at above floor : ℕ) (marks marks′ : List ℕ) (r : Spent) : Type 0 where
-  pub walked : (T : Table) → Codes T codes → LinearWalk T floor above marks (term-at s at) (keeps r) marks′
-  pub ends : (end : ℕ) → r ≡ To end → end ≡ end-at s at
-  pub same : length marks′ ≡ length marks
-
--- the type that the walk answers, and the walk's answer from a type
+-- the type that the walk answers
 unfoldable pub types-in : Answer → Typed
 types-in (Has n end kept) = typing.Has n end
 types-in Nothing = typing.Nothing
 
+-- a type, with whether cause 10 does not fit
 unfoldable pub with-uses : Typed → Bool → Answer
 with-uses (typing.Has n end) kept = Has n end kept
 with-uses typing.Nothing kept = Nothing
 
+-- a lambda whose type is t, with entry x: from what is answered of its body, which leaves its variable this mark
+unfoldable pub lambda-answer : Entry → ℕ → Answer → ℕ → Answer
+lambda-answer x t (Has n end kept) mark = with-uses (typed (calculus.lambda-number t (some x) (λ p. some n)) end) (kept && not (eqb mark due-mark))
+lambda-answer x t Nothing mark = Nothing
+
+-- an application whose function's type has entry x and which keeps the rule or not: from what is answered of its argument
+unfoldable pub application-answer : Entry → Bool → Answer → Answer
+application-answer x first (Has n end kept) = with-uses (typed (calculus.result-number (some x) n) end) (first && kept)
+application-answer x first Nothing = Nothing
+
 -- what the walk leaves of the lent arrays where it answers a type
-pub record Left (T : Table) (s : List ℕ) (at above floor : ℕ) (env env′ marks marks′ : List ℕ) (end : ℕ) (kept : Bool) : Type 0 where
-  pub spent : SpentAt (all-codes T) s at above floor marks marks′ (spent-of kept end)
+pub record Left (T : Table) (s : List ℕ) (at above floor : ℕ) (env env′ marks marks′ : List ℕ) (kept : Bool) : Type 0 where
+  pub spent : LinearWalk T floor above marks (term-at s at) kept marks′
+  pub same : length marks′ ≡ length marks
   pub around : environment above env′ ≡ environment above env
   pub wide : length env′ ≡ length env
 
 -- what the walk answers of the term at a position: its type, and whether cause 10 does not fit
 pub record WalkedAt (T : Table) (s : List ℕ) (at above floor : ℕ) (env env′ marks marks′ : List ℕ) (r : Answer) : Type 0 where
   pub types : types-in r ≡ typed-at T (environment above env) s at
-  pub left : (n end : ℕ) (kept : Bool) → r ≡ Has n end kept → Left T s at above floor env env′ marks marks′ end kept
+  pub left : (n end : ℕ) (kept : Bool) → r ≡ Has n end kept → Left T s at above floor env env′ marks marks′ kept
 
 -- the same of the term that a part is
 pub record Decides (T : Table) (s : List ℕ) (r : Answer) : Type 0 where

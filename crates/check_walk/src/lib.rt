@@ -1,15 +1,11 @@
-// The type walk: document 01's causes 9 and 10 on the bytes of a term. It carries the parameter types of the lambdas above and a mark for each, and is at
-// most 100 deep.
+// The type walk: document 01's causes 9 and 10 on the bytes of a term. It carries the parameter types of the lambdas above and a mark for each, and is no
+// deeper than the limit of nesting.
 ghost use mathlib.Core.Path.{_≡_};
-ghost use mathlib.Core.Bool.{_&&_, cond, not};
-ghost use mathlib.Core.Option.{some};
-ghost use Prim.Native.Nat.{_≤_};
-ghost use lib.Dec.{eqb};
-ghost use Rattle.check_linearity.specs.Spend.{due-mark, many-mark};
+ghost use Rattle.check_linearity.specs.Spend.{new-mark};
+ghost use Rattle.check_linearity.specs.Levels.{floor-under};
 ghost use Rattle.recipe_table.specs.Entries.{table-of};
 ghost use Rattle.recipe_table.specs.Filled.{as-entry};
-ghost use Rattle.check_walk.specs.Codes.{code-floor, code-mark, code-of, function-code};
-ghost use Rattle.check_walk.specs.Walk.{Decides, InScope, LeafSpent, WalkReady, WalkedAt, Whole, with-uses};
+ghost use Rattle.check_walk.specs.Walk.{application-answer, Decides, InScope, lambda-answer, LeafSpent, WalkReady, WalkedAt, Whole, with-uses};
 use check_types::Typed;
 use numbers::Recipe;
 use numbers::Type;
@@ -24,71 +20,27 @@ const DUE_MARK: u8 = 1;
 
 const SPENT_MARK: u8 = 2;
 
-// What a lambda of a type does: the type is no function, or the mark of its variable goes on top of one of these.
-const NO_FUNCTION: u8 = 0;
-
-const ONCE_CODE: u8 = 1;
-
-const MANY_CODE: u8 = 3;
-
 // A term has a type with this number, it ends here, and whether cause 10 does not fit; or it has no type.
 pub enum Walked {
     Has(u8, usize, bool),
     Nothing,
 }
 
-// The mark of a new variable, whose type is many or not.
-fn new_mark(many: bool) -> u8
-    ensures { λ r. ⌜ (r ≡ cond many many-mark due-mark) × (r ≤ 1) ⌝ }
+// The mark of a new variable whose type has number p.
+fn new_mark(table: &[u8], p: u8) -> u8
+    ensures { λ r. ⌜ r ≡ new-mark (table-of (now (table .entry))) p ⌝ }
 {
-    if many {
+    if check_types::many_at(table, p as usize) {
         return MANY_MARK;
     }
     DUE_MARK
 }
 
-// What a lambda does whose type has this kind and whose new variable has this mark.
-fn function_code(kind: u8, mark: u8) -> u8
-    requires { ⌜ mark ≤ 1 ⌝ }
-    ensures { λ r. ⌜ r ≡ function-code kind mark ⌝ }
+// The lowest level in reach of the body of a lambda of level `above` whose type has this kind.
+fn floor_under(kind: u8, floor: usize, above: usize) -> usize
+    ensures { λ r. ⌜ r ≡ floor-under kind floor above ⌝ }
 {
     if kind == Type::ONCE {
-        return ONCE_CODE + mark;
-    }
-    if kind == Type::MANY {
-        return MANY_CODE + mark;
-    }
-    NO_FUNCTION
-}
-
-// What a lambda does whose type has this entry.
-fn code_of(table: &[u8], entry: Entry) -> u8
-    ensures { λ r. ⌜ r ≡ code-of (table-of (now (table .entry))) (some (as-entry entry)) ⌝ }
-{
-    function_code(
-        entry.kind,
-        new_mark(check_types::many_at(table, entry.p as usize)),
-    )
-}
-
-// The mark of a lambda's new variable.
-fn code_mark(code: u8) -> u8
-    ensures { λ r. ⌜ r ≡ code-mark code ⌝ }
-{
-    if code == ONCE_CODE {
-        return MANY_MARK;
-    }
-    if code == MANY_CODE {
-        return MANY_MARK;
-    }
-    DUE_MARK
-}
-
-// The lowest level in reach of a lambda's body, for a lambda of level `above`.
-fn code_floor(code: u8, floor: usize, above: usize) -> usize
-    ensures { λ r. ⌜ r ≡ code-floor code floor above ⌝ }
-{
-    if code < MANY_CODE {
         return floor;
     }
     above
@@ -123,20 +75,6 @@ fn spend_leaf(
     true
 }
 
-// Both.
-fn both(a: bool, b: bool) -> bool
-    ensures { λ r. ⌜ r ≡ (a && b) ⌝ }
-{
-    a && b
-}
-
-// A lambda keeps the rule if its body does and does not leave its variable due.
-fn used_up(kept: bool, mark: u8) -> bool
-    ensures { λ r. ⌜ r ≡ (kept && not (eqb mark due-mark)) ⌝ }
-{
-    kept && mark != DUE_MARK
-}
-
 // A type, with whether cause 10 does not fit.
 fn with_uses(found: Typed, kept: bool) -> Walked
     ensures { λ r. ⌜ r ≡ with-uses found kept ⌝ }
@@ -147,9 +85,32 @@ fn with_uses(found: Typed, kept: bool) -> Walked
     Walked::Has(number, end, kept)
 }
 
+// The answer about a lambda whose type is t, with this entry, from that about its body, which leaves its variable this mark.
+fn close_lambda(entry: Entry, t: u8, body: Walked, mark: u8) -> Walked
+    ensures { λ r. ⌜ r ≡ lambda-answer (as-entry entry) t body mark ⌝ }
+{
+    let Walked::Has(number, end, kept) = body else {
+        return Walked::Nothing;
+    };
+    with_uses(
+        check_types::lambda_type(entry, t, number, end),
+        kept & (mark != DUE_MARK),
+    )
+}
+
+// The answer about an application whose function has a type with this entry and keeps the rule or not, from that about its argument.
+fn close_application(entry: Entry, first: bool, argument: Walked) -> Walked
+    ensures { λ r. ⌜ r ≡ application-answer (as-entry entry) first argument ⌝ }
+{
+    let Walked::Has(number, end, kept) = argument else {
+        return Walked::Nothing;
+    };
+    with_uses(check_types::applied_type(entry, number, end), first & kept)
+}
+
 // Walks the term at a position, below `above` lambdas whose parameter types and marks stand outermost first. A once-variable of a level below `floor`
 // is out of reach. What falls is the part still unread.
-pub fn walk_at(
+fn walk_at(
     table: &[u8],
     s: &[u8],
     at: usize,
@@ -174,35 +135,19 @@ pub fn walk_at(
     }
     if subterms == 1 {
         let entry = check_types::entry_at(table, arg);
-        let code = code_of(table, entry);
-        if code == NO_FUNCTION {
-            return Walked::Nothing;
-        }
-        let under = code_floor(code, floor, above);
-        marks[above] = code_mark(code);
+        let under = floor_under(entry.kind, floor, above);
+        marks[above] = new_mark(table, entry.p);
         env[above] = entry.p;
-        let Walked::Has(body, end, kept) = walk_at(table, s, next, env, marks, above + 1, under)
-        else {
-            return Walked::Nothing;
-        };
-        return with_uses(
-            check_types::lambda_type(entry, arg as u8, body, end),
-            used_up(kept, marks[above]),
-        );
+        let body = walk_at(table, s, next, env, marks, above + 1, under);
+        return close_lambda(entry, arg as u8, body, marks[above]);
     }
     let Walked::Has(function, second, first) = walk_at(table, s, next, env, marks, above, floor)
     else {
         return Walked::Nothing;
     };
-    let Walked::Has(argument, end, kept) = walk_at(table, s, second, env, marks, above, floor)
-    else {
-        return Walked::Nothing;
-    };
+    let argument = walk_at(table, s, second, env, marks, above, floor);
     let entry = check_types::entry_at(table, function as usize);
-    with_uses(
-        check_types::applied_type(entry, argument, end),
-        both(first, kept),
-    )
+    close_application(entry, first, argument)
 }
 
 // Causes 9 and 10 of the term that a part is.

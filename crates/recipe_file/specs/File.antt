@@ -37,10 +37,11 @@ length-of s i = word s (pair-offset i + 2)
 unfoldable pub part : List ℕ → ℕ → List ℕ
 part s i = take (length-of s i) (drop (offset-of s i) s)
 
--- document 01, "one type table, then one term for each of b = n − 1 bays": what the parts are
+-- document 01, "one type table": its part
 abbrev pub table-part : ℕ
 table-part = 0
 
+-- "then one term for each" bay: the part of the first
 abbrev pub first-term : ℕ
 first-term = 1
 

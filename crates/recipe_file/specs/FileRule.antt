@@ -12,6 +12,7 @@ pub record Between (least most n : ℕ) : Type 0 where
   pub low : least ≤ n
   pub high : n ≤ most
 
+-- a file that is laid out
 pub record FileRule (s : List ℕ) : Type 0 where
   -- "file 12 to 8,192 bytes"
   pub size : Between min-file-length max-file-length (length s)

@@ -28,6 +28,7 @@ unfoldable pub parts-from : List ℕ → ℕ → ℕ → List (List ℕ)
 parts-from s zero i = []
 parts-from s (suc k) i = part s i ∷ parts-from s k (i + 1)
 
+-- all parts of a file
 unfoldable pub all-parts : List ℕ → List (List ℕ)
 all-parts s = parts-from s (parts s) 0
 

@@ -1,7 +1,7 @@
 -- A table and the array that holds it.
 use mathlib.Core.Path.{_∙_, _≡_, ap, refl, sym}
-use mathlib.Core.Option.{none, some}
-use mathlib.Core.List.{List, [], _++_, _∷_, map}
+use mathlib.Core.Option.{some}
+use mathlib.Core.List.{List, [], _++_, _∷_, map, map-append}
 use Prim.Native.Nat.{_*_, _+_, _-_, _/_, _<_, _≤_, suc, zero, ℕ}
 use native.Mathlib.Numerals.{add-one}
 use native.Mathlib.Omega.{arith}
@@ -10,7 +10,6 @@ use lib.Seq.{append-snoc, getD-take, set-at, take-all, take-at, take-suc}
 use Rattle.calculus.specs.Limits.{max-entries}
 use Rattle.calculus.specs.Syntax.{at}
 use Rattle.calculus.specs.Table as calculus
-use Rattle.calculus.specs.Theory.Lists.{at-past}
 use Rattle.recipe_file.specs.File.{entry-length}
 use Rattle.recipe_table.specs.declared.Entry.{Entry}
 use Rattle.recipe_table.specs.Entries.{table-of}
@@ -48,27 +47,19 @@ pub filled-none : (T : calculus.Table) → replicate max-entries unused ≡ fill
 unfolding filled-to
 filled-none T = refl
 
-map-snoc : {A B : Type 0} (f : A → B) (l : List A) (a : A) → map f (l ++ (a ∷ [])) ≡ map f l ++ (f a ∷ [])
-map-snoc f [] a = refl
-map-snoc f (b ∷ l) a = ap (λ (x : List _). f b ∷ x) (map-snoc f l a)
-
 pub filled-more : (T : calculus.Table) (i : ℕ) (x : Entry) → i < length T → length T ≤ max-entries → by-value (getD T i blank) ≡ x →
     set (filled-to T i) i x ≡ filled-to T (i + 1)
 unfolding filled-to
 filled-more T i x h b e =
     let k : max-entries - i ≡ suc (max-entries - (i + 1)) = omega arith in
     let n : length (map by-value (take i T)) ≡ i = length-map (take i T) by-value ∙ (length-take i T ∙ omega arith) in
-    rw (k, add-one i, take-suc T i blank, map-snoc, e)
+    rw (k, add-one i, take-suc T i blank, map-append, e)
     (set-at (map by-value (take i T)) unused (replicate (max-entries - suc i) unused) x i n
     ∙ sym (append-snoc (map by-value (take i T)) x (replicate (max-entries - suc i) unused)))
 
 pub filled-all : (T : calculus.Table) (i : ℕ) → i ≡ length T → filled-to T i ≡ filled T
 unfolding filled-to filled
 filled-all T i e = rw (e, take-all (length T) T (omega arith))
-
-map-append : {A B : Type 0} (f : A → B) (l m : List A) → map f (l ++ m) ≡ map f l ++ map f m
-map-append f [] m = refl
-map-append f (b ∷ l) m = ap (λ (x : List _). f b ∷ x) (map-append f l m)
 
 there-and-back : (T : calculus.Table) → map as-entry (map by-value T) ≡ T
 there-and-back [] = refl
@@ -99,6 +90,3 @@ module _ (a : List Entry) (count : ℕ) (h : count ≤ length a) where
   -- entry i, as a reader of the table finds it
   pub entry-at : (i : ℕ) → i < count → at (as-table a count) i ≡ some (as-entry (getD a i unused))
   entry-at i l = at-getD (as-table a count) i blank (rw length-as-table l) ∙ ap some (entry-of i l)
-
-  pub no-entry-at : (i : ℕ) → count ≤ i → at (as-table a count) i ≡ none
-  no-entry-at i l = at-past (as-table a count) i (rw length-as-table l)

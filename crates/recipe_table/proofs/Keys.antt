@@ -10,16 +10,11 @@ use lib.ListN.{drop, getD, length, length-set, set}
 use lib.Seq.{getD-set-other, getD-set-same}
 use Rattle.calculus.specs.Limits.{max-entries}
 use Rattle.calculus.specs.Table as calculus
-use Rattle.calculus.specs.Theory.Tests.{and-parts, eqb-sound, eqb-complete}
+use Rattle.calculus.specs.Theory.Tests.{and-parts, eqb-sound, eqb-complete, equal-from}
 use Rattle.recipe_table.specs.declared.Entry.{Entry}
 use Rattle.recipe_table.specs.Filled.{unused, as-entry, as-table}
 use Rattle.recipe_table.specs.Keys.{absent, Coded}
 use Rattle.recipe_table.proofs.Turns.{distinct-done, distinct-from, distinct-turn, new-done, new-from, new-turn}
-
-equal-from : (b c : Bool) → (b ≡ true → c ≡ true) → (c ≡ true → b ≡ true) → b ≡ c
-equal-from true c there back = sym (there refl)
-equal-from false true there back = back refl
-equal-from false false there back = refl
 
 -- two keys
 key-same : {x y : calculus.Entry} {k m : ℕ} → Coded x k → Coded y m → eqb m k ≡ calculus.same-entry x y

@@ -4,8 +4,9 @@ use mathlib.Core.Bool.{Bool, _&&_, false, true}
 use mathlib.Core.List.{List, [], _∷_}
 use Prim.Native.Nat.{ℕ}
 use lib.Dec.{T}
+use Rattle.calculus.specs.Bytes.{two-bytes, word}
 use Rattle.calculus.specs.Syntax.{num, op, exch, handle, app, const, Exp, lam, name, var}
-use Rattle.term.specs.Numbers.{little-endian, value-of}
+use Rattle.term.specs.Numbers.{value-of}
 use Rattle.term.specs.Forms.{form-of, forms}
 use Rattle.term.specs.Reader.{first-tree, node-of, one-term, read, read-term, tree-at}
 use Rattle.term.specs.Expressions.{bytes, const-bytes, exp-of, leaf-exp, leaf-forms, op-tag, term-at}
@@ -18,11 +19,11 @@ abbrev bytes-B : List ℕ
 bytes-B = 0x02 ∷ 0x02 ∷ 0x06 ∷ 0x04 ∷ 0x09 ∷ 0x00 ∷ 0x04 ∷ 0xFA ∷ 0x00 ∷ []
 
 case-B : bytes term-B ≡ bytes-B
-unfolding bytes const-bytes op-tag little-endian
+unfolding bytes const-bytes op-tag two-bytes
 case-B = refl
 
 case-B-back : term-at bytes-B 0 ≡ term-B
-unfolding term-at tree-at first-tree read-term read node-of form-of forms value-of exp-of leaf-exp leaf-forms
+unfolding term-at tree-at first-tree read-term read node-of form-of forms value-of word exp-of leaf-exp leaf-forms
 case-B-back = refl
 
 -- case C: handle applied to a function that binds its future to itself
@@ -33,11 +34,11 @@ abbrev bytes-C : List ℕ
 bytes-C = 0x02 ∷ 0x08 ∷ 0x06 ∷ 0x01 ∷ 0x05 ∷ 0x01 ∷ 0x04 ∷ 0x02 ∷ 0x00 ∷ 0x00 ∷ 0x00 ∷ 0x01 ∷ []
 
 case-C : bytes term-C ≡ bytes-C
-unfolding bytes const-bytes op-tag little-endian
+unfolding bytes const-bytes op-tag two-bytes
 case-C = refl
 
 case-C-back : term-at bytes-C 0 ≡ term-C
-unfolding term-at tree-at first-tree read-term read node-of form-of forms value-of exp-of leaf-exp leaf-forms
+unfolding term-at tree-at first-tree read-term read node-of form-of forms value-of word exp-of leaf-exp leaf-forms
 case-C-back = refl
 
 -- cause 5: exactly one term, or not
@@ -66,9 +67,9 @@ damaged =
     ∷ []
 
 are-terms : T (every-is true terms)
-unfolding one-term read-term read node-of form-of forms value-of
+unfolding one-term read-term read node-of form-of forms value-of word
 are-terms = tt
 
 are-damaged : T (every-is false damaged)
-unfolding one-term read-term read node-of form-of forms value-of
+unfolding one-term read-term read node-of form-of forms value-of word
 are-damaged = tt

@@ -18,11 +18,11 @@ use Rattle.term.proofs.Fronts.{is-good, is-tree}
 use Rattle.term.proofs.Terms.{bytes-drop, exactly, read-bytes, read-stands, unique}
 
 pub read-written : (e : Exp) (r : List ℕ) → FitsBytes e → read-term (bytes e ++ r) ≡ got (tree-of e) r
-read-written e r f = ap (λ l. read-term (l ++ r)) (bytes-tree e f) ∙ read-bytes (tree-of e) r (tree-well-formed e f)
+read-written e r f = ap (λ l. read-term (l ++ r)) (bytes-tree e) ∙ read-bytes (tree-of e) r (tree-well-formed e f)
 
 pub bytes-unique : (e e′ : Exp) → FitsBytes e → FitsBytes e′ → bytes e ≡ bytes e′ → e ≡ e′
 bytes-unique e e′ f f′ p =
-    let t = unique (tree-of e) (tree-of e′) (tree-well-formed e f) (tree-well-formed e′ f′) (sym (bytes-tree e f) ∙ p ∙ bytes-tree e′ f′) in
+    let t = unique (tree-of e) (tree-of e′) (tree-well-formed e f) (tree-well-formed e′ f′) (sym (bytes-tree e) ∙ p ∙ bytes-tree e′) in
     sym (exp-tree e) ∙ ap exp-of t ∙ exp-tree e′
 
 -- what is read is an expression's bytes

@@ -30,6 +30,9 @@ pub operand-at-most : (tag : ℕ) → operand-of tag ≤ 2
 unfolding form-of forms
 operand-at-most tag = leb→le (operand-of tag) 2 (every-at (λ (f : Form). leb (f .operand) 2) forms (form 0 0) tt tt tag)
 
+pub length-operand : (tag arg : ℕ) → length (little-endian (operand-of tag) arg) ≡ operand-of tag
+length-operand tag arg = length-little-endian (operand-of tag) arg (operand-at-most tag)
+
 -- what `node-of` says where it finds a node
 pub record Heads (l : List ℕ) (h : Node) : Type 0 where
   pub at-tag : getD l 0 0 ≡ h .tag
@@ -100,14 +103,14 @@ table-node tag arg k = record { tag = tag; arg = arg; size = 1 + operand-of tag;
 pub head-reads : (tag arg k : ℕ) (rest : List ℕ) → InTable tag arg k → node-of (node-bytes tag arg ++ rest) ≡ Is (table-node tag arg k)
 unfolding node-of
 head-reads tag arg k rest a =
-    let v : value-of (operand-of tag) (little-endian (operand-of tag) arg ++ rest) ≡ arg = value-bytes (operand-of tag) arg rest (a .fits) in
+    let v : value-of (operand-of tag) (little-endian (operand-of tag) arg ++ rest) ≡ arg = value-bytes (operand-of tag) arg rest (operand-at-most tag) (a .fits) in
     let n : length (little-endian (operand-of tag) arg ++ rest) ≡ operand-of tag + length rest =
-    simp (length-append, length-little-endian) in
+    simp (length-append, length-operand tag arg) in
     simp (v, lt-ltb 0 (suc (length (little-endian (operand-of tag) arg ++ rest))) (omega arith), lt-ltb tag tags (a .known), le-leb (1 + operand-of tag) (suc (length (little-endian (operand-of tag) arg ++ rest))) (omega arith), a .low, a .shape)
 
 -- past it stands the rest
 pub head-past : (tag arg : ℕ) (rest : List ℕ) → drop (1 + operand-of tag) (node-bytes tag arg ++ rest) ≡ rest
-head-past tag arg rest = drop-at (node-bytes tag arg) rest (1 + operand-of tag) (simp (length-little-endian) (omega arith))
+head-past tag arg rest = drop-at (node-bytes tag arg) rest (1 + operand-of tag) (simp (length-operand tag arg) (omega arith))
 
 -- the bytes of what is read stand there
 pub head-written : (l : List ℕ) (h : Node) → Bytes l → Heads l h → node-bytes (h .tag) (h .arg) ++ drop (h .size) l ≡ l
@@ -115,7 +118,7 @@ head-written [] h b e = absurd (omega (arith, e .whole, e .at-size))
 head-written (x ∷ xs) h b e =
     let o : 1 + operand-of x ≤ suc (length xs) = rw (e .at-tag, e .at-size) (e .whole) in
     rw (← e .at-size, ← e .at-arg, ← e .at-tag, one-add)
-    (ap (λ (r : List ℕ). x ∷ r) (bytes-value (operand-of x) xs (λ i. b (suc i)) (omega arith)))
+    (ap (λ (r : List ℕ). x ∷ r) (bytes-value (operand-of x) xs (operand-at-most x) (λ i. b (suc i)) (omega arith)))
 
 pub head-allowed : (l : List ℕ) (h : Node) → Bytes l → Heads l h → InTable (h .tag) (h .arg) (h .subterms)
 head-allowed [] h b e = absurd (omega (arith, e .whole, e .at-size))
@@ -123,6 +126,6 @@ head-allowed (x ∷ xs) h b e =
     record {
       known = e .known;
       shape = e .at-subterms;
-      fits = rw (← e .at-arg, ← e .at-tag) (value-fits (operand-of x) xs (λ i. b (suc i)));
+      fits = rw (← e .at-arg, ← e .at-tag) (value-fits (operand-of x) xs (operand-at-most x) (λ i. b (suc i)));
       low = e .low;
     }

@@ -2,9 +2,9 @@
 use mathlib.Core.Path.{_≡_, refl, sym}
 use native.Mathlib.Omega.{arith}
 use lib.ListN.{length, length-append}
+use Rattle.calculus.specs.Bytes.{two-bytes}
 use Rattle.calculus.specs.Syntax.{Const, unit, num, op, Exp, var, name, const, lam, app}
 use Rattle.calculus.specs.Image.{const-size, nodes, size}
-use Rattle.term.specs.Numbers.{little-endian}
 use Rattle.term.specs.Tree.{Tree, leaf, one, tree-depth, tree-nodes, two}
 use Rattle.term.specs.Expressions.{bytes, const-bytes, exp-of, nesting}
 use Rattle.term.proofs.Leaves.{leaf-nesting, leaf-nodes}
@@ -22,7 +22,7 @@ nesting-exp (one tag arg t) = omega (arith, nesting-exp t)
 nesting-exp (two tag arg t u) = omega (arith, nesting-exp t, nesting-exp u)
 
 const-length : (c : Const) → length (const-bytes c) ≡ const-size c
-unfolding const-bytes const-size little-endian
+unfolding const-bytes const-size two-bytes
 const-length unit = refl
 const-length (num n) = refl
 const-length (op o t) = refl

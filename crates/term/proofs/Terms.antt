@@ -10,8 +10,7 @@ use lib.Seq.{getD-drop}
 use Rattle.calculus.specs.Bytes.{Bytes}
 use Rattle.term.specs.Tree.{Tree, node-bytes, leaf, one, tree-bytes, tree-size, two, WellFormed}
 use Rattle.term.specs.Reader.{got, read-term}
-use Rattle.term.proofs.Numbers.{length-little-endian}
-use Rattle.term.proofs.Nodes.{head-is, table-node, head-reads, head-past, head-written, head-allowed}
+use Rattle.term.proofs.Nodes.{length-operand, head-is, table-node, head-reads, head-past, head-written, head-allowed}
 use Rattle.term.proofs.Reading.{Reads, leaf-reads, one-reads, two-reads, reads, found, past, depth-size}
 
 pub bytes-drop : (n : ℕ) (l : List ℕ) → Bytes l → Bytes (drop n l)
@@ -62,9 +61,9 @@ written (two tag arg t u) r w =
 
 pub size-bytes : (t : Tree) → length (tree-bytes t) ≡ tree-size t
 unfolding tree-bytes tree-size
-size-bytes (leaf tag arg) = simp length-little-endian (omega arith)
-size-bytes (one tag arg t) = simp (length-append, length-little-endian, size-bytes t) (omega arith)
-size-bytes (two tag arg t u) = simp (length-append, length-little-endian, size-bytes t, size-bytes u) (omega arith)
+size-bytes (leaf tag arg) = simp (length-operand tag arg) (omega arith)
+size-bytes (one tag arg t) = simp (length-append, length-operand tag arg, size-bytes t) (omega arith)
+size-bytes (two tag arg t u) = simp (length-append, length-operand tag arg, size-bytes t, size-bytes u) (omega arith)
 
 pub read-bytes : (t : Tree) (r : List ℕ) → WellFormed t → read-term (tree-bytes t ++ r) ≡ got t r
 unfolding read-term

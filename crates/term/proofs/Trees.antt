@@ -2,7 +2,7 @@
 use mathlib.Core.Path.{_≡_, ap, ap₂, refl, sym, _∙_}
 use mathlib.Core.Bool.{Bool, false, or-false, or-true, true}
 use mathlib.Core.List.{[], _++_, _∷_}
-use Prim.Native.Nat.{_%_, _+_, _<_, ℕ}
+use Prim.Native.Nat.{_+_, _<_, ℕ}
 use native.Mathlib.Omega.{arith}
 use borrow.Author.Tests.{le-leb, ltb-true, ltb-false}
 use lib.Dec.{leb, ltb}
@@ -14,7 +14,7 @@ use Rattle.calculus.specs.Image.{size, WritableConst}
 use Rattle.calculus.specs.Theory.Tests.{clash}
 use Rattle.calculus.specs.Theory.Expressions.{count-same}
 use Rattle.term.specs.Numbers.{little-endian}
-use Rattle.term.specs.Forms.{form-of, forms}
+use Rattle.term.specs.Forms.{form-of, forms, lambda-tag, application-tag}
 use Rattle.term.specs.Tree.{InTable, Tree, leaf, one, tree-bytes, tree-size, two, WellFormed}
 use Rattle.term.specs.Expressions.{bytes, const-bytes, const-tree, exp-of, FitsBytes, leaf-exp, leaf-forms, op-tag, tree-of}
 use Rattle.term.proofs.Leaves.{is-application, is-lambda, leaf-fits, leaf-tree}
@@ -117,38 +117,29 @@ tree-well-formed (app f a) h =
 
 -- The bytes of an expression are those of its tree
 
--- one byte
-byte : (n : ℕ) → n < byte-values → n ∷ [] ≡ little-endian 1 n
-unfolding little-endian
-byte n h = let e : n ≡ n % byte-values = omega arith in ap (λ x. x ∷ []) e
+op-bytes : (o : Op) (t : ℕ) → op-tag o ∷ t ∷ [] ≡ tree-bytes (leaf (op-tag o) t)
+unfolding tree-bytes op-tag form-of forms little-endian
+op-bytes cell t = refl
+op-bytes exch t = refl
+op-bytes thread t = refl
+op-bytes handle t = refl
 
-op-bytes : (o : Op) (t : ℕ) → t < byte-values → op-tag o ∷ t ∷ [] ≡ tree-bytes (leaf (op-tag o) t)
-unfolding tree-bytes op-tag form-of forms
-op-bytes cell t h = ap (λ l. 5 ∷ l) (byte t h)
-op-bytes exch t h = ap (λ l. 6 ∷ l) (byte t h)
-op-bytes thread t h = ap (λ l. 7 ∷ l) (byte t h)
-op-bytes handle t h = ap (λ l. 8 ∷ l) (byte t h)
-
-const-tree-bytes : (c : Const) → WritableConst c → const-bytes c ≡ tree-bytes (const-tree c)
+const-tree-bytes : (c : Const) → const-bytes c ≡ tree-bytes (const-tree c)
 unfolding const-bytes tree-bytes const-tree form-of forms little-endian
-const-tree-bytes unit w = refl
-const-tree-bytes (num n) w = refl
-const-tree-bytes (op o t) w = op-bytes o t w
+const-tree-bytes unit = refl
+const-tree-bytes (num n) = refl
+const-tree-bytes (op o t) = op-bytes o t
 
-pub bytes-tree : (e : Exp) → FitsBytes e → bytes e ≡ tree-bytes (tree-of e)
+pub bytes-tree : (e : Exp) → bytes e ≡ tree-bytes (tree-of e)
 unfolding bytes tree-bytes tree-of form-of forms little-endian
-bytes-tree (var i) f = ap (λ l. 0 ∷ l) (byte i (fits-var f))
-bytes-tree (name k) f = ap (λ l. 9 ∷ l) (byte k (fits-name f))
-bytes-tree (const c) f = const-tree-bytes c (fits-const f)
-bytes-tree (lam t e) f =
-    let (h, g) = fits-lam f in
-    ap₂ (λ l m. 1 ∷ (l ++ m)) (byte t h) (bytes-tree e g)
-bytes-tree (app f a) h =
-    let (g, g′) = fits-app h in
-    ap₂ (λ l m. 2 ∷ (l ++ m)) (bytes-tree f g) (bytes-tree a g′)
+bytes-tree (var i) = refl
+bytes-tree (name k) = refl
+bytes-tree (const c) = const-tree-bytes c
+bytes-tree (lam t e) = ap (λ l. lambda-tag ∷ t ∷ l) (bytes-tree e)
+bytes-tree (app f a) = ap₂ (λ l m. application-tag ∷ (l ++ m)) (bytes-tree f) (bytes-tree a)
 
 pub exp-bytes : (t : Tree) → WellFormed t → bytes (exp-of t) ≡ tree-bytes t
-exp-bytes t w = bytes-tree (exp-of t) (exp-fits t w) ∙ ap tree-bytes (tree-exp t w)
+exp-bytes t w = bytes-tree (exp-of t) ∙ ap tree-bytes (tree-exp t w)
 
 pub exp-size : (t : Tree) → WellFormed t → tree-size t ≡ size (exp-of t)
 exp-size t w = sym (size-bytes t) ∙ ap length (sym (exp-bytes t w)) ∙ length-bytes (exp-of t)

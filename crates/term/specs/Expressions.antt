@@ -3,11 +3,11 @@ use mathlib.Core.Path.{_≡_}
 use mathlib.Core.List.{List, [], _++_, _∷_}
 use Prim.Native.Nat.{_+_, _≤_, max, suc, ℕ}
 use lib.ListN.{drop, getD, length}
+use Rattle.calculus.specs.Bytes.{two-bytes}
 use Rattle.calculus.specs.Syntax.{Const, unit, num, op, Each, Exp, var, name, const, lam, app, Op, cell, exch, thread, handle}
 use Rattle.calculus.specs.Names.{count}
 use Rattle.calculus.specs.Limits.{byte-values}
 use Rattle.calculus.specs.Image.{size, Writable}
-use Rattle.term.specs.Numbers.{little-endian}
 use Rattle.term.specs.Forms.{variable-tag, lambda-tag, application-tag, unit-tag, num-tag, cell-tag, exch-tag, thread-tag, handle-tag, name-tag}
 use Rattle.term.specs.Tree.{Tree, leaf, one, two}
 use Rattle.term.specs.Reader.{tree-at}
@@ -22,7 +22,7 @@ op-tag handle = handle-tag
 -- the bytes of a constant
 unfoldable pub const-bytes : Const → List ℕ
 const-bytes unit = unit-tag ∷ []
-const-bytes (num n) = num-tag ∷ little-endian 2 n
+const-bytes (num n) = num-tag ∷ two-bytes n
 const-bytes (op o t) = op-tag o ∷ t ∷ []
 
 -- document 01, "A term is written root first, by this table of node forms"

@@ -9,9 +9,10 @@ use Rattle.term.specs.declared.Front.{Front}
 use Rattle.term.specs.declared.Front.the-variants.{Bad, Is}
 use Rattle.term.specs.declared.Node.{Node}
 use Rattle.term.specs.Numbers.{value-of}
-use Rattle.term.specs.Forms.{in-range, operand-of, subterms-of, tags}
+use Rattle.term.specs.Forms.{in-range, operand-of, subterms-of, tags, unit-tag}
 use Rattle.term.specs.Tree.{Tree, leaf, one, tree-size, two}
 
+-- a node where a test holds, and otherwise none
 abbrev pub pick-node : Bool → Front → Front
 pick-node true h = h
 pick-node false h = Bad
@@ -37,6 +38,7 @@ front-node l =
       subterms = subterms-of (getD l 0 0);
     }
 
+-- the same where it stands, and otherwise that there is none
 unfoldable pub node-of : List ℕ → Front
 node-of l = pick-node (node-stands l) (Is (front-node l))
 
@@ -49,14 +51,17 @@ pub data Got : Type 0 where
   none : Got
   got : Tree → List ℕ → Got
 
+-- a node over its one subterm
 abbrev pub close-one : Node → Got → Got
 close-one h none = none
 close-one h (got t rest) = got (one (h .tag) (h .arg) t) rest
 
+-- a node over its two subterms, the first being t
 abbrev pub close-two : Node → Tree → Got → Got
 close-two h t none = none
 close-two h t (got u rest) = got (two (h .tag) (h .arg) t u) rest
 
+-- the second subterm is read where the first ends
 abbrev pub then-second : (List ℕ → Got) → Node → Got → Got
 then-second rd h none = none
 then-second rd h (got t rest) = close-two h t (rd rest)
@@ -67,6 +72,7 @@ read-subterms rd h zero l = got (leaf (h .tag) (h .arg)) l
 read-subterms rd h (suc zero) l = close-one h (rd l)
 read-subterms rd h (suc (suc k)) l = then-second rd h (rd l)
 
+-- a node's subterms, where there is a node
 abbrev pub read-node : (List ℕ → Got) → Front → List ℕ → Got
 read-node rd Bad l = none
 read-node rd (Is h) l = read-subterms rd h (h .subterms) (drop (h .size) l)
@@ -90,18 +96,21 @@ one-term none = false
 one-term (got t []) = true
 one-term (got t (x ∷ rest)) = false
 
+-- the term that was read; any leaf, where none was
 abbrev pub tree-in : Got → Tree
-tree-in none = leaf 0 0
+tree-in none = leaf unit-tag 0
 tree-in (got t rest) = t
 
+-- what stands after it
 abbrev pub rest-in : Got → List ℕ
 rest-in none = []
 rest-in (got t rest) = rest
 
--- the term at the front, where there is one, and what stands after it
+-- the term at the front, where there is one
 unfoldable pub first-tree : List ℕ → Tree
 first-tree l = tree-in (read-term l)
 
+-- what stands after it
 unfoldable pub first-rest : List ℕ → List ℕ
 first-rest l = rest-in (read-term l)
 

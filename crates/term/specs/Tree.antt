@@ -7,6 +7,7 @@ use Rattle.calculus.specs.Limits.{byte-values}
 use Rattle.term.specs.Numbers.{little-endian}
 use Rattle.term.specs.Forms.{in-range, operand-of, subterms-of, tags}
 
+-- a node with no subterm, with one, with two: its tag, its operand, its subterms
 pub data Tree : Type 0 where
   leaf : ℕ → ℕ → Tree
   one : ℕ → ℕ → Tree → Tree
@@ -28,6 +29,7 @@ tree-size (leaf tag arg) = 1 + operand-of tag
 tree-size (one tag arg t) = 1 + operand-of tag + tree-size t
 tree-size (two tag arg t u) = 1 + operand-of tag + tree-size t + tree-size u
 
+-- how many nodes a term has
 unfoldable pub tree-nodes : Tree → ℕ
 tree-nodes (leaf tag arg) = 1
 tree-nodes (one tag arg t) = 1 + tree-nodes t
@@ -46,6 +48,7 @@ pub record InTable (tag arg subterms : ℕ) : Type 0 where
   pub fits : arg < byte-values ^ operand-of tag
   pub low : in-range tag arg ≡ true
 
+-- each node is one that the table has
 abbrev pub WellFormed : Tree → Type 0
 WellFormed (leaf tag arg) = InTable tag arg 0
 WellFormed (one tag arg t) = InTable tag arg 1 × WellFormed t

@@ -2,6 +2,7 @@
 use mathlib.Core.Path.{_≡_, refl}
 use mathlib.Core.List.{List, [], _∷_}
 use Prim.Native.Nat.{ℕ}
+use Rattle.calculus.specs.Bytes.{two-bytes, word}
 use Rattle.calculus.specs.Step.{beside, place, place-app}
 use Rattle.calculus.specs.Image.{const-size, size}
 use Rattle.term.specs.Forms.{form-of, forms}
@@ -36,5 +37,5 @@ rows =
     ∷ []
 
 pub cases : Hold rows
-unfolding place-of meeting-of hole-at front place place-app beside size const-size bytes const-bytes op-tag term-at exp-of leaf-exp leaf-forms tree-at first-tree read-term read node-of form-of forms value-of
+unfolding place-of meeting-of hole-at front place place-app beside size const-size bytes const-bytes op-tag term-at exp-of leaf-exp leaf-forms tree-at first-tree read-term read node-of form-of forms value-of word two-bytes
 cases = (refl, (refl, (refl, (refl, (refl, (refl, (refl, tt)))))))

@@ -17,7 +17,8 @@ use Rattle.term.proofs.Views.{LeafAt, node-there, one-from, OneAt, past-first, 
 use Rattle.term_scan.specs.declared.Reach.the-variants.{End, TooDeep}
 use Rattle.term_scan.specs.Depths.{pick-end, reach}
 
-some-nesting : (e : Exp) → 1 ≤ nesting e
+-- a term nests at least one deep
+pub some-nesting : (e : Exp) → 1 ≤ nesting e
 unfolding nesting
 some-nesting (var i) = omega arith
 some-nesting (name k) = omega arith

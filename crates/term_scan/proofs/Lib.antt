@@ -5,7 +5,7 @@ pub mod Many
 -- from an answer to the term that stands there
 pub mod Answers
 -- nesting, by the number of subterms
-mod Depths
+pub mod Depths
 -- a stack in an array
 pub mod Stack
 -- terms on levels of lambdas: the law of the loop with a stack

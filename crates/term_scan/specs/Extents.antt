@@ -11,18 +11,21 @@ use Rattle.term_scan.specs.declared.Extent.the-variants.{Ends, Refused}
 use Rattle.term_scan.specs.declared.Part.{Part}
 use Rattle.term_scan.specs.declared.Part.the-variants.{Nodes, NoTerm}
 
+-- the end and the nodes of a term that was read from a position
 abbrev pub scanned : ℕ → Got → Extent
 scanned at none = Refused
 scanned at (got t rest) = Ends (at + tree-size t) (tree-nodes t)
 
+-- the same of the term at a position
 unfoldable pub extent-at : List ℕ → ℕ → Extent
 extent-at l at = scanned at (read-term (drop at l))
 
--- under a budget of nodes, with one answer for what is no term and for what has too many
+-- an end and nodes where a test holds, and otherwise a refusal
 abbrev pub keeping : Bool → ℕ → ℕ → Extent
 keeping true e n = Ends e n
 keeping false e n = Refused
 
+-- under a budget of nodes, with one answer for what is no term and for what has too many
 abbrev pub small : ℕ → Extent → Extent
 small budget Refused = Refused
 small budget (Ends e n) = keeping (leb n budget) e n
@@ -38,5 +41,6 @@ exactly none = NoTerm
 exactly (got t []) = Nodes (tree-nodes t)
 exactly (got t (b ∷ l)) = NoTerm
 
+-- the nodes of a part that is one term
 unfoldable pub part-of : List ℕ → Part
 part-of l = exactly (read-term l)

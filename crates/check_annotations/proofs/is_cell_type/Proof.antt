@@ -3,67 +3,42 @@ use Prim.Native.Nat.{ℕ}
 use borrow.Author.Needs.{needs}
 use borrow.Author.Tests.{eq-eqb, ne-eqb}
 use lib.ListN.{drop}
-use Rattle.calculus.specs.Verdict.{is-cell-type}
+use Rattle.calculus.specs.Verdict.{cell-parts}
 use Rattle.recipe_table.specs.Entries.{table-of}
-use Rattle.check_annotations.proofs.Tests.{Asks, fails, last, pass, refuse, stands}
-use Rattle.check_annotations.proofs.Instances.{cell-type-list, cell-type-tests}
+use Rattle.check_annotations.proofs.Tests.{Asks, last, pass, refuse}
+use Rattle.check_annotations.proofs.Instances.{cell-list, cell-tests}
 use Rattle.check_annotations.proofs.is_cell_type.Statement.{statement}
 use Rattle.check_annotations.proofs.is_cell_type.Tie as tie
 
 -- the tests that are left, n of them passed, where the entries are looked up
-abbrev Left : ℕ → tie.After-entry-at2 → Type 0
+abbrev Left : ℕ → tie.After-entry-at → Type 0
 Left n l =
-    let a = l .before .before .before .before .args in
+    let a = l .before .before .before .args in
     let T = table-of (a .table .now) in
-    Asks (is-cell-type T (a .t)) (drop n (cell-type-list T (l .before .before .entry-at .result) (l .entry-at2 .result)))
+    Asks (cell-parts T (a .whole .p) (a .whole .q)) (drop n (cell-list T (a .whole .p) (l .entry-at .result)))
 
-tests : (l : tie.After-entry-at2) → Left 0 l
-tests l = cell-type-tests _ _ _ (l .before .before .entry-at .ensures) _ (l .entry-at2 .ensures)
-
-function : (f : tie.Else1) → Left 1 (f .before .before)
-function f = pass (tests (f .before .before)) (stands (f .before .is-function .ensures) (f .if1 .left))
-
-entry-at-requires : tie.Need-entry-at-requires
-entry-at-requires c κs = search needs
+tests : (l : tie.After-entry-at) → Left 0 l
+tests l = cell-tests _ _ _ _ (l .entry-at .ensures)
 
 cast-entry-at : tie.Need-cast-entry-at
 cast-entry-at c = search needs
 
-entry-at-requires-2 : tie.Need-entry-at-requires-2
-entry-at-requires-2 c κs = search needs
-
-is-function-requires : tie.Need-is-function-requires
-is-function-requires c κs = search needs
+entry-at-requires : tie.Need-entry-at-requires
+entry-at-requires c κs = search needs
 
 returns : tie.Need-returns
-returns c = refuse (tests (c .before .before)) (fails (c .before .is-function .ensures) (c .if1 .taken))
+returns c = refuse (tests (c .before .before)) (ne-eqb _ _ (c .if1 .taken))
 
 returns-2 : tie.Need-returns-2
-returns-2 c = refuse (function (c .before .before)) (ne-eqb _ _ (c .if2 .taken))
-
-returns-3 : tie.Need-returns-3
-returns-3 c =
-    let f = c .before .before .before .before .before in
-    refuse (pass (function f) (eq-eqb _ _ (c .before .before .before .if2 .left))) (ne-eqb _ _ (c .if3 .taken))
+returns-2 c = refuse (pass (tests (c .before .before .before .before .before)) (eq-eqb _ _ (c .before .before .before .if1 .left))) (ne-eqb _ _ (c .if2 .taken))
 
 is-narrowed-requires : tie.Need-is-narrowed-requires
 is-narrowed-requires c κs = search needs
 
-returns-4 : tie.Need-returns-4
-returns-4 c =
-    let f = c .before .before .before .before .before .before in
-    last (pass (pass (function f) (eq-eqb _ _ (c .before .before .before .before .if2 .left))) (eq-eqb _ _ (c .before .if3 .left))) (c .is-narrowed .ensures)
+returns-3 : tie.Need-returns-3
+returns-3 c =
+    let l = c .before .before .before .before .before .before in
+    last (pass (pass (tests l) (eq-eqb _ _ (c .before .before .before .before .if1 .left))) (eq-eqb _ _ (c .before .if2 .left))) (c .is-narrowed .ensures)
 
 pub is-cell-type-spec : {M : Type 1} → statement M
-is-cell-type-spec =
-    tie.close
-    (tie.spec
-    entry-at-requires
-    cast-entry-at
-    entry-at-requires-2
-    is-function-requires
-    returns
-    returns-2
-    returns-3
-    is-narrowed-requires
-    returns-4)
+is-cell-type-spec = tie.close (tie.spec cast-entry-at entry-at-requires returns returns-2 is-narrowed-requires returns-3)

@@ -6,6 +6,7 @@ use mathlib.Core.List.{[], _∷_}
 use Prim.Native.Nat.{suc, zero, ℕ}
 use native.Mathlib.Omega.{arith}
 use lib.ListN.{getD, set}
+use Rattle.calculus.specs.Theory.Derivable.{uses-self}
 use Rattle.calculus.specs.Syntax.{Exp, var, name, const, lam, app, at}
 use Rattle.calculus.specs.Names.{uses}
 use Rattle.calculus.specs.Table.{Entry, Table}
@@ -14,7 +15,7 @@ use Rattle.calculus.specs.Theory.Tests.{and-parts, ltb-complete}
 use Rattle.check_linearity.specs.Spend.{Marks, new-mark, reach-under, leave, spend-variable, spend-next, spend}
 use Rattle.check_linearity.specs.Theory.Changes.{Fit, fit-many, fit-unused, fit-due, fit-allowed, fit-function, fit-argument}
 use Rattle.check_linearity.specs.Theory.Lambdas.{Allowed, on-function-parts, allowed-body, own-reach, parameter-fit, parameter-left, leave-some, spend-lambda-at}
-use Rattle.check_linearity.specs.Theory.Sound.{Spent, uses-self, sound}
+use Rattle.check_linearity.specs.Theory.Sound.{Spent, sound}
 
 -- e may meet the marks M, variable by variable
 abbrev pub Fits : Table → ℕ → Marks → Exp → Type 0

@@ -60,3 +60,12 @@ reach-floor kind floor above h = go (eqb kind once-type-kind)
     go : (o : Bool) → _≡_ {A = ℕ} (cond o (suc (above - floor)) 1) (suc above - cond o floor above)
     go true = omega arith
     go false = omega arith
+
+-- and no higher than the lambda's own level
+pub floor-below : (kind floor above : ℕ) → floor ≤ above → floor-under kind floor above ≤ above
+unfolding floor-under
+floor-below kind floor above h = go (eqb kind once-type-kind)
+  where
+    go : (o : Bool) → cond o floor above ≤ above
+    go true = h
+    go false = omega arith

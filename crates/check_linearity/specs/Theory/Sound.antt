@@ -8,11 +8,12 @@ use native.Mathlib.Omega.{arith}
 use lib.Dec.{eqb, ltb}
 use lib.ListN.{getD, length, length-set, set}
 use lib.Seq.{getD-set-same, getD-set-other}
+use Rattle.calculus.specs.Theory.Derivable.{uses-other, uses-self}
 use Rattle.calculus.specs.Syntax.{Exp, var, name, const, lam, app, at}
 use Rattle.calculus.specs.Names.{uses}
 use Rattle.calculus.specs.Table.{Entry, Table}
 use Rattle.calculus.specs.Verdict.{outside-many, linear-parameter, linear}
-use Rattle.calculus.specs.Theory.Tests.{and-true, and-parts, eqb-sound, eqb-complete, eqb-differ, ltb-sound}
+use Rattle.calculus.specs.Theory.Tests.{and-true, and-parts, eqb-sound, eqb-complete, ltb-sound}
 use Rattle.check_linearity.specs.Spend.{Marks, new-mark, reach-under, spend-variable, spend-next, spend, many-mark, due-mark, spent-mark}
 use Rattle.check_linearity.specs.Theory.Changes.{Change, stays-many, is-spent, change-unused, change-allowed, change-application}
 use Rattle.check_linearity.specs.Theory.Lambdas.{Allowed, unused-outside, on-function-at, allowed-lambda, parameter-sound, leave-parts, spend-lambda-parts}
@@ -31,14 +32,6 @@ marked-below : (M : Marks) (i : ℕ) → getD M i 0 ≡ due-mark → i < length 
 marked-below [] i h = absurd (omega arith)
 marked-below (mark ∷ M) zero h = omega arith
 marked-below (mark ∷ M) (suc i) h = omega (arith, marked-below M i h)
-
-pub uses-self : (i : ℕ) → uses i (var i) ≡ 1
-unfolding uses
-uses-self i = rw (eqb-complete i i refl)
-
-uses-other : (i j : ℕ) → ¬ (j ≡ i) → uses j (var i) ≡ 0
-unfolding uses
-uses-other i j n = rw (eqb-differ i j (λ e. n (sym e)))
 
 -- every variable but i keeps its mark, and of i it is to be shown
 at-variable : (T : Table) (reach : ℕ) (M M′ : Marks) (i : ℕ) → length M′ ≡ length M → ((j : ℕ) → ¬ (j ≡ i) → getD M′ j 0 ≡ getD M j 0) →

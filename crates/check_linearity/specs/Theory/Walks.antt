@@ -1,7 +1,7 @@
 -- A walk with an array of marks, node form by node form.
 use mathlib.Core.Path.{_≡_, ap, refl, sym, _∙_}
 use mathlib.Core.Bool.{Bool, _&&_, cond, false, true}
-use mathlib.Core.Option.{Option, none, some}
+use mathlib.Core.Option.{none, some}
 use mathlib.Core.List.{List, _∷_}
 use Prim.Native.Nat.{_+_, _-_, _<_, _≤_, ℕ}
 use native.Mathlib.Numerals.{add-one}
@@ -9,12 +9,12 @@ use native.Mathlib.Omega.{arith}
 use lib.Dec.{eqb, ltb}
 use lib.ListN.{getD, length, set}
 use Rattle.calculus.specs.Syntax.{Const, Exp, var, name, const, lam, app, at}
-use Rattle.calculus.specs.Table.{Entry, Table, test-entry}
-use Rattle.calculus.specs.Verdict.{is-function-kind, on-function, linear}
+use Rattle.calculus.specs.Table.{Entry, Table}
+use Rattle.calculus.specs.Verdict.{is-function-kind, linear}
 use Rattle.calculus.specs.Theory.Tests.{eqb-differ, ltb-sound, ltb-complete}
-use Rattle.check_linearity.specs.Spend.{Marks, new-mark, spend-variable, spend-next, leave, spend-lambda, spend, left-over, spends, many-mark, due-mark, spent-mark}
+use Rattle.check_linearity.specs.Spend.{Marks, new-mark, spend-variable, spend-next, leave, spend, left-over, spends, many-mark, due-mark, spent-mark}
 use Rattle.check_linearity.specs.Levels.{marks-of, floor-under, marks-left, LinearWalk}
-use Rattle.check_linearity.specs.Theory.Lambdas.{and-true-right, leave-some, spend-lambda-at}
+use Rattle.check_linearity.specs.Theory.Lambdas.{leave-some, spend-lambda-at}
 use Rattle.check_linearity.specs.Theory.Levels.{marks-at, marks-push, marks-pop, marks-set, reach-floor}
 use Rattle.check_linearity.specs.Theory.Linear.{spends-linear}
 
@@ -26,12 +26,6 @@ left-answered : (keeps : Bool) (M : Marks) → left-over (marks-left keeps M) �
 unfolding left-over marks-left
 left-answered true M = refl
 left-answered false M = refl
-
-no-function : (T : Table) (reach : ℕ) (M : Marks) (o : Option Entry) (body : ℕ → Marks → Option Marks) →
-    test-entry o (λ kind p q. is-function-kind kind && true) ≡ false → spend-lambda T reach M o body ≡ none
-unfolding test-entry spend-lambda
-no-function T reach M none body h = refl
-no-function T reach M (some x) body h = let k : is-function-kind (x .kind) ≡ false = sym (and-true-right (is-function-kind (x .kind))) ∙ h in rw k
 
 module _ {T : Table} {floor above : ℕ} {a : List ℕ} where
   pub walked-name : (k : ℕ) → LinearWalk T floor above a (name k) true a
@@ -77,11 +71,6 @@ module _ {T : Table} {floor above : ℕ} {a : List ℕ} where
       LinearWalk T floor above a (app f g) keeps a₂
   unfolding spend spend-next marks-left
   walked-application w v = record { holds = rw (w .holds) (v .holds) }
-
-  -- a lambda whose type is no function
-  pub walked-no-function : {a′ : List ℕ} (t : ℕ) (e : Exp) → on-function T t (λ p q. true) ≡ false → LinearWalk T floor above a (lam t e) false a′
-  unfolding spend marks-left on-function
-  walked-no-function t e h = record { holds = no-function T (above - floor) (marks-of above a) (at T t) (λ reach M. spend T reach M e) h }
 
 -- a lambda of which the body was walked, with one more mark
 body-leaves : (T : Table) (floor above : ℕ) (a : List ℕ) (t : ℕ) (e : Exp) (x : Entry) (keeps : Bool) (a′ : List ℕ) →

@@ -20,11 +20,11 @@ returns-4 c = high-stands _ _ _ _ _ (c .before .before .if2 .left) (c .if4 .take
 returns-5 : tie.Need-returns-5
 returns-5 c = op-fails _ _ _ _ _ (c .before .before .if3 .left) (c .before .if4 .left) (omega (arith, c .before .before .before .before .before .before .pre .0))
 
-leaf-annotated-requires : tie.Need-leaf-annotated-requires
-leaf-annotated-requires c κs = omega (arith, c .before .before .before .before .before .before .pre .1)
+constant-annotated-requires : tie.Need-constant-annotated-requires
+constant-annotated-requires c κs = (omega (arith, c .before .before .before .before .before .before .pre .1), (omega (arith, c .before .before .if3 .left), omega (arith, c .before .if4 .left)))
 
 returns-6 : tie.Need-returns-6
-returns-6 c = c .leaf-annotated .ensures ∙ op-stands _ _ _ _ _ (c .before .before .before .if3 .left) (c .before .before .if4 .left) (omega (arith, c .before .before .before .before .before .before .before .pre .0))
+returns-6 c = c .constant-annotated .ensures ∙ op-stands _ _ _ _ _ (c .before .before .before .if3 .left) (c .before .before .if4 .left) (omega (arith, c .before .before .before .before .before .before .before .pre .0))
 
 pub leaf-stands-spec : {M : Type 1} → statement M
-leaf-stands-spec = tie.close (tie.spec returns returns-2 returns-3 returns-4 returns-5 leaf-annotated-requires returns-6)
+leaf-stands-spec = tie.close (tie.spec returns returns-2 returns-3 returns-4 returns-5 constant-annotated-requires returns-6)

@@ -1,5 +1,5 @@
 -- The proof of the cycle of calls {walk_at}: what falls is the part still unread, and each return is a law of proofs/Together.antt.
-use mathlib.Core.Path.{_≡_, refl, subst, sym, _∙_}
+use mathlib.Core.Path.{_≡_, sym, _∙_}
 use mathlib.Core.List.{List}
 use Prim.Native.Nat.{ℕ, _+_, _-_, _<_}
 use native.Mathlib.Omega.{arith}
@@ -7,26 +7,23 @@ use borrow.Author.Needs.{needs}
 use borrow.Fn.Kinds.{In}
 use borrow.Fn.PlainCycle.{Measures, is, falls, and}
 use lib.ListN.{length, length-set}
+use Rattle.calculus.specs.Limits.{max-nesting}
 use Rattle.term.specs.declared.Front.the-variants.{Is}
 use Rattle.term.specs.declared.Node.{Node}
 use Rattle.term.specs.Reader.{node-at}
 use Rattle.term.proofs.Views.{is-two, leaf-from, LeafAt, node-there, NodeAt, not-bad, one-from, OneAt, past-first, two-from, TwoAt}
 use Rattle.term.proofs.node_at.Reads as node-at-reads
-use Rattle.check_types.proofs.applied_type.Reads as applied-type-reads
+use Rattle.check_linearity.specs.Theory.Levels.{floor-below}
 use Rattle.check_types.proofs.entry_at.Reads as entry-at-reads
-use Rattle.check_types.proofs.lambda_type.Reads as lambda-type-reads
 use Rattle.check_types.proofs.leaf_type.Reads as leaf-type-reads
 use Rattle.check_walk.specs.Walk.{WalkReady}
-use Rattle.check_walk.proofs.Codes.{under-low}
 use Rattle.check_walk.proofs.Ways.{leaf-scope, leaf-scoped, level-below, ready-argument, ready-body, ready-function, type-below}
-use Rattle.check_walk.proofs.Together.{second-is, walked-application, walked-lambda, walked-leaf, walked-no-body, walked-no-first, walked-no-function, walked-no-second}
-use Rattle.check_walk.proofs.both.Reads as both-reads
-use Rattle.check_walk.proofs.code_floor.Reads as code-floor-reads
-use Rattle.check_walk.proofs.code_mark.Reads as code-mark-reads
-use Rattle.check_walk.proofs.code_of.Reads as code-of-reads
-use Rattle.check_walk.proofs.used_up.Reads as used-up-reads
+use Rattle.check_walk.proofs.Together.{second-is, walked-application, walked-lambda, walked-leaf, walked-no-first}
+use Rattle.check_walk.proofs.close_application.Reads as close-application-reads
+use Rattle.check_walk.proofs.close_lambda.Reads as close-lambda-reads
+use Rattle.check_walk.proofs.floor_under.Reads as floor-under-reads
+use Rattle.check_walk.proofs.new_mark.Reads as new-mark-reads
 use Rattle.check_walk.proofs.spend_leaf.Reads as spend-leaf-reads
-use Rattle.check_walk.proofs.with_uses.Reads as with-uses-reads
 use Rattle.check_walk.proofs.walk_at.Reads as reads
 use Rattle.check_walk.proofs.walk_at.Kinds as kinds
 use Rattle.check_walk.proofs.+walk_at.Lts-walk_at as lts
@@ -53,24 +50,16 @@ calls t = (
   spend-leaf-reads.Learnt,
   entry-at-reads.Asked,
   entry-at-reads.Learnt,
-  code-of-reads.Asked,
-  code-of-reads.Learnt,
-  code-floor-reads.Asked,
-  code-floor-reads.Learnt,
-  code-mark-reads.Asked,
-  code-mark-reads.Learnt,
+  floor-under-reads.Asked,
+  floor-under-reads.Learnt,
+  new-mark-reads.Asked,
+  new-mark-reads.Learnt,
   below t,
   reads.Post,
-  lambda-type-reads.Asked,
-  lambda-type-reads.Learnt,
-  used-up-reads.Asked,
-  used-up-reads.Learnt,
-  with-uses-reads.Asked,
-  with-uses-reads.Learnt,
-  applied-type-reads.Asked,
-  applied-type-reads.Learnt,
-  both-reads.Asked,
-  both-reads.Learnt,
+  close-lambda-reads.Asked,
+  close-lambda-reads.Learnt,
+  close-application-reads.Asked,
+  close-application-reads.Learnt,
 )
 
 module _ (t : ℕ) where
@@ -124,15 +113,15 @@ module _ (t : ℕ) where
   one : (c : AtLambda) → OneAt (all (lambda c)) (at (lambda c)) (node (lambda c))
   one c = one-from (is-node (lambda c)) (ready (lambda c) .good) (c .if2 .taken)
 
-  level : (c : AtLambda) → above (lambda c) < 100
+  level : (c : AtLambda) → above (lambda c) < max-nesting
   level c = level-below (ready (lambda c)) (one c)
 
   -- where its body is walked
   abbrev AtMark : Type 0
-  AtMark = lts.After-code-mark (calls t) (given t) reads.Post
+  AtMark = lts.After-new-mark (calls t) (given t) reads.Post
 
   abbrev opened : AtMark → AtLambda
-  opened c = c .before .before .before .before .before
+  opened c = c .before .before .before
 
   room : (c : AtMark) → above (lambda (opened c)) < length (env (lambda (opened c)))
   room c = omega (arith, level (opened c), ready (lambda (opened c)) .wide)
@@ -152,7 +141,7 @@ module _ (t : ℕ) where
 
   -- where the first of them has its type
   abbrev AtFirst : Type 0
-  AtFirst = lts.After-known-told3 (calls t) (given t) reads.Post
+  AtFirst = lts.After-known-told2 (calls t) (given t) reads.Post
 
   abbrev back : AtFirst → AtTwo
   back c = c .before .before .before .before .before .before
@@ -190,17 +179,11 @@ module _ (t : ℕ) where
   entry-at-requires : lts.Need-entry-at-requires (calls t) (given t) reads.Post
   entry-at-requires c κs = omega (arith, type-below (ready (lambda c)) (one c))
 
-  code-of-requires : lts.Need-code-of-requires (calls t) (given t) reads.Post
-  code-of-requires c κs = search needs
+  floor-under-requires : lts.Need-floor-under-requires (calls t) (given t) reads.Post
+  floor-under-requires c κs = search needs
 
-  returns-3 : lts.Need-returns-3 (calls t) (given t) reads.Post
-  returns-3 c = walked-no-function _ _ _ _ _ _ _ _ (one (c .before .before .before)) _ _ (c .before .before .entry-at .ensures) (c .before .code-of .ensures) (c .if3 .taken)
-
-  code-floor-requires : lts.Need-code-floor-requires (calls t) (given t) reads.Post
-  code-floor-requires c κs = search needs
-
-  code-mark-requires : lts.Need-code-mark-requires (calls t) (given t) reads.Post
-  code-mark-requires c κs = search needs
+  new-mark-requires : lts.Need-new-mark-requires (calls t) (given t) reads.Post
+  new-mark-requires c κs = search needs
 
   element-write-marks : lts.Need-element-write-marks (calls t) (given t) reads.Post
   element-write-marks c = level (opened c)
@@ -216,41 +199,24 @@ module _ (t : ℕ) where
       let m = c .before .before in
       let l = opened m in
       let n = lambda l in
-      (falls-at n, ready-body (ready n) (one l) (under-low _ _ _ (m .before .code-floor .ensures) (ready n .low)) (length-set (env n) (above n) _) (length-set (marks n) (above n) _))
+      let under = m .before .floor-under .ensures in
+      let low = floor-below (m .before .before .entry-at .result .kind) (start n .args .floor) (above n) (ready n .low) in
+      (falls-at n, ready-body (ready n) (one l) (omega (arith, under, low)) (length-set (env n) (above n) _) (length-set (marks n) (above n) _))
 
-  enum-known-body : lts.Need-enum-known-body (calls t) (given t) reads.Post
-  enum-known-body c = search needs
+  cast-close-lambda : lts.Need-cast-close-lambda (calls t) (given t) reads.Post
+  cast-close-lambda c = let l = opened (c .before .before .before) in omega (arith, type-below (ready (lambda l)) (one l))
 
-  enum-told-2 : lts.Need-enum-told-2 (calls t) (given t) reads.Post
-  enum-told-2 c = search needs
+  element-copy-out-close-lambda : lts.Need-element-copy-out-close-lambda (calls t) (given t) reads.Post
+  element-copy-out-close-lambda c = level (opened (c .before .before .before))
 
-  returns-4 : lts.Need-returns-4 (calls t) (given t) reads.Post
-  returns-4 c =
+  close-lambda-requires : lts.Need-close-lambda-requires (calls t) (given t) reads.Post
+  close-lambda-requires c κs = search needs
+
+  returns-3 : lts.Need-returns-3 (calls t) (given t) reads.Post
+  returns-3 c =
       let m = c .before .before .before .before .before in
-      walked-no-body _ _ _ _ _ _ _ _ (one (opened m)) _ _ (m .before .before .before .before .entry-at .ensures) (m .before .before .before .code-of .ensures) _ _ _ _ (room m) (c .before .before .walk-at .ensures) (c .enum-told2 .given .1)
-
-  cast-lambda-type : lts.Need-cast-lambda-type (calls t) (given t) reads.Post
-  cast-lambda-type c = let l = opened (c .before .before .before .before .before .before) in omega (arith, type-below (ready (lambda l)) (one l))
-
-  lambda-type-requires : lts.Need-lambda-type-requires (calls t) (given t) reads.Post
-  lambda-type-requires c κs = search needs
-
-  element-copy-out-used-up : lts.Need-element-copy-out-used-up (calls t) (given t) reads.Post
-  element-copy-out-used-up c = level (opened (c .before .before .before .before .before .before .before))
-
-  used-up-requires : lts.Need-used-up-requires (calls t) (given t) reads.Post
-  used-up-requires c κs = search needs
-
-  with-uses-requires : lts.Need-with-uses-requires (calls t) (given t) reads.Post
-  with-uses-requires c κs = search needs
-
-  returns-5 : lts.Need-returns-5 (calls t) (given t) reads.Post
-  returns-5 c =
-      let b = c .before .before .before .before in
-      let m = b .before .before .before .before .before .before in
-      walked-lambda _ _ _ _ _ _ _ _ (one (opened m)) _ _ (m .before .before .before .before .entry-at .ensures) (m .before .before .before .code-of .ensures) _ _ _ _ (room m) (b .before .before .before .walk-at .ensures)
-      _ _ _ (b .before .body .given .1) (m .before .before .if3 .left) (m .before .code-floor .ensures) (m .code-mark .ensures) (ready (lambda (opened m)) .low) (space m)
-      (c .before .before .before .lambda-type .ensures) (c .before .used-up .ensures) (c .with-uses .ensures)
+      walked-lambda _ _ _ _ _ _ _ _ (one (opened m)) _ (m .before .before .entry-at .ensures) _ _ _ _ (room m) (space m) (ready (lambda (opened m)) .low)
+      (m .before .floor-under .ensures) (m .new-mark .ensures) _ (c .before .before .walk-at .ensures) (c .close-lambda .ensures)
 
   walk-at-requires-2 : lts.Need-walk-at-requires-2 (calls t) (given t) reads.Post
   walk-at-requires-2 c κs = let e = c .before .before in let n = apply e in (falls-at n, ready-function (ready n) (two e))
@@ -258,11 +224,11 @@ module _ (t : ℕ) where
   enum-known-function : lts.Need-enum-known-function (calls t) (given t) reads.Post
   enum-known-function c = search needs
 
-  enum-told-3 : lts.Need-enum-told-3 (calls t) (given t) reads.Post
-  enum-told-3 c = search needs
+  enum-told-2 : lts.Need-enum-told-2 (calls t) (given t) reads.Post
+  enum-told-2 c = search needs
 
-  returns-6 : lts.Need-returns-6 (calls t) (given t) reads.Post
-  returns-6 c = walked-no-first _ _ _ _ _ _ _ _ (two (c .before .before .before .before .before)) _ _ (c .before .before .walk-at2 .ensures) (c .enum-told3 .given .1)
+  returns-4 : lts.Need-returns-4 (calls t) (given t) reads.Post
+  returns-4 c = walked-no-first _ _ _ _ _ _ _ _ (two (c .before .before .before .before .before)) _ _ (c .before .before .walk-at2 .ensures) (c .enum-told2 .given .1)
 
   walk-at-requires-3 : lts.Need-walk-at-requires-3 (calls t) (given t) reads.Post
   walk-at-requires-3 c κs =
@@ -271,19 +237,8 @@ module _ (t : ℕ) where
       let n = apply e in
       let k = f .before .before .before .walk-at2 .ensures .left _ _ _ (f .before .function .given .1) in (
         omega (arith, start n .pre .0, here n .onward, two e .onward, two e .second .inside, second-at f),
-        ready-argument (ready n) (two e) (sym (second-at f)) (k .wide) (k .spent .same),
+        ready-argument (ready n) (two e) (sym (second-at f)) (k .wide) (k .same),
       )
-
-  enum-known-argument : lts.Need-enum-known-argument (calls t) (given t) reads.Post
-  enum-known-argument c = search needs
-
-  enum-told-4 : lts.Need-enum-told-4 (calls t) (given t) reads.Post
-  enum-told-4 c = search needs
-
-  returns-7 : lts.Need-returns-7 (calls t) (given t) reads.Post
-  returns-7 c =
-      let f = c .before .before .before .before .before in
-      walked-no-second _ _ _ _ _ _ _ _ (two (back f)) _ _ (f .before .before .before .walk-at2 .ensures) _ _ _ (f .before .function .given .1) _ _ (c .before .before .walk-at3 .ensures) (c .enum-told4 .given .1)
 
   cast-entry-at : lts.Need-cast-entry-at (calls t) (given t) reads.Post
   cast-entry-at c = search needs
@@ -291,21 +246,14 @@ module _ (t : ℕ) where
   entry-at-requires-2 : lts.Need-entry-at-requires-2 (calls t) (given t) reads.Post
   entry-at-requires-2 c κs = search needs
 
-  applied-type-requires : lts.Need-applied-type-requires (calls t) (given t) reads.Post
-  applied-type-requires c κs = search needs
+  close-application-requires : lts.Need-close-application-requires (calls t) (given t) reads.Post
+  close-application-requires c κs = search needs
 
-  both-requires : lts.Need-both-requires (calls t) (given t) reads.Post
-  both-requires c κs = search needs
-
-  with-uses-requires-2 : lts.Need-with-uses-requires-2 (calls t) (given t) reads.Post
-  with-uses-requires-2 c κs = search needs
-
-  returns-8 : lts.Need-returns-8 (calls t) (given t) reads.Post
-  returns-8 c =
-      let g = c .before .before .before .before in
-      let f = g .before .before .before .before .before .before in
-      walked-application _ _ _ _ _ _ _ _ (two (back f)) _ _ (f .before .before .before .walk-at2 .ensures) _ _ _ (f .before .function .given .1) _ _ (g .before .before .before .walk-at3 .ensures)
-      (g .before .argument .given .1) (c .before .before .before .entry-at2 .ensures) (c .before .before .applied-type .ensures) (c .before .both .ensures) (c .with-uses2 .ensures)
+  returns-5 : lts.Need-returns-5 (calls t) (given t) reads.Post
+  returns-5 c =
+      let f = c .before .before .before .before .before in
+      walked-application _ _ _ _ _ _ _ _ (two (back f)) _ _ (f .before .before .before .walk-at2 .ensures) _ _ _ (f .before .function .given .1) _ _ (c .before .before .walk-at3 .ensures)
+      (c .before .entry-at2 .ensures) (c .close-application .ensures)
 
 pub +walk-at-spec : {M : Type 1} → statement M
 +walk-at-spec =
@@ -319,34 +267,22 @@ pub +walk-at-spec : {M : Type 1} → statement M
     (spend-leaf-requires t)
     (returns-2 t)
     (entry-at-requires t)
-    (code-of-requires t)
-    (returns-3 t)
-    (code-floor-requires t)
-    (code-mark-requires t)
+    (floor-under-requires t)
+    (new-mark-requires t)
     (element-write-marks t)
     (element-write-env t)
     (add-walk-at t)
     (walk-at-requires t)
-    (enum-known-body t)
-    (enum-told-2 t)
-    (returns-4 t)
-    (cast-lambda-type t)
-    (lambda-type-requires t)
-    (element-copy-out-used-up t)
-    (used-up-requires t)
-    (with-uses-requires t)
-    (returns-5 t)
+    (cast-close-lambda t)
+    (element-copy-out-close-lambda t)
+    (close-lambda-requires t)
+    (returns-3 t)
     (walk-at-requires-2 t)
     (enum-known-function t)
-    (enum-told-3 t)
-    (returns-6 t)
+    (enum-told-2 t)
+    (returns-4 t)
     (walk-at-requires-3 t)
-    (enum-known-argument t)
-    (enum-told-4 t)
-    (returns-7 t)
     (cast-entry-at t)
     (entry-at-requires-2 t)
-    (applied-type-requires t)
-    (both-requires t)
-    (with-uses-requires-2 t)
-    (returns-8 t)
+    (close-application-requires t)
+    (returns-5 t)

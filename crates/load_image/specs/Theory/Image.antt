@@ -3,12 +3,11 @@ use mathlib.Core.Path.{_≡_, refl, sym, ap, _∙_}
 use mathlib.Core.List.{List, _∷_, map}
 use Prim.Native.Nat.{ℕ, zero, suc, _<_}
 use lib.ListN.{replicate}
-use Rattle.calculus.specs.Bytes.{Bytes}
+use Rattle.calculus.specs.Bytes.{Bytes, two-bytes}
 use Rattle.calculus.specs.Lists.{tabulate}
 use Rattle.calculus.specs.Syntax.{thread-of}
 use Rattle.calculus.specs.Recipe.{loaded}
 use Rattle.calculus.specs.Theory.Tabulate.{length-tabulate, tabulate-at, tabulate-first, tabulate-same, map-tabulate}
-use Rattle.term.specs.Numbers.{little-endian}
 use Rattle.term.specs.Expressions.{bytes, const-bytes}
 use Rattle.recipe_file.specs.File.{bays}
 use Rattle.check_spec.specs.Bays.{bay-term, bay-terms}
@@ -33,7 +32,7 @@ module _ (s : List ℕ) (b : Bytes s) (accepted : refusal s ≡ 0) where
 
   -- name by name
   pub starting-tabulated : starting-image s ≡ image-bytes (tabulate (starting-names s) (starting-at s))
-  unfolding starting-image image-of loaded bay-terms encode bytes const-bytes little-endian
+  unfolding starting-image image-of loaded bay-terms encode bytes const-bytes two-bytes
   starting-tabulated =
       ap image-bytes
       (rw (length-tabulate (bays s) (bay-term s), map-append encode, map-replicate encode, map-tabulate thread-of (bays s) (bay-term s), map-tabulate encode (bays s), tabulate-same (bays s) _ (bay-thread s) bay-bytes, starting-parts s) refl)
