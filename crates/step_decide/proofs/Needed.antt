@@ -18,7 +18,7 @@ use Rattle.image_layout.specs.Slice.{kind-at, companion-at, offset-at, length-a
 use Rattle.image_layout.specs.Readable.{HasHead}
 use Rattle.image.specs.Configuration.{config-of}
 use Rattle.term_redex.specs.declared.Meeting.{Meeting}
-use Rattle.term_redex.proofs.Applications.{settled-value}
+use Rattle.calculus.specs.Theory.ImageTest.{settled-value}
 use Rattle.step_rules.specs.Meets.{MeetsAt, move-of}
 use Rattle.step_rules.specs.Stepped.{Stepped}
 use Rattle.step_rules.specs.Theory.Reading.{below, thread-stands}

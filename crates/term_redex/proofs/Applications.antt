@@ -8,24 +8,14 @@ use Rattle.calculus.specs.Syntax.{unit, num, op, Exp, var, name, const, lam, ap
 use Rattle.calculus.specs.Reduction.{Context, hole, in-function, in-argument, plug}
 use Rattle.calculus.specs.Step.{Place, settled, meet, loose, beside, place, place-app}
 use Rattle.calculus.specs.Image.{Closed, closed-var, const-size, is-settled, size}
-use Rattle.calculus.specs.Theory.Places.{Placed, place-meet, place-sound, place-value}
+use Rattle.calculus.specs.Theory.Places.{place-meet, place-value}
 use Rattle.term.specs.Expressions.{bytes}
 use Rattle.term.proofs.Sizes.{length-bytes}
 use Rattle.term_redex.specs.declared.Place.the-variants.{Done, Meet}
+use Rattle.calculus.specs.Theory.ImageTest.{settled-value}
 use Rattle.term_redex.specs.Contexts.{front, hole-at}
 use Rattle.term_redex.specs.Shapes.{const-is-exch, exp-is-exch, is-application, is-exchange, op-is-exch}
 use Rattle.term_redex.specs.Places.{meeting-of, place-of}
-
--- Values
-
-pub settled-value : (e : Exp) → is-settled (place e) ≡ true → Value e
-unfolding is-settled
-settled-value e h = go (place e) (place-sound e) h
-  where
-    go : (p : Place) → Placed e p → is-settled p ≡ true → Value e
-    go (settled v w) s h = rw s w
-    go (meet F f v wf wv) s h = absurd (false≢true h)
-    go loose s h = absurd (false≢true h)
 
 -- an application that is a value is exch applied
 value-exchange : {f a : Exp} → Value (app f a) → exp-is-exch f ≡ true

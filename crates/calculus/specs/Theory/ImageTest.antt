@@ -70,9 +70,9 @@ expression-complete m depth (closed-app p q) n (each-app s s′) =
     and-true (expression-complete m depth p (λ k l. omega (arith, n k l)) s) (expression-complete m depth q (λ k l. omega (arith, n k l)) s′)
 
 -- values
-value-sound : (e : Exp) → is-settled (place e) ≡ true → Value e
+pub settled-value : (e : Exp) → is-settled (place e) ≡ true → Value e
 unfolding is-settled
-value-sound e h = go (place e) (place-sound e) h
+settled-value e h = go (place e) (place-sound e) h
   where
     go : (p : Place) → Placed e p → is-settled p ≡ true → Value e
     go (settled v w) q h = subst (λ (u : Exp). Value u) (sym q) w
@@ -182,7 +182,7 @@ image-test-iff C = (there, back)
       bound = λ x c p. bound x c (at-test x c p);
       names-below = λ x c p. below x c (at-test x c p);
       small = λ x c p. small x c (at-test x c p);
-      cells = λ x v p. value-sound v (and-parts (expression-test (length C) 0 v) (is-settled (place v)) (at-test x (holds v) p) .1);
+      cells = λ x v p. settled-value v (and-parts (expression-test (length C) 0 v) (is-settled (place v)) (at-test x (holds v) p) .1);
       companions = λ z y p. awaited-sound (at C y) (at-test z (open-for y) p);
       futures = λ y p. handles-one y C (eqb-sound (handles-for y C) 1 (at-test y awaited p));
       limits = limits-test-iff C .0 (parts .1);

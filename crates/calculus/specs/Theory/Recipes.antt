@@ -8,10 +8,11 @@ use native.Mathlib.Decide.{decLt}
 use native.Mathlib.Omega.{arith}
 use lib.ListN.{length, length-append, length-map, length-replicate, replicate}
 use Rattle.calculus.specs.Types.{many, LinType, num-type, ref, multiplicity}
-use Rattle.calculus.specs.Syntax.{unit, num, Exp, const, is-const, Component, thread-of, holds, open-for, used, Config, at, Allowed, constants, Each, each-const, EachAll}
+use Rattle.calculus.specs.Syntax.{unit, num, Exp, const, is-const, Component, thread-of, holds, open-for, used, at, Allowed, constants, Each, each-const, EachAll}
 use Rattle.calculus.specs.Typing.{TypeNumbers, NameTypes, of-num, no-once-nil, Derivation, d-const}
 use Rattle.calculus.specs.Narrowing.{NarrowConst, Narrow}
 use Rattle.calculus.specs.Names.{OnceName}
+use Rattle.calculus.specs.Theory.Configurations.{nodes-append}
 use Rattle.calculus.specs.Theory.ConfigRuns.{ConfigCall, state-after, ConfigStep, config-steps, ConfigDemand}
 use Rattle.calculus.specs.Recipe.{setting-types, loaded}
 use Rattle.calculus.specs.Limits.{max-bays, max-recipe-nodes}
@@ -61,11 +62,6 @@ start-each Q zero-too es αs f = each-append Q (replicate (length es) (holds (co
     (λ k c h. rw (at-replicate (length es) _ k h .1) (each-const zero-too)) (each-at Q es f)
 
 -- what is loaded is within the limits
-nodes-append : (C D : Config) → nodes-all (C ++ D) ≡ nodes-all C + nodes-all D
-unfolding sum-all
-nodes-append [] D = omega arith
-nodes-append (c ∷ C) D = omega (arith, nodes-append C D)
-
 nodes-settings : (b : ℕ) → nodes-all (replicate b (holds (const (num 0)))) ≡ b
 unfolding sum-all sum-in nodes
 nodes-settings zero = refl

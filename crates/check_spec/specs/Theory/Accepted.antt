@@ -163,7 +163,7 @@ accepted-exactly s b = (
 pub one-recipe : {s : List ℕ} {T T′ : Table} {es es′ : List Exp} → Recipe s T es → Recipe s T′ es′ → (T ≡ T′) × (es ≡ es′)
 one-recipe r r′ = (sym (table-is r) ∙ table-is r′, sym (terms-are r) ∙ terms-are r′)
 
-getD-at : (l : List ℕ) (k : ℕ) {n : ℕ} → at l k ≡ some n → getD l k 0 ≡ n
+pub getD-at : (l : List ℕ) (k : ℕ) {n : ℕ} → at l k ≡ some n → getD l k 0 ≡ n
 getD-at [] k h = absurd (clash (cc))
 getD-at (m ∷ l) zero h = cc
 getD-at (m ∷ l) (suc k) h = getD-at l k h

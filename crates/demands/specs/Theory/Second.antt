@@ -32,7 +32,7 @@ use Rattle.recipe_file.specs.File.{bays}
 use Rattle.check_spec.specs.Verdict.{accepted, refusal, refused, bay-type-number, bay-type-numbers, verdict-of}
 use Rattle.check_spec.specs.Recipe.{Recipe}
 use Rattle.check_spec.specs.Theory.Answers.{refusal-is, accepted-is}
-use Rattle.check_spec.specs.Theory.Accepted.{accepted-exactly, no-cause, no-cause-iff, one-recipe, table-is, terms-are, type-answered}
+use Rattle.check_spec.specs.Theory.Accepted.{accepted-exactly, getD-at, no-cause, no-cause-iff, one-recipe, table-is, terms-are, type-answered}
 use Rattle.image.specs.Configuration.{image-of, config-of}
 use Rattle.image.specs.Stands.{image-stands}
 use Rattle.image.specs.Theory.Exactly.{image-exactly, image-written}
@@ -63,11 +63,6 @@ past-end : (l : List ℕ) (k : ℕ) → length l ≤ k → getD l k 0 ≡ 0
 past-end [] k h = refl
 past-end (n ∷ l) zero h = absurd (omega arith)
 past-end (n ∷ l) (suc k) h = past-end l k (omega arith)
-
-getD-at : (l : List ℕ) (k : ℕ) {n : ℕ} → at l k ≡ some n → getD l k 0 ≡ n
-getD-at [] k h = absurd (clash (cc))
-getD-at (m ∷ l) zero h = cc
-getD-at (m ∷ l) (suc k) h = getD-at l k h
 
 module _ {file : List ℕ} {T : Table} {es : List Exp} (r : Recipe file T es) where
   verdict-is : verdict-of file ≡ accepted file

@@ -53,11 +53,6 @@ nodes-set [] x c h = absurd (clash (cc))
 nodes-set (a ∷ C) zero c {d} h = let e : a ≡ d = cc in rw e (omega arith)
 nodes-set (a ∷ C) (suc x) c h = omega (arith, nodes-set C x c h)
 
-pub nodes-append : (C D : Config) → nodes-all (C ++ D) ≡ nodes-all C + nodes-all D
-unfolding sum-all
-nodes-append [] D = omega arith
-nodes-append (c ∷ C) D = omega (arith, nodes-append C D)
-
 -- a component has no more nodes than all
 pub nodes-part : (C : Config) (x : ℕ) {c : Component} → at C x ≡ some c → sum-in nodes c ≤ nodes-all C
 unfolding sum-all

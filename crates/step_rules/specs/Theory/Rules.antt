@@ -28,7 +28,8 @@ use Rattle.step_rules.specs.Moves.{bytes-between, thread-holding, cell-h
 use Rattle.step_rules.specs.Stepped.{Movable, Stepped}
 use Rattle.step_rules.specs.Meets.{move-of, MeetsAt}
 use Rattle.step_rules.specs.Theory.Reading.{rules, below, length-config, Stands, thread-stands, cell-stands}
-use Rattle.step_rules.specs.Theory.Changes.{Table, table-length, table-set, table-more, swap, nodes-set, nodes-append, nodes-part}
+use Rattle.calculus.specs.Theory.Configurations.{nodes-append}
+use Rattle.step_rules.specs.Theory.Changes.{Table, table-length, table-set, table-more, swap, nodes-set, nodes-part}
 use Rattle.step_rules.specs.Theory.Meeting.{between-front, between-term, body-stands, table-start, argument-is, components-are}
 use Rattle.step_rules.specs.Theory.Writers.{counted, thread-below, few, few-all, movable}
 
