@@ -1,5 +1,6 @@
 // Writers into a lent buffer. Each writes at a place, answers the next place, and promises by `Wrote` what the buffer holds then. And the reader of the two-byte
 // numbers that they write.
+use numbers::Byte;
 ghost use mathlib.Core.Path.{_≡_};
 ghost use Prim.Native.Nat.{_+_, _-_, _<_, _≤_};
 ghost use mathlib.Core.List.{[], _∷_};
@@ -7,15 +8,12 @@ ghost use lib.ListN.{length, take, drop};
 ghost use Rattle.calculus.specs.Bytes.{two-byte-values, two-bytes, word};
 ghost use Rattle.buffer.specs.Written.{Wrote};
 
-// What one byte can say.
-const BYTE_VALUES: usize = 256;
-
 // The two-byte number at `at`, the lower byte first.
 pub fn word_at(s: &[u8], at: usize) -> usize
     requires { ⌜ at + 2 ≤ length (now s) ⌝ }
     ensures { λ r. ⌜ (r ≡ word (now (s .entry)) at) × (r < two-byte-values) ⌝ }
 {
-    (s[at] as usize) + BYTE_VALUES * (s[at + 1] as usize)
+    (s[at] as usize) + Byte::VALUES * (s[at + 1] as usize)
 }
 
 // Writes one byte.
@@ -32,8 +30,8 @@ pub fn put_u16(out: &mut [u8], at: usize, n: usize) -> usize
     requires { ⌜ (at + 2 ≤ length (now out)) × (n < two-byte-values) ⌝ }
     ensures { λ r. ⌜ Wrote (now (out .entry)) at (two-bytes n) (now (out .exit)) r ⌝ }
 {
-    out[at] = (n % BYTE_VALUES) as u8;
-    out[at + 1] = (n / BYTE_VALUES) as u8;
+    out[at] = (n % Byte::VALUES) as u8;
+    out[at + 1] = (n / Byte::VALUES) as u8;
     at + 2
 }
 

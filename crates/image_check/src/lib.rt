@@ -1,5 +1,6 @@
 // Document 01, refusal 13: whether a slice of any length and any bytes is an image that keeps every rule and limit. One pass over the heads, one over
 // the expressions, which are read by loops, and two over the handles: no recursion, and no walk that is quadratic in the number of names.
+use numbers::Byte;
 use numbers::Image;
 use term_scan::Extent;
 use term_scan::Part;
@@ -7,7 +8,7 @@ ghost use mathlib.Core.Path.{_≡_};
 ghost use mathlib.Core.Bool.{true};
 ghost use Prim.Native.Nat.{_≤_};
 ghost use lib.ListN.{length};
-ghost use Rattle.calculus.specs.Limits.{byte-values, max-names, max-nodes};
+ghost use Rattle.calculus.specs.Limits.{max-names, max-nodes};
 ghost use Rattle.image_layout.specs.Slice.{names};
 ghost use Rattle.image_layout.specs.Layout.{heads-stand};
 ghost use Rattle.image_check.specs.Parts.{all-part, component-part, HandlesCounted, expression-part, Named, pair-stands, pairs-stand, Tally};
@@ -17,17 +18,6 @@ ghost use Rattle.image_check.specs.Answer.{checked};
 pub enum Checked {
     Nodes(usize),
     Broken,
-}
-
-impl Checked {
-    // What one byte can say: "type bytes free".
-    pub const BYTE_VALUES: usize = 256;
-}
-
-pub fn byte_values() -> usize
-    ensures { λ r. ⌜ r ≡ byte-values ⌝ }
-{
-    Checked::BYTE_VALUES
 }
 
 // The nodes of an expression that is exactly one term with at most `left` of them, whose variables are bound and whose names are below `names`.
@@ -40,7 +30,7 @@ fn expression_nodes(expression: &[u8], names: usize, left: usize, outer: &mut [u
         expression,
         0,
         left,
-        Checked::BYTE_VALUES,
+        Byte::VALUES,
         names,
         outer,
     ) else {

@@ -1,7 +1,15 @@
 // Document 01's limits, kinds, rules and causes: each number has its name here and nowhere else. That they are the numbers of the definitions is what the
 // functions below say.
 ghost use mathlib.Core.Path.{_≡_};
+ghost use Rattle.calculus.specs.Limits.{byte-values};
 ghost use Rattle.numbers.specs.Tables.{recipe-limits, image-limits, type-kinds, type-entries, image-kinds, rules, causes};
+
+// A byte: how many values it has.
+pub struct Byte {}
+
+impl Byte {
+    pub const VALUES: usize = 256;
+}
 
 // A recipe file: its limits and lengths.
 pub struct Recipe {}
@@ -133,6 +141,12 @@ impl Cause {
     pub const USED_HANDLE: u8 = 16;
 
     pub const WRONG_KIND: u8 = 17;
+}
+
+pub fn byte_values() -> usize
+    ensures { λ r. ⌜ r ≡ byte-values ⌝ }
+{
+    Byte::VALUES
 }
 
 pub fn recipe_limits() -> [usize; 9]

@@ -9,6 +9,7 @@ ghost use Rattle.recipe_file.specs.FileRule.{Between, FileRule};
 ghost use Rattle.recipe_table.specs.Entries.{table-of, type-table, table-refusal};
 ghost use Rattle.recipe_table.specs.Keys.{Coded, absent};
 ghost use Rattle.recipe_table.specs.Filled.{as-entry, as-table, filled, first-three};
+use numbers::Byte;
 use numbers::Cause;
 use numbers::Recipe;
 use numbers::Type;
@@ -22,7 +23,7 @@ pub struct Entry {
 }
 
 // What one byte, and what two bytes can say.
-const BYTE_VALUES: u32 = 256;
+const BYTE_VALUES: u32 = Byte::VALUES as u32;
 
 const TWO_BYTE_VALUES: u32 = BYTE_VALUES * BYTE_VALUES;
 

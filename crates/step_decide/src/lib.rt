@@ -28,7 +28,7 @@ pub enum Decision {
 }
 
 // The rule of a function that is a lambda or a constant, by its tag; 0 where there is none.
-pub const RULES: [u8; 10] = [
+pub const RULES: [u8; Node::TAGS as usize] = [
     0,
     Rule::BETA,
     0,
