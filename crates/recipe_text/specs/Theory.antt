@@ -1,0 +1,6 @@
+-- What is proved of the text; nobody needs to read it in order to believe the definitions.
+
+-- digits: byte after byte, and lengths
+pub mod Digits
+-- the text by the verdict, and its length; a file that is too long
+pub mod Lines
