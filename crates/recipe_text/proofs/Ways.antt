@@ -5,7 +5,7 @@ use Prim.Native.Nat.{ℕ, _<_, _≤_}
 use native.Mathlib.Omega.{arith}
 use lib.ListN.{drop, length, length-append, take}
 use lib.Seq.{take-append-seam}
-use Rattle.calculus.specs.Limits.{max-image-length}
+use Rattle.calculus.specs.Limits.{max-file-length, max-image-length}
 use Rattle.calculus.specs.Causes.{bay-once-cause}
 use Rattle.calculus.specs.Theory.Tests.{ltb-complete, ltb-not}
 use Rattle.buffer.specs.Written.{Wrote}
@@ -15,9 +15,9 @@ use Rattle.load_spec.specs.Starting.{starting-image}
 use Rattle.load_spec.specs.declared.Loaded.{Loaded}
 use Rattle.load_spec.specs.Loading.{load-refusal, loaded-of, out-after-load}
 use Rattle.load_spec.specs.Theory.Answers as answers
-use Rattle.recipe_text.specs.Text.{image-line, max-text-length, text-left, text-of, text-within, verdict-line}
+use Rattle.recipe_text.specs.Text.{Read, image-line, max-text-length, text-left, text-of, text-within, verdict-line}
 use Rattle.recipe_text.specs.Theory.Digits.{length-accepted, length-image-line, length-verdict-line}
-use Rattle.recipe_text.specs.Theory.Lines.{refusal-small, text-accepted, text-refused}
+use Rattle.recipe_text.specs.Theory.Lines.{refusal-small, text-accepted, text-of-longer, text-refused}
 
 -- a number of bytes, and what is left
 abbrev pub Leaves : List ℕ → List ℕ → ℕ → List ℕ → Type 0
@@ -74,3 +74,21 @@ module _ (s : List ℕ) (l : Loaded) (is : l ≡ loaded-of s max-image-length) w
 
     pub image-told : take (l .length) out′ ≡ starting-image s
     image-told = rw (length-told, left-image) (take-append-seam (starting-image s) (drop (length (starting-image s)) out))
+
+-- what was read of an input has the input's text
+module _ (input buffer : List ℕ) (n : ℕ) (long : max-file-length < length buffer) (read : Read input buffer n) where
+  same-text : text-of (take n buffer) ≡ text-of input
+  same-text = ap text-of read ∙ text-of-longer input (length buffer) long
+
+  same-within : (room : ℕ) → text-within (take n buffer) room ≡ text-within input room
+  unfolding text-within
+  same-within room = rw same-text refl
+
+  pub same-left : (text : List ℕ) {r : ℕ} {text′ : List ℕ} → Leaves (take n buffer) text r text′ → Leaves input text r text′
+  unfolding text-left
+  same-left text (e, l) = (rw (← same-within (length text)) e, rw (← same-within (length text)) l)
+
+-- the text is inside the buffer
+pub inside : (s text : List ℕ) {r : ℕ} {text′ : List ℕ} → Leaves s text r text′ → r ≤ length text′
+unfolding text-left
+inside s text (e, l) = omega (arith, e, ap length l ∙ length-append (text-within s (length text)) (drop (length (text-within s (length text))) text))

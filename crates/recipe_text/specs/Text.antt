@@ -1,10 +1,11 @@
 -- Document 01, "The supplier's host": "A program reads a recipe from standard input and writes two lines: the word verdict and the number (0 for accepted), then, if
 -- accepted, the word image and the image in upper-case hexadecimal." Characters are bytes of ASCII.
+use mathlib.Core.Path.{_≡_}
 use mathlib.Core.Bool.{cond}
 use mathlib.Core.List.{List, [], _∷_, _++_}
 use Prim.Native.Nat.{ℕ, _+_, _*_, _/_, _%_}
 use lib.Dec.{eqb, ltb}
-use lib.ListN.{drop, getD, length}
+use lib.ListN.{drop, getD, length, take}
 use Rattle.calculus.specs.Limits.{max-image-length}
 use Rattle.check_spec.specs.Verdict.{verdict-of}
 use Rattle.load_spec.specs.Starting.{starting-image}
@@ -65,3 +66,11 @@ text-within file room = cond (ltb room max-text-length) [] (text-of file)
 -- what is left in the buffer: the text in its first bytes, and unchanged beyond
 unfoldable pub text-left : List ℕ → List ℕ → List ℕ
 text-left file buffer = text-within file (length buffer) ++ drop (length (text-within file (length buffer))) buffer
+
+-- "reads a recipe from standard input": the first n bytes of a buffer were read, all that the input has or as many as the buffer holds
+abbrev pub Read : List ℕ → List ℕ → ℕ → Type 0
+Read input buffer n = take n buffer ≡ take (length buffer) input
+
+-- and the text of the whole input was put into a lent buffer: r bytes, which took it from `old` to `new`
+abbrev pub PutsInput : List ℕ → ℕ → List ℕ → ℕ → List ℕ → Type 0
+PutsInput buffer n old r new = (input : List ℕ) → Read input buffer n → (r ≡ length (text-within input (length old))) × (new ≡ text-left input old)

@@ -4,3 +4,5 @@
 pub mod Digits
 -- the text by the verdict, and its length; a file that is too long
 pub mod Lines
+-- document 01's text for case A, and the one line of refused files
+pub mod Cases

@@ -5,8 +5,9 @@ use numbers::Image;
 ghost use mathlib.Core.Path.{_≡_};
 ghost use Prim.Native.Nat.{_+_, _*_, _<_, _≤_};
 ghost use lib.ListN.{length};
+ghost use Rattle.calculus.specs.Limits.{max-file-length};
 ghost use Rattle.buffer.specs.Written.{Wrote};
-ghost use Rattle.recipe_text.specs.Text.{decimal, digit, hexadecimal, hexadecimal-byte, image-line, text-left, text-within, verdict-line};
+ghost use Rattle.recipe_text.specs.Text.{PutsInput, decimal, digit, hexadecimal, hexadecimal-byte, image-line, text-left, text-within, verdict-line};
 
 const DIGITS: [u8; 16] = *b"0123456789ABCDEF";
 
@@ -101,4 +102,14 @@ pub fn put_text(recipe: &[u8], text: &mut [u8]) -> usize
     }
     let length = loaded.length as usize;
     put_image_line(text, after_verdict, &out[..length])
+}
+
+// The same for an input of which so many bytes were read into a buffer. One that holds more than the longest file shows that a longer input is too long: nothing is
+// lost with the rest.
+pub fn put_text_of_input(buffer: &[u8], read: usize, text: &mut [u8]) -> usize
+    requires { ⌜ (max-file-length < length (now buffer)) × (read ≤ length (now buffer)) ⌝ }
+    ensures { λ r. ⌜ PutsInput (now (buffer .entry)) read (now (text .entry)) r (now (text .exit)) ⌝ }
+    ensures { λ r. ⌜ r ≤ length (now (text .exit)) ⌝ }
+{
+    put_text(&buffer[..read], text)
 }

@@ -90,8 +90,8 @@ returns-3 c =
     let (inside, fits, image) = told loaded z in
     let is-0 = sym (refusal-told (a .recipe .now) (loaded .load .result) (loaded .load .ensures .0)) ∙ z in
     puts-image (a .recipe .now) (a .text .now) (omega (arith, in-else1 .if1 .left)) is-0 fits
-        (known-as (verdict .put-verdict-line .ensures) (ap verdict-line z))
-        (known-as (line .put-image-line .ensures) (ap image-line image))
+    (known-as (verdict .put-verdict-line .ensures) (ap verdict-line z))
+    (known-as (line .put-image-line .ensures) (ap image-line image))
 
 pub put-text-spec : {M : Type 1} → statement M
 put-text-spec =
