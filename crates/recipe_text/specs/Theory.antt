@@ -2,7 +2,7 @@
 
 -- digits: byte after byte, and lengths
 pub mod Digits
--- the text by the verdict, and its length; a file that is too long
+-- the text by the verdict; an input that is longer than any recipe
 pub mod Lines
 -- document 01's text for case A, and the one line of refused files
 pub mod Cases

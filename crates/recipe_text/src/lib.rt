@@ -11,7 +11,7 @@ ghost use Rattle.recipe_text.specs.Text.{PutsInput, decimal, digit, hexa
 
 const DIGITS: [u8; 16] = *b"0123456789ABCDEF";
 
-// The text: its length.
+// The two lines: the length of the first if there is a second, and the most of both.
 pub struct Text {}
 
 impl Text {
@@ -95,9 +95,8 @@ pub fn put_text(recipe: &[u8], text: &mut [u8]) -> usize
     }
     let mut out = [0u8; Image::MAX_LENGTH];
     let loaded = load_recipe::load(recipe, &mut out);
-    let refusal = loaded.refusal;
-    let after_verdict = put_verdict_line(text, refusal as u8);
-    if refusal != 0 {
+    let after_verdict = put_verdict_line(text, loaded.refusal as u8);
+    if loaded.refusal != 0 {
         return after_verdict;
     }
     let length = loaded.length as usize;

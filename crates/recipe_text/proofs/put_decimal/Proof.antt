@@ -1,5 +1,4 @@
 -- `recipe_text::put_decimal` meets its contract: one digit, or two in a row.
-use mathlib.Core.Path.{_∙_, refl}
 use native.Mathlib.Omega.{arith}
 use borrow.Author.Needs.{needs}
 use Rattle.buffer.specs.Theory.Writes.{known-as, then}

@@ -15,25 +15,34 @@ use Rattle.recipe_text.proofs.put_text.Statement.{statement}
 use Rattle.recipe_text.proofs.put_text.Tie as tie
 
 -- from each place to the one before it
+abbrev before-else1 : tie.Else1 → tie.Start
+before-else1 c = c .before .before .before
+
 abbrev before-load : tie.After-load → tie.Else1
 before-load c = c .before .before
 
-abbrev before-else1 : tie.Else1 → tie.Start
-before-else1 c = c .before .before .before
+abbrev before-verdict : tie.After-put-verdict-line → tie.After-load
+before-verdict c = c .before .before .before .before
+
+abbrev before-then2 : tie.Then2 → tie.After-put-verdict-line
+before-then2 c = c .before .before .before .before
+
+abbrev before-else2 : tie.Else2 → tie.After-put-verdict-line
+before-else2 c = c .before .before .before .before
 
 returns : tie.Need-returns
 returns c = let a = c .before .before .before .args in too-short (a .recipe .now) (a .text .now) (c .if1 .taken)
 
 cast-put-verdict-line : tie.Need-cast-put-verdict-line
 cast-put-verdict-line c =
-    let loaded = c .before .before in
+    let loaded = c .before .before .before in
     let a = before-else1 (before-load loaded) .args in
     let small = refusal-told-small (a .recipe .now) (loaded .load .result) (loaded .load .ensures .0) in
     record { fits = omega (arith, small) }
 
 put-verdict-line-requires : tie.Need-put-verdict-line-requires
 put-verdict-line-requires c κs =
-    let loaded = c .before .before in
+    let loaded = c .before .before .before in
     let in-else1 = before-load loaded in
     let a = before-else1 in-else1 .args in
     let small = refusal-told-small (a .recipe .now) (loaded .load .result) (loaded .load .ensures .0) in
@@ -41,12 +50,12 @@ put-verdict-line-requires c κs =
 
 returns-2 : tie.Need-returns-2
 returns-2 c =
-    let verdict = c .before .before .before in
-    let loaded = verdict .before .before .before in
+    let verdict = before-then2 c in
+    let loaded = before-verdict verdict in
     let in-else1 = before-load loaded in
     let a = before-else1 in-else1 .args in
     let told = refusal-told (a .recipe .now) (loaded .load .result) (loaded .load .ensures .0) in
-    puts-refusal (a .recipe .now) (a .text .now) (omega (arith, in-else1 .if1 .left)) (rw told at (c .if2 .taken)) (known-as (verdict .put-verdict-line .ensures) (ap verdict-line told))
+    puts-refusal (a .recipe .now) (a .text .now) (omega (arith, in-else1 .if1 .left)) (omega (arith, told, c .if2 .taken)) (known-as (verdict .put-verdict-line .ensures) (ap verdict-line told))
 
 -- the image in the out buffer, where the recipe is accepted
 told : (loaded : tie.After-load) → loaded .load .result .refusal ≡ 0 →
@@ -61,32 +70,34 @@ told loaded z =
     (omega (arith, fits, kept), image-fits s l is _ _ left refl kept z, image-told s l is _ _ left refl kept z)
 
 array-share-prefix-out : tie.Need-array-share-prefix-out
-array-share-prefix-out c = told (c .before .before .before .before .before .before .before) (c .before .if2 .left) .0
+array-share-prefix-out c = let in-else2 = c .before in told (before-verdict (before-else2 in-else2)) (omega (arith, in-else2 .if2 .left)) .0
 
 slice-aggregate-put-image-line : tie.Need-slice-aggregate-put-image-line
 slice-aggregate-put-image-line c =
-    let loaded = c .before .before .before .before .before .before .before .before in
-    sym (length-take-le (loaded .load .result .length) (loaded .load .last .1 .0) (told loaded (c .before .before .if2 .left) .0))
+    let in-else2 = c .before .before in
+    let loaded = before-verdict (before-else2 in-else2) in
+    sym (length-take-le (loaded .load .result .length) (loaded .load .last .1 .0) (told loaded (omega (arith, in-else2 .if2 .left)) .0))
 
 put-image-line-requires : tie.Need-put-image-line-requires
 put-image-line-requires c κs =
     let in-else2 = c .before .before in
-    let verdict = in-else2 .before .before .before in
-    let loaded = verdict .before .before .before in
+    let verdict = before-else2 in-else2 in
+    let loaded = before-verdict verdict in
     let in-else1 = before-load loaded in
-    let (inside, fits, image) = told loaded (in-else2 .if2 .left) in
-    let w = known-as (verdict .put-verdict-line .ensures) (ap verdict-line (in-else2 .if2 .left)) in
+    let z : loaded .load .result .refusal ≡ 0 = omega (arith, in-else2 .if2 .left) in
+    let (inside, fits, image) = told loaded z in
+    let w = known-as (verdict .put-verdict-line .ensures) (ap verdict-line z) in
     rw image (omega (arith, fits, w .ends, same w, length-accepted, in-else1 .if1 .left))
 
 returns-3 : tie.Need-returns-3
 returns-3 c =
     let line = c .before .before in
     let in-else2 = line .before .before .before in
-    let verdict = in-else2 .before .before .before in
-    let loaded = verdict .before .before .before in
+    let verdict = before-else2 in-else2 in
+    let loaded = before-verdict verdict in
     let in-else1 = before-load loaded in
     let a = before-else1 in-else1 .args in
-    let z = in-else2 .if2 .left in
+    let z : loaded .load .result .refusal ≡ 0 = omega (arith, in-else2 .if2 .left) in
     let (inside, fits, image) = told loaded z in
     let is-0 = sym (refusal-told (a .recipe .now) (loaded .load .result) (loaded .load .ensures .0)) ∙ z in
     puts-image (a .recipe .now) (a .text .now) (omega (arith, in-else1 .if1 .left)) is-0 fits

@@ -1,5 +1,6 @@
 -- `recipe_text::put_text_of_input` meets its contract.
 use mathlib.Core.Path.{sym}
+use native.Mathlib.Omega.{arith}
 use borrow.Author.Needs.{needs}
 use lib.ListN.{take}
 use lib.Seq.{length-take-le}
@@ -15,7 +16,7 @@ returns c =
     let put = c .before .before in
     let start = put .before .before .before .before .before in
     let a = start .args in (
-      λ input read. same-left input (a .buffer .now) (a .read) (start .pre .0) read (a .text .now) (put .put-text .ensures),
+      λ input read. same-left input (a .buffer .now) (a .read) (omega (arith, start .pre .0)) read (a .text .now) (put .put-text .ensures),
       inside (take (a .read) (a .buffer .now)) (a .text .now) (put .put-text .ensures),
     )
 

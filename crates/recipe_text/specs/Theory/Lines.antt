@@ -1,4 +1,4 @@
--- The text by the verdict; its length; and the text of a file that is longer than any recipe.
+-- The text by the verdict, and the text of an input that is longer than any recipe.
 use mathlib.Core.Path.{_≡_, _∙_, ap, refl, sym}
 use mathlib.Core.Bool.{Bool, _&&_, _||_, cond, true, false}
 use mathlib.Core.List.{List, [], _∷_, _++_, append-nil}
