@@ -1,0 +1,75 @@
+-- The text by the verdict, and the text of an input that is longer than any recipe.
+use mathlib.Core.Path.{_≡_, _∙_, ap, refl, sym}
+use mathlib.Core.Bool.{Bool, _&&_, _||_, cond, true, false}
+use mathlib.Core.List.{List, [], _∷_, _++_, append-nil}
+use Prim.Native.Nat.{ℕ, _<_, _≤_}
+use native.Mathlib.Omega.{arith}
+use native.Mathlib.Decide.{decLt}
+use lib.Dec.{leb, ltb}
+use lib.ListN.{length, take}
+use lib.Seq.{length-take-le, take-all}
+use Rattle.calculus.specs.Causes.{bay-once-cause, file-length-cause}
+use Rattle.calculus.specs.Limits.{max-file-length, min-file-length}
+use Rattle.calculus.specs.Lowest.{Cause, lowest}
+use Rattle.calculus.specs.Verdict.{type-causes}
+use Rattle.calculus.specs.Theory.Tests.{and-parts, eqb-differ, leb-sound, ltb-complete}
+use Rattle.recipe_file.specs.File.{cause-1, outside}
+use Rattle.recipe_table.specs.Entries.{table-causes, type-table}
+use Rattle.check_spec.specs.Bays.{bay-terms, term-causes}
+use Rattle.check_spec.specs.Verdict.{refusal}
+use Rattle.check_spec.specs.Theory.Answers.{refusal-is}
+use Rattle.load_spec.specs.Starting.{starting-image}
+use Rattle.recipe_text.specs.Text.{image-line, text-of, verdict-line}
+
+-- no cause of a list has a number above k
+abbrev numbers-to : ℕ → List Cause → Bool
+numbers-to k [] = true
+numbers-to k (c ∷ cs) = leb (c .number) k && numbers-to k cs
+
+lowest-to : (k : ℕ) (cs : List Cause) → numbers-to k cs ≡ true → lowest cs ≤ k
+lowest-to k [] e = omega arith
+lowest-to k (c ∷ cs) e = let (a, b) = and-parts (leb (c .number) k) (numbers-to k cs) e in go (c .fits) (leb-sound (c .number) k a) (lowest-to k cs b)
+  where
+    go : (b : Bool) → c .number ≤ k → lowest cs ≤ k → cond b (c .number) (lowest cs) ≤ k
+    go true l m = l
+    go false l m = m
+
+-- the causes of a file end with 11
+pub refusal-small : (s : List ℕ) → refusal s ≤ bay-once-cause
+unfolding refusal
+refusal-small s = lowest-to bay-once-cause (table-causes s ++ (term-causes s ++ type-causes (type-table s) (bay-terms s))) refl
+
+module _ (s : List ℕ) where
+  -- "if accepted"
+  pub text-accepted : refusal s ≡ 0 → text-of s ≡ verdict-line 0 ++ image-line (starting-image s)
+  unfolding text-of
+  text-accepted e = rw (refusal-is s, e) refl
+
+  pub text-refused : ¬ (refusal s ≡ 0) → text-of s ≡ verdict-line (refusal s)
+  unfolding text-of
+  text-refused n = rw (refusal-is s, eqb-differ (refusal s) 0 n, append-nil) refl
+
+or-right : (a b : Bool) → b ≡ true → (a || b) ≡ true
+or-right true b e = refl
+or-right false b e = e
+
+-- document 01, cause 1, of a file that is too long
+is-cause-1 : (s : List ℕ) → max-file-length < length s → cause-1 s ≡ true
+unfolding cause-1 outside
+is-cause-1 s l = or-right (ltb (length s) min-file-length) (ltb max-file-length (length s)) (ltb-complete max-file-length (length s) l)
+
+long-refused : (s : List ℕ) → max-file-length < length s → refusal s ≡ file-length-cause
+unfolding refusal
+long-refused s l = rw (is-cause-1 s l) refl
+
+-- one byte more than the longest file is enough to read: the text of a longer input is that of its first bytes
+pub text-of-longer : (s : List ℕ) (n : ℕ) → max-file-length < n → text-of (take n s) ≡ text-of s
+text-of-longer s n l =
+    elim (decLt (length s) n) [
+      | yes h ↦ ap text-of (take-all n s (omega arith))
+      | no h ↦
+          let size : length (take n s) ≡ n = length-take-le n s (omega arith) in
+          let short : refusal (take n s) ≡ file-length-cause = long-refused (take n s) (omega arith) in
+          let whole : refusal s ≡ file-length-cause = long-refused s (omega arith) in
+          text-refused (take n s) (omega arith) ∙ ap verdict-line (short ∙ sym whole) ∙ sym (text-refused s (omega arith))
+    ]
