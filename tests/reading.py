@@ -205,12 +205,19 @@ class Closure:
             if crate == CONTRACTS[0][0]:
                 for name, lines in self.clauses.items():
                     files.setdefault('src/lib.rt', []).append((name, counted(lines)))
-            for module, names in files.items():
+            for module in sorted(files, key=lambda file: self.turn(crate, file)):
+                names = files[module]
                 lines = sum(n for _, n in names)
                 total += lines
                 rows.append((crate, module, lines, ', '.join(f'`{n}`' for n, _ in sorted(names, key=lambda x: self.place(crate, module, x[0])))))
         head = [f'{total} lines without comments and imports, counted.', '', '| Crate | File | Lines | Definitions |', '|---|---|---|---|']
         return head + [f'| `{c}` | `{m}` | {n} | {d} |' for c, m, n, d in rows], total
+
+    @staticmethod
+    def turn(crate, module):
+        """Where a file stands among those of its crate: as specs/Lib.antt lists them, and the code last."""
+        order = re.findall(r'^pub mod (\S+)', open(f'crates/{crate}/specs/Lib.antt', encoding='utf-8').read(), re.M)
+        return order.index(module) if module in order else len(order)
 
     def place(self, crate, module, name):
         home = self.sources.module(crate, module)
