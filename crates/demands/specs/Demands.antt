@@ -1,5 +1,5 @@
 -- The three demands, each as one type. A check answers `verdict-of`; a load answers `loaded-of` and leaves `out-after-load`; a step answers `outcome-of` and leaves
--- `out-after-step`: the right-hand sides of the contracts of fikarehu_check, fikarehu_load and fikarehu_step. Quoted is document 01.
+-- `out-after-step`: the right-hand sides of the contracts of fikarehu_check, fikarehu_load and fikarehu_step. Quoted are the demands and document 01.
 use mathlib.Core.Path.{_≡_}
 use mathlib.Core.Logic.{_↔_}
 use mathlib.Core.Option.{some}
