@@ -2,7 +2,7 @@
  * A host in C: loads a recipe and gives its threads turns, one after the other, between two buffers. Every bay's vent opening is printed
  * when no thread moves any more, or after the turns that were asked for.
  *
- *   cc -std=c11 -Iinclude examples/host.c target/staticlib/libhost.a -o host && ./host examples/nine-bays.recipe 1000
+ *   make library && cc -std=c11 -Iinclude examples/host.c target/lib/libfikarehu.a -o host && ./host examples/nine-bays.recipe 1000
  */
 #include <stdio.h>
 #include <stdlib.h>
