@@ -11,7 +11,7 @@ enum vent_state {
     VENT_OPENING,        /* the setting is a num, or names lead to one */
     VENT_AWAITS_THREAD,  /* a thread is not done */
     VENT_AWAITS_FUTURE,  /* a future is not bound */
-    VENT_NEVER,          /* names lead back to where they were: there will never be a num */
+    VENT_NEVER,          /* names lead round in a ring: never a num, unless the setting is exchanged */
     VENT_NO_NUM          /* something else; in no image that a recipe's run comes to */
 };
 
