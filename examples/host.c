@@ -8,7 +8,7 @@
 #include <stdlib.h>
 
 #include "fikarehu.h"
-#include "vent.h"
+#include "vent.c"
 
 static unsigned names_of(const uint8_t *image) {
     return image[0] + 256u * image[1];

@@ -6,7 +6,7 @@
 #define _GNU_SOURCE
 #include "files.h"
 
-#include "../examples/vent.h"
+#include "../examples/vent.c"
 
 static void expect_vent(const char *what, const uint8_t *image, unsigned bay, enum vent_state state, unsigned number) {
     struct vent vent = read_vent(image, bay);

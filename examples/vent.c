@@ -1,10 +1,7 @@
 /*
  * Reading a vent: a bay's setting in an image, its names followed to a num. The image is one that a load or a step has written; its bytes are
- * not checked here.
+ * not checked here. This file is included where a vent is read, and not compiled by itself.
  */
-#ifndef FIKAREHU_EXAMPLES_VENT_H
-#define FIKAREHU_EXAMPLES_VENT_H
-
 #include "fikarehu.h"
 
 enum vent_state {
@@ -21,22 +18,22 @@ struct vent {
     unsigned name;     /* of VENT_AWAITS_THREAD and VENT_AWAITS_FUTURE: the awaited name; of VENT_NEVER: a name that leads back to itself */
 };
 
-static inline unsigned vent_two_bytes(const uint8_t *at) {
+static unsigned vent_two_bytes(const uint8_t *at) {
     return at[0] + 256u * at[1];
 }
 
 /* The head of a name: kind, companion, offset, length. */
-static inline const uint8_t *vent_head(const uint8_t *image, unsigned name) {
+static const uint8_t *vent_head(const uint8_t *image, unsigned name) {
     return image + FIKAREHU_FIRST_HEAD + FIKAREHU_HEAD_LENGTH * name;
 }
 
 /* The first node of the expression of a thread or a cell. */
-static inline const uint8_t *vent_expression(const uint8_t *image, unsigned name) {
+static const uint8_t *vent_expression(const uint8_t *image, unsigned name) {
     return image + vent_two_bytes(vent_head(image, name) + 2);
 }
 
 /* The vent of a bay. Its setting is the cell with the bay's number. */
-static inline struct vent read_vent(const uint8_t *image, unsigned bay) {
+static struct vent read_vent(const uint8_t *image, unsigned bay) {
     const unsigned names = vent_two_bytes(image);
     const uint8_t *node = vent_expression(image, bay);
     struct vent vent = {VENT_NO_NUM, 0, bay};
@@ -65,5 +62,3 @@ static inline struct vent read_vent(const uint8_t *image, unsigned bay) {
     }
     return vent;
 }
-
-#endif
