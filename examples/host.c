@@ -2,27 +2,38 @@
  * A host in C: loads a recipe and gives its threads turns, one after the other, between two buffers. Every bay's vent opening is printed
  * when no thread moves any more, or after the turns that were asked for.
  *
- *   cc -std=c11 -Iinclude examples/host.c target/staticlib/libhost.a -o host && ./host examples/nine-bays.recipe 1000
+ *   make library && cc -std=c11 -Iinclude examples/host.c target/lib/libfikarehu.a -o host && ./host examples/nine-bays.recipe 1000
  */
 #include <stdio.h>
 #include <stdlib.h>
 
 #include "fikarehu.h"
+#include "vent.c"
 
-static unsigned two_bytes(const uint8_t *at) {
-    return at[0] + 256u * at[1];
+static unsigned names_of(const uint8_t *image) {
+    return image[0] + 256u * image[1];
 }
 
-/* The setting of a bay is the cell with the bay's number: a num, or the name of a num still awaited. */
 static void print_vents(const uint8_t *image, uint32_t bays) {
     for (uint32_t bay = 0; bay < bays; bay++) {
-        const uint8_t *head = image + FIKAREHU_FIRST_HEAD + FIKAREHU_HEAD_LENGTH * bay;
-        const uint8_t *value = image + two_bytes(head + 2); /* after kind and companion comes the offset */
-        if (value[0] == FIKAREHU_TAG_NUM) {
-            unsigned opening = two_bytes(value + 1);
-            printf("bay %u: %u.%u %%\n", bay, opening / 10, opening % 10);
-        } else {
-            printf("bay %u: awaits name %u\n", bay, value[1]);
+        struct vent vent = read_vent(image, bay);
+        printf("bay %u: ", bay);
+        switch (vent.state) {
+        case VENT_OPENING:
+            printf("%u.%u %%\n", vent.opening / 10, vent.opening % 10);
+            break;
+        case VENT_AWAITS_THREAD:
+            printf("awaits name %u, a thread that is not done\n", vent.name);
+            break;
+        case VENT_AWAITS_FUTURE:
+            printf("awaits name %u, a future that is not bound\n", vent.name);
+            break;
+        case VENT_NEVER:
+            printf("never a value: name %u leads back to itself\n", vent.name);
+            break;
+        case VENT_NO_NUM:
+            printf("no num\n");
+            break;
         }
     }
 }
@@ -33,7 +44,7 @@ static unsigned long take_turns(uint8_t **image, uint64_t *length, uint8_t **oth
     int moved = 1;
     while (moved && taken < turns) {
         moved = 0;
-        for (unsigned name = 0; name < two_bytes(*image) && taken < turns; name++) {
+        for (unsigned name = 0; name < names_of(*image) && taken < turns; name++) {
             struct fikarehu_stepped stepped = fikarehu_step(*image, *length, name, *other, FIKAREHU_MAX_IMAGE);
             if (stepped.outcome != FIKAREHU_RULE) {
                 continue; /* done, waiting, or refused as no thread or for want of room: the image stays as it is */
@@ -60,8 +71,11 @@ int main(int count, char **words) {
         perror(words[1]);
         return 1;
     }
-    size_t size = fread(recipe, 1, sizeof recipe, file); /* one byte more than the limit,
-                        so that a longer file is refused */
+    size_t size = fread(recipe, 1, sizeof recipe, file); /* one byte more than the limit: a longer file is refused */
+    if (ferror(file)) {
+        perror(words[1]);
+        return 1;
+    }
     fclose(file);
 
     struct fikarehu_loaded loaded = fikarehu_load(recipe, size, first, sizeof first);
@@ -72,7 +86,7 @@ int main(int count, char **words) {
     uint8_t *image = first, *other = second;
     uint64_t length = loaded.length;
     unsigned long taken = take_turns(&image, &length, &other, count < 3 ? 1000 : strtoul(words[2], NULL, 10));
-    printf("%lu turns taken, %u names\n", taken, two_bytes(image));
+    printf("%lu turns taken, %u names\n", taken, names_of(image));
     print_vents(image, loaded.bays);
     return 0;
 }

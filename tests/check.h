@@ -41,7 +41,7 @@ static void must(int fine, const char *what) {
 }
 
 /* The end of a readable and writable room of at least `room` bytes, where a page begins that traps. */
-static uint8_t *end_before_trap(size_t room) {
+static inline uint8_t *end_before_trap(size_t room) {
     size_t page = (size_t)sysconf(_SC_PAGESIZE);
     size_t pages = (room + page - 1) / page;
     uint8_t *map = mmap(NULL, (pages + 1) * page, PROT_READ | PROT_WRITE, MAP_PRIVATE | MAP_ANONYMOUS, -1, 0);

@@ -49,7 +49,7 @@ enum {
 };
 
 /* Each lambda takes unit, and its result is the next. */
-static void make_lambdas(struct file *file) {
+static inline void make_lambdas(struct file *file) {
     uint8_t table[MOST_TABLE];
     uint8_t term[2 * LAMBDAS + 1];
     memcpy(table, table_unit, sizeof table_unit);
@@ -66,7 +66,7 @@ static void make_lambdas(struct file *file) {
 }
 
 /* A file of 8,192 bytes whose one term fills it with that byte, its last byte another one. */
-static void make_full(struct file *file, uint8_t tag, uint8_t last) {
+static inline void make_full(struct file *file, uint8_t tag, uint8_t last) {
     static uint8_t term[FIKAREHU_MAX_FILE];
     size_t length = FIKAREHU_MAX_FILE - 12 - sizeof table_a;
     memset(term, tag, length);
@@ -76,7 +76,7 @@ static void make_full(struct file *file, uint8_t tag, uint8_t last) {
 }
 
 /* Half applications and half units: one term of 8,171 bytes, nested more than 4,000 deep. */
-static void make_balanced(struct file *file) {
+static inline void make_balanced(struct file *file) {
     static uint8_t term[FIKAREHU_MAX_FILE];
     size_t length = FIKAREHU_MAX_FILE - 12 - sizeof table_a;
     memset(term, FIKAREHU_TAG_APPLICATION, length / 2);

@@ -1,0 +1,64 @@
+/*
+ * Reading a vent: a bay's setting in an image, its names followed to a num. The image is one that a load or a step has written; its bytes are
+ * not checked here. This file is included where a vent is read, and not compiled by itself.
+ */
+#include "fikarehu.h"
+
+enum vent_state {
+    VENT_OPENING,        /* the setting is a num, or names lead to one */
+    VENT_AWAITS_THREAD,  /* a thread is not done */
+    VENT_AWAITS_FUTURE,  /* a future is not bound */
+    VENT_NEVER,          /* names lead round in a ring: never a num, unless the setting is exchanged */
+    VENT_NO_NUM          /* something else; in no image that a recipe's run comes to */
+};
+
+struct vent {
+    enum vent_state state;
+    unsigned opening;  /* of VENT_OPENING: tenths of a percent, 0 to FIKAREHU_MAX_NUM */
+    unsigned name;     /* of VENT_AWAITS_THREAD and VENT_AWAITS_FUTURE: the awaited name; of VENT_NEVER: a name that leads back to itself */
+};
+
+static unsigned vent_two_bytes(const uint8_t *at) {
+    return at[0] + 256u * at[1];
+}
+
+/* The head of a name: kind, companion, offset, length. */
+static const uint8_t *vent_head(const uint8_t *image, unsigned name) {
+    return image + FIKAREHU_FIRST_HEAD + FIKAREHU_HEAD_LENGTH * name;
+}
+
+/* The first node of the expression of a thread or a cell. */
+static const uint8_t *vent_expression(const uint8_t *image, unsigned name) {
+    return image + vent_two_bytes(vent_head(image, name) + 2);
+}
+
+/* The vent of a bay. Its setting is the cell with the bay's number. */
+static struct vent read_vent(const uint8_t *image, unsigned bay) {
+    const unsigned names = vent_two_bytes(image);
+    const uint8_t *node = vent_expression(image, bay);
+    struct vent vent = {VENT_NO_NUM, 0, bay};
+    /* A way without a ring meets each name at most once, so after as many links as there are names it is in a ring. */
+    for (unsigned links = 0; node[0] == FIKAREHU_TAG_NAME; links++) {
+        vent.name = node[1];
+        if (links >= names) {
+            vent.state = VENT_NEVER;
+            return vent;
+        }
+        const uint8_t kind = vent_head(image, vent.name)[0];
+        if (kind == FIKAREHU_KIND_FUTURE) {
+            vent.state = VENT_AWAITS_FUTURE;
+            return vent;
+        }
+        if (kind != FIKAREHU_KIND_THREAD) {
+            return vent;
+        }
+        node = vent_expression(image, vent.name);
+    }
+    if (node[0] == FIKAREHU_TAG_NUM) {
+        vent.state = VENT_OPENING;
+        vent.opening = vent_two_bytes(node + 1);
+    } else if (node[0] == FIKAREHU_TAG_APPLICATION) {
+        vent.state = VENT_AWAITS_THREAD;
+    }
+    return vent;
+}
