@@ -178,6 +178,69 @@ fn a_refusal_is_told_at_its_place_in_the_text() {
     );
 }
 
+/// Refused texts, and how the complaint begins and ends.
+const REFUSALS: &[(&str, &str, &str)] = &[
+    (
+        "bay 0 = (λf:num →1 num. unit) (λ1 x:num. x)",
+        ":1:10: refused 10: ",
+        "; the once-variable f, of type num →1 num, is used 0 times",
+    ),
+    (
+        "bay 0 = (λ1 go:num →1 num.\n  (λagain:num. go again) 3) (λ1 x:num. x)",
+        ":2:16: refused 10: ",
+        "; the once-variable go, of type num →1 num, is free under a many-lambda; \
+         the λagain at 2:4 should be λ1 again",
+    ),
+    (
+        "bay 0 = (λf:num →1 num. f 3)\n  (λn:num. n)",
+        ":2:4: refused 9: ",
+        "; the argument should be num →1 num, and λn:num. n is num →ω num; \
+         the λn at 2:4 should be λ1 n",
+    ),
+    (
+        "bay 0 = (λf:num →ω num →1 num. f 3 4)\n  (λ1 n:num. λm:num. m)",
+        ":2:4: refused 9: ",
+        "; the λ1 n at 2:4 should be λn; the λm at 2:14 should be λ1 m",
+    ),
+    (
+        "bay 0 = (λf:num →1 num. f 3) (λn:num. unit)",
+        ":1:31: refused 9: ",
+        "; the argument should be num →1 num, and λn:num. unit is num →ω unit",
+    ),
+    (
+        "bay 0 = λf:num →ω num. f (λg:num →ω num. g)",
+        ":1:27: refused 9: ",
+        "; the argument should be num, and λg:num →ω num. g is (num →ω num) →ω num →ω num",
+    ),
+    (
+        "bay 0 = λx:num. exch[num ref →ω num →ω num] x",
+        ":1:45: refused 9: ",
+        "; the argument should be num ref, and x is num",
+    ),
+    (
+        "bay 0 = unit\nbay 1 = λ1 vent:num. vent",
+        ":2:9: refused 11: ",
+        "; the bay's type is num →1 num, usable once; the λ1 vent at 2:9 should be λvent",
+    ),
+];
+
+#[test]
+fn a_refusal_is_told_in_the_texts_own_names_and_places() {
+    for (text, first, last) in REFUSALS {
+        let told = complaint(text);
+        assert!(told.starts_with(first) && told.ends_with(last), "{told}");
+    }
+}
+
+/// Two variables of one name: the place says which is meant.
+#[test]
+fn a_shadowed_variable_is_told_by_its_own_place() {
+    let told = complaint("bay 0 = λx:num →1 num. λ1 x:num →1 num. λ1 y:num. x y");
+    let expected = ":1:9: refused 10: ";
+    assert!(told.starts_with(expected), "{told}");
+    assert!(told.ends_with("the once-variable x, of type num →1 num, is used 0 times"));
+}
+
 #[test]
 fn no_text_is_too_deep_or_too_long() {
     on_deep_stack(|| {

@@ -6,6 +6,7 @@ pub mod numbering;
 pub mod parser;
 pub mod printer;
 pub mod spelling;
+pub mod spot;
 pub mod term_parser;
 pub mod tokens;
 pub mod type_parser;

@@ -1,7 +1,7 @@
 //! `recipe write`: a text as a file of bytes.
 
 use crate::tool::arguments::Form;
-use crate::tool::faults::{fault, Fault, Place};
+use crate::tool::faults::{fault_in, Fault, Place};
 use crate::tool::files;
 use crate::tool::problem::{message, Outcome, Problem};
 use crate::tool::refusals;
@@ -55,7 +55,7 @@ pub fn made(text: &[u8], even_refused: bool) -> Result<Vec<u8>, String> {
         .map_err(|error| format!(": no text in UTF-8: byte {}", error.valid_up_to()))?;
     let read = read(text).map_err(|error| placed(&error))?;
     let file = read.recipe.write();
-    match fault(&file) {
+    match fault_in(&file, &read.nodes) {
         Some(fault) if !even_refused => Err(refused(&read, &fault)),
         _ => Ok(file),
     }
@@ -72,7 +72,10 @@ fn refused(read: &Read, fault: &Fault) -> String {
     let message = format!("refused {}: {cause}; {}", fault.number, fault.found);
     let position = match &fault.place {
         Place::Entry(number) => read.entries.get(*number),
-        Place::Node(bay, at, _) => read.nodes.get(*bay).and_then(|nodes| nodes.get(*at)),
+        Place::Node(bay, at, _) => {
+            let spot = read.nodes.get(*bay).and_then(|spots| spots.get(*at));
+            spot.map(|spot| &spot.position)
+        }
         Place::File | Place::Opening | Place::Pair(_) => None,
     };
     match position {

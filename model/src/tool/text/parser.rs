@@ -5,6 +5,7 @@ use crate::limits;
 use crate::nodes::Node;
 use crate::tool::text::numbering::Numbering;
 use crate::tool::text::spelling::UNICODE;
+use crate::tool::text::spot::Spot;
 use crate::tool::text::tokens::{tokens, Placed, Position, TextError, Token};
 use crate::tool::text::type_texts::TypeTexts;
 
@@ -17,7 +18,7 @@ pub struct Read {
     pub recipe: Recipe,
     /// Of the entries that the text lists.
     pub entries: Vec<Position>,
-    pub nodes: Vec<Vec<Position>>,
+    pub nodes: Vec<Vec<Spot>>,
 }
 
 /// The recipe that a text describes.
@@ -37,9 +38,9 @@ pub fn read(text: &str) -> Result<Read, TextError> {
     let mut terms = Vec::new();
     let mut nodes = Vec::new();
     while terms.is_empty() || parser.peek() != Token::End {
-        let (term, positions) = parser.bay(terms.len())?;
+        let (term, spots) = parser.bay(terms.len())?;
         terms.push(term);
-        nodes.push(positions);
+        nodes.push(spots);
     }
     let recipe = Recipe {
         entries: parser.types.entries,
@@ -146,7 +147,7 @@ impl<'t> Parser<'t> {
     }
 
     /// `bay N = term` or `bay N : type = term`
-    fn bay(&mut self, bay: usize) -> Result<(Vec<Node>, Vec<Position>), TextError> {
+    fn bay(&mut self, bay: usize) -> Result<(Vec<Node>, Vec<Spot>), TextError> {
         let here = self.position();
         if self.peek() != Token::Word("bay") {
             let due = format!("'bay {bay}'");

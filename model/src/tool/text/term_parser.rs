@@ -7,11 +7,12 @@ use crate::table::{entry, MANY, ONCE};
 use crate::tool::text::node_types::function;
 use crate::tool::text::parser::{error, Parser};
 use crate::tool::text::spelling::{CONSTANTS, KEPT_WORDS, SETTING};
+use crate::tool::text::spot::Spot;
 use crate::tool::text::tokens::{Position, TextError, Token};
 
 /// A term's nodes with their places, and its type; or why its type cannot be told.
 pub struct Term {
-    pub nodes: Vec<(Node, Position)>,
+    pub nodes: Vec<(Node, Spot)>,
     pub type_number: Result<u8, TextError>,
 }
 
@@ -55,7 +56,11 @@ impl<'t> Parser<'t> {
             }
             (given, _) => given.unwrap_or(0),
         };
-        let mut nodes = vec![(Node::Lambda(whole), place)];
+        let spot = Spot {
+            position: place,
+            variable: Some(x.to_owned()),
+        };
+        let mut nodes = vec![(Node::Lambda(whole), spot)];
         nodes.extend(body.nodes);
         let type_number = self.in_table(whole, place);
         Ok(Term { nodes, type_number })
@@ -85,7 +90,7 @@ impl<'t> Parser<'t> {
             self.count_node(place)?;
             let argument = self.atom()?;
             let type_number = self.result_type(&applied, place);
-            let mut nodes = vec![(Node::Application, place)];
+            let mut nodes = vec![(Node::Application, Spot::of(place))];
             nodes.extend(applied.nodes);
             nodes.extend(argument.nodes);
             applied = Term { nodes, type_number };
@@ -123,7 +128,7 @@ impl<'t> Parser<'t> {
         self.count_node(place)?;
         let (node, type_number) = self.leaf(place)?;
         Ok(Term {
-            nodes: vec![(node, place)],
+            nodes: vec![(node, Spot::of(place))],
             type_number,
         })
     }
