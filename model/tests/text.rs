@@ -83,6 +83,11 @@ fn names_lines_and_comments_are_free() {
     let one = bytes("bay 0 : unit →ω unit = λ any_name : unit . any_name # the same");
     let other = bytes("bay 0=\n  \\x:unit.\n\tx\n");
     assert_eq!(one, other);
+    let marked = bytes("bay 0 = (λf:num →1 num. f 5) (λ1x:num.x)");
+    assert_eq!(
+        marked,
+        bytes("bay 0 = (λf:num -1> num. f 5) (\\1 x:num. x)")
+    );
     let shadowed = bytes("bay 0 = λx:num. λx:unit. x");
     assert_eq!(shadowed, bytes("bay 0 = λx:num. λy:unit. y"));
 }
@@ -155,6 +160,40 @@ const ERRORS: &[(&str, &str)] = &[
         ":1:18: this is applied, and is num, no function",
     ),
     ("bay 0 = λx:t9. x", ":1:12: there is no t9 so far"),
+    (
+        "bay 0 = (-5)",
+        ":1:10: -5 is no num: a num is a whole number from 0 to 1000",
+    ),
+    (
+        "bay 0 = 12.5",
+        ":1:9: 12.5 is no num: a num is a whole number from 0 to 1000, \
+         in tenths of a percent (12.5 percent is 125)",
+    ),
+    (
+        "bay 0 = 0.0 ",
+        ":1:9: 0.0 is no num: a num is a whole number from 0 to 1000, \
+         in tenths of a percent (0.0 percent is 0)",
+    ),
+    (
+        "bay 0 = 0x10",
+        ":1:9: 0x10 is no num: a num is a whole number from 0 to 1000",
+    ),
+    (
+        "bay 0 = let x = 3 in x",
+        ":1:9: no λ here binds 'let' (a recipe has no let: (λx:type. body) value names a value)",
+    ),
+    (
+        "let x = 3",
+        ":1:1: expected 'bay 0', found 'let' (a recipe has no let: (λx:type. body) value names a value)",
+    ),
+    (
+        "bay 0 = fun x x",
+        ":1:9: no λ here binds 'fun' (a function is λx:type. body, or \\x:type. body)",
+    ),
+    (
+        "\u{FEFF}bay 0 = unit",
+        ":1:1: here is a byte-order mark; save the text as UTF-8 without one",
+    ),
 ];
 
 #[test]

@@ -54,9 +54,25 @@ fn wrong_words() {
         (&["compare", "a"], "a file is missing"),
     ];
     for (words, expected) in cases {
-        let text = complaint(words);
+        let text = wrong_usage(words);
         assert!(text.contains(expected), "{words:?}: {text}");
     }
+}
+
+#[test]
+fn the_version_says_whether_the_library_is_built_in() {
+    let output = recipe(&["--version"]);
+    assert_eq!(output.status.code(), Some(0));
+    let number = env!("CARGO_PKG_VERSION");
+    let with = if cfg!(feature = "library") {
+        "with"
+    } else {
+        "without"
+    };
+    let expected = format!("recipe {number}, {with} the proved library");
+    let text = standard_output(&output);
+    assert!(text.starts_with(&expected), "{text}");
+    assert_eq!(text.lines().count(), 1);
 }
 
 #[test]
@@ -73,6 +89,8 @@ fn files_that_cannot_be_read() {
     assert!(complaint(&["show", "/dev/zero"]).contains("is longer than"));
     let text = folder.file("latin.txt", b"bay 0 = unit # \xE4");
     assert!(complaint(&["write", &text]).contains("no text in UTF-8: byte 15"));
+    let wide = folder.file("wide.txt", b"\xFF\xFEb\0a\0y\0");
+    assert!(complaint(&["write", &wide]).contains("byte 0 (it is UTF-16; save the text as UTF-8)"));
     assert!(complaint(&["compare", "none.so", "none.so"]).contains("cannot open none.so"));
     let no_library = folder.file("no.so", "no library");
     assert!(complaint(&["compare", &no_library, &no_library]).contains("cannot open"));

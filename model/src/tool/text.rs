@@ -1,5 +1,6 @@
 //! The text form of a recipe: its types and each bay's term, printed and read.
 
+pub mod hints;
 pub mod layout;
 pub mod node_types;
 pub mod numbering;

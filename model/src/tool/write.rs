@@ -5,6 +5,7 @@ use crate::tool::faults::{fault_in, Fault, Place};
 use crate::tool::files;
 use crate::tool::problem::{message, Outcome, Problem};
 use crate::tool::refusals;
+use crate::tool::text::hints;
 use crate::tool::text::parser::{read, Read};
 use crate::tool::text::tokens::{Position, TextError};
 use std::ffi::OsString;
@@ -51,8 +52,8 @@ fn beside(from: &Path) -> Result<PathBuf, Problem> {
 
 /// The bytes of a text; an error begins with its place, to stand after the file's name.
 pub fn made(text: &[u8], even_refused: bool) -> Result<Vec<u8>, String> {
-    let text = std::str::from_utf8(text)
-        .map_err(|error| format!(": no text in UTF-8: byte {}", error.valid_up_to()))?;
+    let no_text = |at| format!(": {}", hints::no_text(text, at));
+    let text = std::str::from_utf8(text).map_err(|error| no_text(error.valid_up_to()))?;
     let read = read(text).map_err(|error| placed(&error))?;
     let file = read.recipe.write();
     match fault_in(&file, &read.nodes) {

@@ -3,6 +3,7 @@
 use crate::format::Recipe;
 use crate::limits;
 use crate::nodes::Node;
+use crate::tool::text::hints;
 use crate::tool::text::numbering::Numbering;
 use crate::tool::text::spelling::UNICODE;
 use crate::tool::text::spot::Spot;
@@ -92,10 +93,13 @@ impl<'t> Parser<'t> {
     }
 
     pub fn expected(&self, what: &str) -> TextError {
-        error(
-            self.position(),
-            format!("expected {what}, found {}", self.peek()),
-        )
+        let found = self.peek();
+        let hint = match found {
+            Token::Word(word) => hints::of_word(word),
+            _ => "",
+        };
+        let text = format!("expected {what}, found {found}{hint}");
+        error(self.position(), text)
     }
 
     pub fn expect(&mut self, wanted: Token) -> Result<(), TextError> {

@@ -4,6 +4,7 @@
 use crate::limits;
 use crate::nodes::Node;
 use crate::table::{entry, MANY, ONCE};
+use crate::tool::text::hints;
 use crate::tool::text::node_types::function;
 use crate::tool::text::parser::{error, Parser};
 use crate::tool::text::spelling::{CONSTANTS, KEPT_WORDS, SETTING};
@@ -177,7 +178,8 @@ impl<'t> Parser<'t> {
             return Ok((Node::Name(bay), Ok(2)));
         }
         let inner = self.scope.iter().rev().position(|(x, _)| *x == word);
-        let index = inner.ok_or_else(|| error(place, format!("no λ here binds '{word}'")))?;
+        let unbound = || format!("no λ here binds '{word}'{}", hints::of_word(word));
+        let index = inner.ok_or_else(|| error(place, unbound()))?;
         let index = u8::try_from(index);
         let index = index.map_err(|_| error(place, format!("'{word}' is bound too far out")))?;
         self.advance();
