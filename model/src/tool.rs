@@ -5,6 +5,7 @@ pub mod compare;
 pub mod faults;
 pub mod files;
 pub mod help;
+pub mod judge;
 pub mod outline;
 pub mod problem;
 pub mod progress;

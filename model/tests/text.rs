@@ -5,6 +5,7 @@ use model::command::on_deep_stack;
 use model::draw::Draw;
 use model::examples;
 use model::generate::recipes;
+use model::tool::judge::NAME;
 use model::tool::show::shown;
 use model::tool::text::spelling::{ASCII, UNICODE};
 use model::tool::write::made;
@@ -92,8 +93,10 @@ fn names_lines_and_comments_are_free() {
     assert_eq!(shadowed, bytes("bay 0 = λx:num. λy:unit. y"));
 }
 
+/// The complaint, without whose verdict it is.
 fn complaint(text: &str) -> String {
-    made(text.as_bytes(), false).expect_err(text)
+    let told = made(text.as_bytes(), false).expect_err(text);
+    told.replace(&format!(" by {NAME}:"), ":")
 }
 
 /// Texts with an error, and the complaint.

@@ -131,6 +131,41 @@ fn a_refused_text_leaves_no_file() {
     );
 }
 
+/// The proved library's verdict where it is built in, else the model's.
+#[test]
+fn show_and_write_say_whose_verdict_it_is() {
+    let name = if cfg!(feature = "library") {
+        "the proved library"
+    } else {
+        "the model"
+    };
+    let folder = Folder::new();
+    let good = folder.file("good.txt", "bay 0 = unit");
+    let written = standard_output(&recipe(&["write", &good]));
+    let accepted = format!(": 22 bytes, accepted by {name}\n");
+    assert!(written.ends_with(&accepted), "{written}");
+    let shown = standard_output(&recipe(&["show", &folder.path("good.recipe")]));
+    assert!(
+        shown.contains(&format!(": accepted by {name}\n")),
+        "{shown}"
+    );
+    let bad = folder.file("bad.txt", "bay 0 = unit unit");
+    let told = complaint(&["write", &bad]);
+    assert!(
+        told.contains(&format!(":1:9: refused 9 by {name}: ")),
+        "{told}"
+    );
+    let forced = standard_output(&recipe(&["write", &bad, "--even-refused"]));
+    assert!(
+        forced.ends_with(&format!(", refused 9 by {name}\n")),
+        "{forced}"
+    );
+    let shown = recipe(&["show", &folder.path("bad.recipe")]);
+    let expected = format!(": refused 9 by {name}");
+    assert!(standard_output(&shown).contains(&format!("{expected}: ")));
+    assert!(standard_error(&shown).ends_with(&format!("{expected}\n")));
+}
+
 #[test]
 fn standard_input_and_output() {
     let mut show = Command::new(env!("CARGO_BIN_EXE_recipe"))
