@@ -69,14 +69,16 @@ out. The run stops when no thread can move.
 ";
 
 const COMPARE: &str = "\
-recipe compare A B [--seed S] [--count N] [--progress]
+recipe compare A B [--seed S] [--count N] [--limit SECONDS] [--progress]
 
 Opens two shared libraries that offer the C interface, gives both the same recipes, images and
 turns, and compares every answer and every byte of the out buffers. Says \"same\", or shows the
-first difference in full, with the model's answer beside it; the exit status is then 1.
+first difference in full, with the model's answer beside it; the exit status is then 1. So it is
+when a library is stopped, ends the program or gives no answer in time; library and input are told.
 
   --seed S       other recipes (2006)
   --count N      so many recipes (20000), beside the examples
+  --limit S      at most S seconds for each call (10)
   --progress     tells on standard error how far it is; on a terminal it does so anyway
 
 A shared library from a static one:
