@@ -103,9 +103,8 @@ fn run(
     progress: Progress,
 ) -> Result<History, Problem> {
     let mut runner = Runner::new(&Judge, image);
-    let mut history = History::default();
+    let mut history = History::start(bays, &runner.image);
     let start = ImageView(&runner.image).vents(bays);
-    history.note_vents(0, &start);
     writeln!(out, "{}", report::SIGNS)?;
     write!(out, "{}", report::heading(bays))?;
     write!(out, "{}", report::line(0, None, "loaded", &start))?;
@@ -138,8 +137,7 @@ fn take_turns<I: Implementation>(
         };
         let answer = runner.turn(thread);
         let vents = ImageView(&runner.image).vents(bays);
-        history.note_vents(turn, &vents);
-        history.note_answer(turn, thread, answer);
+        history.note_turn(turn, thread, answer, &runner.image);
         let line = report::line(turn, Some(thread), &answer.to_string(), &vents);
         write!(out, "{line}")?;
         progress.say(|| format!("turn {turn} of {turns}"));
