@@ -142,42 +142,39 @@ fn a_library_that_ends_the_program() {
     assert!(text.starts_with(&expected), "{text}");
 }
 
+fn verdict(refusal: u32, bays: u32, first: u8, last: u8) -> String {
+    let mut types = [0; 16];
+    (types[0], types[15]) = (first, last);
+    let answer = VerdictAnswer {
+        refusal,
+        bays,
+        types,
+    };
+    answer.in_words()
+}
+
+fn stepped(outcome: u32, number: u32, length: u64) -> String {
+    let answer = SteppedAnswer {
+        outcome,
+        number,
+        length,
+    };
+    answer.in_words()
+}
+
 /// Every field that differs can be read.
 #[test]
 fn answers_in_words() {
-    let types = |first: u8, last: u8| {
-        let mut types = [0; 16];
-        types[0] = first;
-        types[15] = last;
-        types
-    };
-    let verdict = |refusal, bays, types| {
-        let answer = VerdictAnswer {
-            refusal,
-            bays,
-            types,
-        };
-        answer.in_words()
-    };
-    assert_eq!(
-        verdict(0, 2, types(3, 0)),
-        "accepted, bays: 2, types: t3 t0"
-    );
+    assert_eq!(verdict(0, 2, 3, 0), "accepted, bays: 2, types: t3 t0");
     let stray = "t0 t0 t0 t0 t0 t0 t0 t0 t0 t0 t0 t0 t0 t0 t0 t7";
     let expected = format!("accepted, bays: 1, types: {stray}");
-    assert_eq!(verdict(0, 1, types(0, 7)), expected);
-    let cause = "a type entry breaks its rule";
-    assert_eq!(verdict(4, 0, types(0, 0)), format!("refused 4 ({cause})"));
-    let expected = format!("refused 4 ({cause}), bays: 1, types: t3");
-    assert_eq!(verdict(4, 1, types(3, 0)), expected);
-    let stepped = |outcome, number, length| {
-        let answer = SteppedAnswer {
-            outcome,
-            number,
-            length,
-        };
-        answer.in_words()
-    };
+    assert_eq!(verdict(0, 1, 0, 7), expected);
+    let refused = "refused 4 (a type entry breaks its rule)";
+    assert_eq!(verdict(4, 0, 0, 0), refused);
+    assert_eq!(
+        verdict(4, 1, 3, 0),
+        format!("{refused}, bays: 1, types: t3")
+    );
     assert_eq!(stepped(0, 0, 0), "done");
     assert_eq!(stepped(0, 2, 5), "done, number 2, image of 5 bytes");
     assert_eq!(stepped(1, 7, 30), "rule 7 CELL.EXCH, image of 30 bytes");

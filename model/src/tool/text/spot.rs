@@ -16,6 +16,11 @@ impl Spot {
         let variable = None;
         Spot { position, variable }
     }
+
+    pub fn of_lambda(position: Position, variable: &str) -> Spot {
+        let variable = Some(variable.to_owned());
+        Spot { position, variable }
+    }
 }
 
 /// The text's name for the variable of the lambda at that place; without a text, the tool's.

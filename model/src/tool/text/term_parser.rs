@@ -57,11 +57,7 @@ impl<'t> Parser<'t> {
             }
             (given, _) => given.unwrap_or(0),
         };
-        let spot = Spot {
-            position: place,
-            variable: Some(x.to_owned()),
-        };
-        let mut nodes = vec![(Node::Lambda(whole), spot)];
+        let mut nodes = vec![(Node::Lambda(whole), Spot::of_lambda(place, x))];
         nodes.extend(body.nodes);
         let type_number = self.in_table(whole, place);
         Ok(Term { nodes, type_number })
