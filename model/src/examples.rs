@@ -8,6 +8,7 @@ use crate::load::{load, Loaded};
 use crate::nodes::Node;
 use crate::step::{step, Outcome};
 use crate::table::entry;
+use crate::tool::judge;
 use crate::tool::show::shown;
 use crate::tool::text::spelling::UNICODE;
 use crate::types::{Constant, Multiplicity};
@@ -389,9 +390,11 @@ impl Example {
         text
     }
 
+    /// The pages name the proved library; where it is built in, the test `examples` asks it.
     fn types_and_terms(&self) -> String {
         let name = format!("{}.recipe", self.name);
         let shown = shown(&name, &self.file(), &UNICODE);
+        let shown = shown.replace(&format!(" by {}", judge::NAME), " by the proved library");
         format!("As `recipe show` has it (docs/RECIPES.md):\n\n```\n{shown}```\n")
     }
 

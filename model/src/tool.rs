@@ -5,6 +5,7 @@ pub mod compare;
 pub mod faults;
 pub mod files;
 pub mod help;
+pub mod judge;
 pub mod outline;
 pub mod problem;
 pub mod progress;
@@ -15,6 +16,7 @@ pub mod show;
 pub mod svg;
 pub mod terminal;
 pub mod text;
+pub mod version;
 pub mod write;
 
 use crate::command::on_deep_stack;
@@ -23,6 +25,9 @@ use std::ffi::OsString;
 use std::io::{self, BufWriter, Write};
 use std::process::ExitCode;
 use terminal::{is_terminal, STANDARD_OUTPUT};
+
+/// The exit status for words that no command takes.
+const WRONG_USAGE: u8 = 2;
 
 /// The tool, with the words of its command line after its own name.
 pub fn main(words: Vec<OsString>) -> ExitCode {
@@ -35,6 +40,10 @@ pub fn main(words: Vec<OsString>) -> ExitCode {
         Err(Problem::Message(text)) => {
             complain(&text);
             ExitCode::FAILURE
+        }
+        Err(Problem::Usage(text)) => {
+            complain(&text);
+            ExitCode::from(WRONG_USAGE)
         }
         Err(Problem::Output(error)) if error.kind() == io::ErrorKind::BrokenPipe => {
             ExitCode::SUCCESS
@@ -79,6 +88,7 @@ fn command(words: Vec<OsString>, out: &mut dyn Write) -> Outcome {
         Some("run") => run::command(rest, out),
         Some("compare") => compare::command(rest, out),
         Some("help" | "--help" | "-h") => help::command(rest, out),
+        Some("--version") => version::command(out),
         _ => Err(help::usage(&format!(
             "there is no command {}",
             first.to_string_lossy()

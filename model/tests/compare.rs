@@ -3,8 +3,13 @@
 
 mod tool_common;
 
+use model::answers::{SteppedAnswer, VerdictAnswer};
+use model::tool::compare::words::InWords;
 use std::process::Command;
 use tool_common::*;
+
+/// The first recipe that is tried.
+const CASE_A: &str = "4C4601020C0009001500010000000001000002010003";
 
 /// Runs a program, which must succeed.
 fn call(program: &str, words: &[&str]) {
@@ -58,14 +63,13 @@ fn a_checker_that_turns_everything_away_and_one_that_passes_everything() {
     let differ = recipe(&["compare", &away, &passes, "--count", "20"]);
     assert_eq!(differ.status.code(), Some(1));
     let text = standard_output(&differ);
-    let case_a = "recipe: 4C4601020C00090015000100000000010000020100\
-                  03\n";
+    let case_a = &format!("recipe: {CASE_A}\n");
     for expected in [
         "difference: check\n",
         case_a,
-        "A answers VerdictAnswer { refusal: 1,",
-        "B answers VerdictAnswer { refusal: 0,",
-        "the model answers VerdictAnswer { refusal: 0, bays: 1,",
+        "\nA answers: refused 1 (file length outside 12 to 8,192)\n",
+        "\nB answers: accepted, bays: 0\n",
+        "\nthe model answers: accepted, bays: 1, types: t0\n",
     ] {
         assert!(text.contains(expected), "{text}");
     }
@@ -85,10 +89,10 @@ fn a_library_that_reads_beyond_the_recipe() {
     let honest = from_source(&folder, "honest", &always(1));
     let read = "recipe_len = *(volatile const uint8_t *)(recipe + recipe_len);";
     let beyond = from_source(&folder, "beyond", &away_but("", read));
-    let expected =
-        "recipe: B was stopped by signal 11 in check (thread 0, out buffer of 0 bytes)\n\
-                    given: 4C4601020C00090015000100000000010000020100\
-                    03\n";
+    let expected = format!(
+        "recipe: B ({beyond}) was stopped by signal 11 in check (thread 0, out buffer of 0 bytes)\n\
+         given: {CASE_A}\n"
+    );
     let text = complaint(&["compare", &honest, &beyond, "--count", "5"]);
     assert_eq!(text, expected);
 }
@@ -106,9 +110,77 @@ fn a_library_that_uses_up_the_stack() {
     let deep = from_source(&folder, "deep", &deep);
     let text = complaint(&["compare", &deep, &honest, "--count", "5"]);
     assert!(
-        text.starts_with("recipe: A was stopped by signal 11 in check"),
+        text.starts_with(&format!(
+            "recipe: A ({deep}) was stopped by signal 11 in check"
+        )),
         "{text}"
     );
+}
+
+#[test]
+fn a_library_that_gives_no_answer() {
+    let folder = Folder::new();
+    let honest = from_source(&folder, "honest", &always(1));
+    let for_ever = "for (volatile int i = 0; ; i = 0) {}";
+    let loops = from_source(&folder, "loops", &away_but("", for_ever));
+    let expected = format!(
+        "recipe: B ({loops}) gave no answer within 1 s in check (thread 0, out buffer of 0 bytes)\n\
+         given: {CASE_A}\n"
+    );
+    let text = complaint(&["compare", &honest, &loops, "--limit", "1"]);
+    assert_eq!(text, expected);
+}
+
+#[test]
+fn a_library_that_ends_the_program() {
+    let folder = Folder::new();
+    let honest = from_source(&folder, "honest", &always(1));
+    let leaves = away_but("#include <stdlib.h>\n", "exit(0);");
+    let leaves = from_source(&folder, "leaves", &leaves);
+    let text = complaint(&["compare", &leaves, &honest]);
+    let expected = format!("recipe: A ({leaves}) ended the program in check ");
+    assert!(text.starts_with(&expected), "{text}");
+}
+
+fn verdict(refusal: u32, bays: u32, first: u8, last: u8) -> String {
+    let mut types = [0; 16];
+    (types[0], types[15]) = (first, last);
+    let answer = VerdictAnswer {
+        refusal,
+        bays,
+        types,
+    };
+    answer.in_words()
+}
+
+fn stepped(outcome: u32, number: u32, length: u64) -> String {
+    let answer = SteppedAnswer {
+        outcome,
+        number,
+        length,
+    };
+    answer.in_words()
+}
+
+/// Every field that differs can be read.
+#[test]
+fn answers_in_words() {
+    assert_eq!(verdict(0, 2, 3, 0), "accepted, bays: 2, types: t3 t0");
+    let stray = "t0 t0 t0 t0 t0 t0 t0 t0 t0 t0 t0 t0 t0 t0 t0 t7";
+    let expected = format!("accepted, bays: 1, types: {stray}");
+    assert_eq!(verdict(0, 1, 0, 7), expected);
+    let refused = "refused 4 (a type entry breaks its rule)";
+    assert_eq!(verdict(4, 0, 0, 0), refused);
+    assert_eq!(
+        verdict(4, 1, 3, 0),
+        format!("{refused}, bays: 1, types: t3")
+    );
+    assert_eq!(stepped(0, 0, 0), "done");
+    assert_eq!(stepped(0, 2, 5), "done, number 2, image of 5 bytes");
+    assert_eq!(stepped(1, 7, 30), "rule 7 CELL.EXCH, image of 30 bytes");
+    assert_eq!(stepped(2, 5, 0), "waiting for name 5");
+    assert_eq!(stepped(3, 14, 0), "refused 14 (number is no thread)");
+    assert_eq!(stepped(9, 1, 0), "outcome 9, which there is not, number 1");
 }
 
 #[test]

@@ -6,7 +6,6 @@ use model::draw::Draw;
 use model::generate::recipes;
 use model::limits;
 use model::tool::run::history::History;
-use model::tool::run::image_view::ImageView;
 use model::tool::run::order::Order;
 use model::tool::run::runner::Runner;
 use model::tool::svg::picture;
@@ -19,16 +18,14 @@ fn history(file: &[u8], turns: u64, mut order: Order) -> History {
     image.truncate(loaded.length as usize);
     let bays = loaded.bays as usize;
     let mut runner = Runner::new(&Model, image);
-    let mut history = History::default();
-    history.note_vents(0, &ImageView(&runner.image).vents(bays));
+    let mut history = History::start(bays, &runner.image);
     for turn in 1..=turns {
         let thread = match runner.next(&mut order) {
             Ok(thread) => thread,
             Err(_) => break,
         };
         let answer = runner.turn(thread);
-        history.note_vents(turn, &ImageView(&runner.image).vents(bays));
-        history.note_answer(turn, thread, answer);
+        history.note_turn(turn, thread, answer, &runner.image);
     }
     history.finish();
     history
@@ -136,4 +133,61 @@ fn a_long_run_is_drawn_as_finely_as_can_be_seen() {
     assert_eq!(history.turns, 60_000);
     let svg = picture("for ever", &history);
     assert!(svg.len() < 300_000, "{} bytes", svg.len());
+}
+
+/// A loop that makes a cell each time, until there is no room.
+#[test]
+fn a_refusal_in_the_last_of_many_turns_is_seen() {
+    let cells = "bay 0 = (λf:unit →ω unit. f unit) (thread[((unit →ω unit) →ω unit →ω unit) →ω unit →ω unit] \
+                 (λf:unit →ω unit. λx:unit. (λy:num ref. f unit) (cell[num →ω num ref] 3)))";
+    let file = made(cells.as_bytes(), false).expect("a recipe");
+    let history = history(&file, 60_000, Order::RoundRobin(0));
+    assert!(history.turns > 500, "{} turns", history.turns);
+    check(&history);
+    let svg = picture("cells", &history);
+    let mut bars = svg.lines().filter(|line| line.contains(" refused 15, "));
+    let bar = bars.next().expect("a bar for the refusal");
+    assert!(number(bar, "width") >= 6.0, "{bar}");
+    assert!(svg.contains(">refused 15</text>"), "{svg}");
+}
+
+#[test]
+fn each_threads_bay_and_the_rules_by_name() {
+    let history = history(&sixteen_bays(), 40, Order::RoundRobin(0));
+    let svg = picture("sixteen", &history);
+    for label in ["16, bay 0", "31, bay 15", "32, bay 0"] {
+        assert!(svg.contains(&format!(">{label}</text>")), "{label}");
+    }
+    assert!(svg.contains("rules: 1 BETA · 2 THREAD.NEW · 3 FUTURE.DEREF"));
+    assert!(svg.contains("7 CELL.EXCH</text>"));
+}
+
+/// Every bay's line at the beginning, where all the vents are closed: height, width and colour.
+fn first_lines(svg: &str) -> Vec<(f64, f64, String)> {
+    let lines = svg.lines().filter(|line| line.starts_with("<polyline"));
+    let mut found: Vec<(f64, f64, String)> = Vec::new();
+    for line in lines {
+        let point = attribute(line, "points").split(' ').next();
+        let (_, height) = point.and_then(|p| p.split_once(',')).expect("a point");
+        let colour = attribute(line, "stroke").to_owned();
+        if found.iter().all(|(_, _, other)| *other != colour) {
+            let height = height.parse().expect("a number");
+            found.push((height, number(line, "stroke-width"), colour));
+        }
+    }
+    found
+}
+
+#[test]
+fn equal_lines_stand_side_by_side_each_in_its_own_colour() {
+    let bays: String = (0..16).map(|k| format!("bay {k} = unit\n")).collect();
+    let file = made(bays.as_bytes(), false).expect("a recipe");
+    let history = history(&file, 5, Order::RoundRobin(0));
+    check(&history);
+    let lines = first_lines(&picture("closed", &history));
+    assert_eq!(lines.len(), 16);
+    for pair in lines.windows(2) {
+        let apart = (pair[1].0 - pair[0].0).abs();
+        assert!(apart >= pair[0].1 - 0.15, "{pair:?}");
+    }
 }

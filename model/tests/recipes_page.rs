@@ -3,6 +3,7 @@
 
 mod tool_common;
 
+use model::tool::judge::NAME;
 use model::tool::run::STEPPER;
 use std::process::Command;
 use tool_common::*;
@@ -30,7 +31,8 @@ fn printed(folder: &Folder, command: &str) -> String {
         .output()
         .expect("the tool runs");
     let text = standard_output(&output) + &standard_error(&output);
-    text.replace(STEPPER, "the proved library")
+    let text = text.replace(STEPPER, "the proved library");
+    text.replace(&format!(" by {NAME}"), " by the proved library")
 }
 
 fn holds(expected: &str, found: &str) -> bool {

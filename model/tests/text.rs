@@ -5,6 +5,7 @@ use model::command::on_deep_stack;
 use model::draw::Draw;
 use model::examples;
 use model::generate::recipes;
+use model::tool::judge::NAME;
 use model::tool::show::shown;
 use model::tool::text::spelling::{ASCII, UNICODE};
 use model::tool::write::made;
@@ -83,12 +84,19 @@ fn names_lines_and_comments_are_free() {
     let one = bytes("bay 0 : unit →ω unit = λ any_name : unit . any_name # the same");
     let other = bytes("bay 0=\n  \\x:unit.\n\tx\n");
     assert_eq!(one, other);
+    let marked = bytes("bay 0 = (λf:num →1 num. f 5) (λ1x:num.x)");
+    assert_eq!(
+        marked,
+        bytes("bay 0 = (λf:num -1> num. f 5) (\\1 x:num. x)")
+    );
     let shadowed = bytes("bay 0 = λx:num. λx:unit. x");
     assert_eq!(shadowed, bytes("bay 0 = λx:num. λy:unit. y"));
 }
 
+/// The complaint, without whose verdict it is.
 fn complaint(text: &str) -> String {
-    made(text.as_bytes(), false).expect_err(text)
+    let told = made(text.as_bytes(), false).expect_err(text);
+    told.replace(&format!(" by {NAME}:"), ":")
 }
 
 /// Texts with an error, and the complaint.
@@ -155,6 +163,40 @@ const ERRORS: &[(&str, &str)] = &[
         ":1:18: this is applied, and is num, no function",
     ),
     ("bay 0 = λx:t9. x", ":1:12: there is no t9 so far"),
+    (
+        "bay 0 = (-5)",
+        ":1:10: -5 is no num: a num is a whole number from 0 to 1000",
+    ),
+    (
+        "bay 0 = 12.5",
+        ":1:9: 12.5 is no num: a num is a whole number from 0 to 1000, \
+         in tenths of a percent (12.5 percent is 125)",
+    ),
+    (
+        "bay 0 = 0.0 ",
+        ":1:9: 0.0 is no num: a num is a whole number from 0 to 1000, \
+         in tenths of a percent (0.0 percent is 0)",
+    ),
+    (
+        "bay 0 = 0x10",
+        ":1:9: 0x10 is no num: a num is a whole number from 0 to 1000",
+    ),
+    (
+        "bay 0 = let x = 3 in x",
+        ":1:9: no λ here binds 'let' (a recipe has no let: (λx:type. body) value names a value)",
+    ),
+    (
+        "let x = 3",
+        ":1:1: expected 'bay 0', found 'let' (a recipe has no let: (λx:type. body) value names a value)",
+    ),
+    (
+        "bay 0 = fun x x",
+        ":1:9: no λ here binds 'fun' (a function is λx:type. body, or \\x:type. body)",
+    ),
+    (
+        "\u{FEFF}bay 0 = unit",
+        ":1:1: here is a byte-order mark; save the text as UTF-8 without one",
+    ),
 ];
 
 #[test]
@@ -176,6 +218,69 @@ fn a_refusal_is_told_at_its_place_in_the_text() {
         "{}",
         complaint(text)
     );
+}
+
+/// Refused texts, and how the complaint begins and ends.
+const REFUSALS: &[(&str, &str, &str)] = &[
+    (
+        "bay 0 = (λf:num →1 num. unit) (λ1 x:num. x)",
+        ":1:10: refused 10: ",
+        "; the once-variable f, of type num →1 num, is used 0 times",
+    ),
+    (
+        "bay 0 = (λ1 go:num →1 num.\n  (λagain:num. go again) 3) (λ1 x:num. x)",
+        ":2:16: refused 10: ",
+        "; the once-variable go, of type num →1 num, is free under a many-lambda; \
+         the λagain at 2:4 should be λ1 again",
+    ),
+    (
+        "bay 0 = (λf:num →1 num. f 3)\n  (λn:num. n)",
+        ":2:4: refused 9: ",
+        "; the argument should be num →1 num, and λn:num. n is num →ω num; \
+         the λn at 2:4 should be λ1 n",
+    ),
+    (
+        "bay 0 = (λf:num →ω num →1 num. f 3 4)\n  (λ1 n:num. λm:num. m)",
+        ":2:4: refused 9: ",
+        "; the λ1 n at 2:4 should be λn; the λm at 2:14 should be λ1 m",
+    ),
+    (
+        "bay 0 = (λf:num →1 num. f 3) (λn:num. unit)",
+        ":1:31: refused 9: ",
+        "; the argument should be num →1 num, and λn:num. unit is num →ω unit",
+    ),
+    (
+        "bay 0 = λf:num →ω num. f (λg:num →ω num. g)",
+        ":1:27: refused 9: ",
+        "; the argument should be num, and λg:num →ω num. g is (num →ω num) →ω num →ω num",
+    ),
+    (
+        "bay 0 = λx:num. exch[num ref →ω num →ω num] x",
+        ":1:45: refused 9: ",
+        "; the argument should be num ref, and x is num",
+    ),
+    (
+        "bay 0 = unit\nbay 1 = λ1 vent:num. vent",
+        ":2:9: refused 11: ",
+        "; the bay's type is num →1 num, usable once; the λ1 vent at 2:9 should be λvent",
+    ),
+];
+
+#[test]
+fn a_refusal_is_told_in_the_texts_own_names_and_places() {
+    for (text, first, last) in REFUSALS {
+        let told = complaint(text);
+        assert!(told.starts_with(first) && told.ends_with(last), "{told}");
+    }
+}
+
+/// Two variables of one name: the place says which is meant.
+#[test]
+fn a_shadowed_variable_is_told_by_its_own_place() {
+    let told = complaint("bay 0 = λx:num →1 num. λ1 x:num →1 num. λ1 y:num. x y");
+    let expected = ":1:9: refused 10: ";
+    assert!(told.starts_with(expected), "{told}");
+    assert!(told.ends_with("the once-variable x, of type num →1 num, is used 0 times"));
 }
 
 #[test]

@@ -54,9 +54,25 @@ fn wrong_words() {
         (&["compare", "a"], "a file is missing"),
     ];
     for (words, expected) in cases {
-        let text = complaint(words);
+        let text = wrong_usage(words);
         assert!(text.contains(expected), "{words:?}: {text}");
     }
+}
+
+#[test]
+fn the_version_says_whether_the_library_is_built_in() {
+    let output = recipe(&["--version"]);
+    assert_eq!(output.status.code(), Some(0));
+    let number = env!("CARGO_PKG_VERSION");
+    let with = if cfg!(feature = "library") {
+        "with"
+    } else {
+        "without"
+    };
+    let expected = format!("recipe {number}, {with} the proved library");
+    let text = standard_output(&output);
+    assert!(text.starts_with(&expected), "{text}");
+    assert_eq!(text.lines().count(), 1);
 }
 
 #[test]
@@ -73,6 +89,8 @@ fn files_that_cannot_be_read() {
     assert!(complaint(&["show", "/dev/zero"]).contains("is longer than"));
     let text = folder.file("latin.txt", b"bay 0 = unit # \xE4");
     assert!(complaint(&["write", &text]).contains("no text in UTF-8: byte 15"));
+    let wide = folder.file("wide.txt", b"\xFF\xFEb\0a\0y\0");
+    assert!(complaint(&["write", &wide]).contains("byte 0 (it is UTF-16; save the text as UTF-8)"));
     assert!(complaint(&["compare", "none.so", "none.so"]).contains("cannot open none.so"));
     let no_library = folder.file("no.so", "no library");
     assert!(complaint(&["compare", &no_library, &no_library]).contains("cannot open"));
@@ -111,6 +129,41 @@ fn a_refused_text_leaves_no_file() {
         run.contains("bay 0, function, byte 22: unit is applied"),
         "{run}"
     );
+}
+
+/// The proved library's verdict where it is built in, else the model's.
+#[test]
+fn show_and_write_say_whose_verdict_it_is() {
+    let name = if cfg!(feature = "library") {
+        "the proved library"
+    } else {
+        "the model"
+    };
+    let folder = Folder::new();
+    let good = folder.file("good.txt", "bay 0 = unit");
+    let written = standard_output(&recipe(&["write", &good]));
+    let accepted = format!(": 22 bytes, accepted by {name}\n");
+    assert!(written.ends_with(&accepted), "{written}");
+    let shown = standard_output(&recipe(&["show", &folder.path("good.recipe")]));
+    assert!(
+        shown.contains(&format!(": accepted by {name}\n")),
+        "{shown}"
+    );
+    let bad = folder.file("bad.txt", "bay 0 = unit unit");
+    let told = complaint(&["write", &bad]);
+    assert!(
+        told.contains(&format!(":1:9: refused 9 by {name}: ")),
+        "{told}"
+    );
+    let forced = standard_output(&recipe(&["write", &bad, "--even-refused"]));
+    assert!(
+        forced.ends_with(&format!(", refused 9 by {name}\n")),
+        "{forced}"
+    );
+    let shown = recipe(&["show", &folder.path("bad.recipe")]);
+    let expected = format!(": refused 9 by {name}");
+    assert!(standard_output(&shown).contains(&format!("{expected}: ")));
+    assert!(standard_error(&shown).ends_with(&format!("{expected}\n")));
 }
 
 #[test]

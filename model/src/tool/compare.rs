@@ -3,6 +3,7 @@
 pub mod crash;
 pub mod pair;
 pub mod report;
+pub mod words;
 
 use crate::draw::Draw;
 use crate::examples;
@@ -18,12 +19,14 @@ use std::io::Write;
 const FORM: Form = Form {
     command: "compare",
     files: (2, 2),
-    with_value: &["--seed", "--count"],
+    with_value: &["--seed", "--count", "--limit"],
     without_value: &["--progress"],
 };
 
 const SEED: u64 = 2_006;
 const COUNT: u64 = 20_000;
+/// The most seconds of one call.
+const LIMIT: u64 = 10;
 /// The most turns of one recipe.
 const TURNS: usize = 40;
 
@@ -31,6 +34,7 @@ pub fn command(words: &[OsString], out: &mut dyn Write) -> Outcome {
     let given = FORM.read(words)?;
     let seed = FORM.value(&given, "--seed")?.unwrap_or(SEED);
     let count = FORM.value(&given, "--count")?.unwrap_or(COUNT);
+    let limit = FORM.value(&given, "--limit")?.unwrap_or(LIMIT);
     let (a, b) = (&given.files[0], &given.files[1]);
     let mut pair = Pair::new(SharedLibrary::open(a)?, SharedLibrary::open(b)?);
     writeln!(
@@ -43,7 +47,7 @@ pub fn command(words: &[OsString], out: &mut dyn Write) -> Outcome {
         writeln!(out, "{missing}: not compared")?;
     }
     out.flush()?;
-    crash::watch();
+    crash::watch([a, b], limit);
     let mut progress = Progress::new(given.has("--progress"));
     let result = compare(&mut pair, seed, count, &mut progress);
     progress.end(&format!("{} recipes", pair.counts.recipes()));

@@ -2,6 +2,7 @@
 
 pub mod bytes;
 pub mod entries;
+pub mod marks;
 pub mod terms;
 pub mod typing;
 pub mod usage;
@@ -9,6 +10,7 @@ pub mod usage;
 use crate::format::{pairs, table_and_terms};
 use crate::nodes::{Node, FORMS};
 use crate::table::{entries_of, Entry};
+use crate::tool::text::spot::Spot;
 use std::fmt;
 
 /// Where a fault is.
@@ -48,14 +50,22 @@ pub struct Fault {
 
 /// What is wrong with a file, if anything is.
 pub fn fault(file: &[u8]) -> Option<Fault> {
-    find(file).err()
+    fault_in(file, &[])
 }
 
-fn find(file: &[u8]) -> Result<(), Fault> {
+/// The same for a file made from a text, in the text's own names and places.
+pub fn fault_in(file: &[u8], spots: &[Vec<Spot>]) -> Option<Fault> {
+    find(file, spots).err()
+}
+
+fn find(file: &[u8], spots: &[Vec<Spot>]) -> Result<(), Fault> {
     bytes::length(file)?;
     bytes::opening(file)?;
     bytes::layout(file)?;
-    let recipe = Parts::of(file);
+    let recipe = Parts {
+        spots,
+        ..Parts::of(file)
+    };
     entries::entries(&recipe)?;
     let terms = terms::exactly_one(&recipe)?;
     terms::limits(&recipe, &terms)?;
@@ -71,6 +81,7 @@ pub struct Parts<'a> {
     pub entries: Vec<Entry>,
     pub terms: Vec<&'a [u8]>,
     offsets: Vec<usize>,
+    spots: &'a [Vec<Spot>],
 }
 
 impl<'a> Parts<'a> {
@@ -83,7 +94,13 @@ impl<'a> Parts<'a> {
             entries: entries_of(table),
             terms,
             offsets: pairs.iter().map(|pair| pair.offset).collect(),
+            spots: &[],
         }
+    }
+
+    /// Where the bay's nodes stand in the text, if the file was made from one.
+    pub fn spots(&self, bay: usize) -> &'a [Spot] {
+        self.spots.get(bay).map_or(&[], Vec::as_slice)
     }
 
     /// Where the table begins.

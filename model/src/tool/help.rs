@@ -1,6 +1,6 @@
 //! What the tool says about itself.
 
-use crate::tool::problem::{message, Outcome, Problem};
+use crate::tool::problem::{Outcome, Problem};
 use std::ffi::OsString;
 use std::io::Write;
 
@@ -12,8 +12,10 @@ recipe shows, writes, runs and compares recipes for bays.
   recipe run FILE               the recipe, turn by turn
   recipe compare A B            two shared libraries on the same recipes and turns
   recipe help [COMMAND]         this, or more about a command
+  recipe --version              which tool this is, and whether the library is built in
 
-FILE may be - for standard input. The exit status is 0 if all went well, else 1.
+FILE may be - for standard input. The exit status is 0 if all went well, 1 for a refusal, a
+difference or a file that cannot be read or written, 2 for wrong usage.
 ";
 
 const SHOW: &str = "\
@@ -67,14 +69,16 @@ out. The run stops when no thread can move.
 ";
 
 const COMPARE: &str = "\
-recipe compare A B [--seed S] [--count N] [--progress]
+recipe compare A B [--seed S] [--count N] [--limit SECONDS] [--progress]
 
 Opens two shared libraries that offer the C interface, gives both the same recipes, images and
 turns, and compares every answer and every byte of the out buffers. Says \"same\", or shows the
-first difference in full, with the model's answer beside it; the exit status is then 1.
+first difference in full, with the model's answer beside it; the exit status is then 1. So it is
+when a library is stopped, ends the program or gives no answer in time; library and input are told.
 
   --seed S       other recipes (2006)
   --count N      so many recipes (20000), beside the examples
+  --limit S      at most S seconds for each call (10)
   --progress     tells on standard error how far it is; on a terminal it does so anyway
 
 A shared library from a static one:
@@ -110,13 +114,13 @@ pub fn command(words: &[OsString], out: &mut dyn Write) -> Outcome {
 
 /// A wrong use of the tool.
 pub fn usage(what: &str) -> Problem {
-    message(format!("{what}\n{GENERAL}"))
+    Problem::Usage(format!("{what}\n{GENERAL}"))
 }
 
 /// A wrong use of a command: what is wrong, and the command's first line.
 pub fn usage_of(command: &str, what: &str) -> Problem {
     let form = text_of(command).and_then(|text| text.lines().next());
-    message(format!(
+    Problem::Usage(format!(
         "{what}\nusage: {}\nmore: recipe help {command}",
         form.unwrap_or_default()
     ))

@@ -6,6 +6,8 @@ use std::io;
 pub enum Problem {
     /// A message for standard error, and exit status 1.
     Message(String),
+    /// The same for words that no command takes, and exit status 2.
+    Usage(String),
     /// Standard output takes no more; a closed pipe is no fault.
     Output(io::Error),
 }

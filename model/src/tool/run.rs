@@ -7,17 +7,12 @@ pub mod report;
 pub mod runner;
 
 use crate::answers::Implementation;
-#[cfg(not(feature = "library"))]
-use crate::answers::Model as Stepper;
-#[cfg(feature = "library")]
-use crate::ffi::Library as Stepper;
 use crate::limits;
 use crate::tool::arguments::{Arguments, Form};
-use crate::tool::faults::fault;
 use crate::tool::files;
+use crate::tool::judge::{Judge, Refusal};
 use crate::tool::problem::{message, Outcome, Problem};
 use crate::tool::progress::Progress;
-use crate::tool::refusals;
 use crate::tool::svg;
 use history::History;
 use image_view::ImageView;
@@ -85,19 +80,18 @@ fn order(given: &Arguments) -> Result<Order, Problem> {
 /// The number of bays and the starting image.
 fn load(path: &Path, recipe: &[u8]) -> Result<(usize, Vec<u8>), Problem> {
     let mut image = vec![0; limits::MAX_IMAGE];
-    let loaded = Stepper.load(recipe, &mut image).unwrap_or_default();
+    let loaded = Judge.load(recipe, &mut image).unwrap_or_default();
     if loaded.refusal == 0 {
         image.truncate(loaded.length as usize);
         return Ok((loaded.bays as usize, image));
     }
-    let number = loaded.refusal;
-    let cause = refusals::in_words(number);
-    let place = match fault(recipe).filter(|fault| fault.number == number) {
+    let refusal = Refusal::of(loaded.refusal, recipe, &[]);
+    let place = match &refusal.fault {
         Some(fault) => format!("; {}, byte {}: {}", fault.place, fault.offset, fault.found),
         None => String::new(),
     };
-    let name = path.display();
-    Err(message(format!("{name}: refused {number}: {cause}{place}")))
+    let (name, words) = (path.display(), refusal.in_words());
+    Err(message(format!("{name}: {words}{place}")))
 }
 
 /// The turns, printed one by one; then the end.
@@ -108,10 +102,9 @@ fn run(
     order: Order,
     progress: Progress,
 ) -> Result<History, Problem> {
-    let mut runner = Runner::new(&Stepper, image);
-    let mut history = History::default();
+    let mut runner = Runner::new(&Judge, image);
+    let mut history = History::start(bays, &runner.image);
     let start = ImageView(&runner.image).vents(bays);
-    history.note_vents(0, &start);
     writeln!(out, "{}", report::SIGNS)?;
     write!(out, "{}", report::heading(bays))?;
     write!(out, "{}", report::line(0, None, "loaded", &start))?;
@@ -144,8 +137,7 @@ fn take_turns<I: Implementation>(
         };
         let answer = runner.turn(thread);
         let vents = ImageView(&runner.image).vents(bays);
-        history.note_vents(turn, &vents);
-        history.note_answer(turn, thread, answer);
+        history.note_turn(turn, thread, answer, &runner.image);
         let line = report::line(turn, Some(thread), &answer.to_string(), &vents);
         write!(out, "{line}")?;
         progress.say(|| format!("turn {turn} of {turns}"));

@@ -5,10 +5,10 @@ pub mod remains;
 use crate::format::hexadecimal;
 use crate::table::Table;
 use crate::tool::arguments::Form;
-use crate::tool::faults::{self, fault, Fault, Parts, Place};
+use crate::tool::faults::{self, Parts, Place};
 use crate::tool::files;
+use crate::tool::judge::{self, Refusal};
 use crate::tool::problem::{message, Outcome};
-use crate::tool::refusals;
 use crate::tool::text::layout::laid_out;
 use crate::tool::text::printer::Printer;
 use crate::tool::text::spelling::{Spelling, ASCII, UNICODE};
@@ -36,22 +36,19 @@ pub fn command(words: &[OsString], out: &mut dyn Write) -> Outcome {
     };
     let name = path.display().to_string();
     out.write_all(shown(&name, &file, spelling).as_bytes())?;
-    match fault(&file) {
+    match judge::refusal(&file) {
         None => Ok(()),
-        Some(fault) => Err(message(format!("{name}: refused {}", fault.number))),
+        Some(refusal) => Err(message(format!("{name}: {}", refusal.short()))),
     }
 }
 
 /// The file as text, with what is known of it in lines that `write` reads over.
 pub fn shown(name: &str, file: &[u8], spelling: &'static Spelling) -> String {
     let parts = Parts::of(file);
-    let mut text = match fault(file) {
-        Some(fault) => told(name, &fault) + &first_bytes(file, &parts),
-        None => String::new(),
+    let mut text = match judge::refusal(file) {
+        Some(refusal) => told(name, &refusal) + &first_bytes(file, &parts),
+        None => format!("# {}: accepted by {}\n", one_line(name), judge::NAME),
     };
-    if text.is_empty() {
-        text = format!("# {}: accepted\n", one_line(name));
-    }
     if parts.entries.is_empty() {
         return text;
     }
@@ -88,16 +85,18 @@ fn one_line(name: &str) -> String {
 }
 
 /// The refusal, its place and what was found.
-pub fn told(name: &str, fault: &Fault) -> String {
-    let name = one_line(name);
-    let number = fault.number;
-    let cause = refusals::in_words(number);
+pub fn told(name: &str, refusal: &Refusal) -> String {
+    let first = format!("# {}: {}\n", one_line(name), refusal.in_words());
+    let fault = match &refusal.fault {
+        Some(fault) => fault,
+        None => return first + "# where: this tool finds no place for it\n",
+    };
     let offset = match fault.place {
         Place::File => String::new(),
         _ => format!(", byte {} of the file", fault.offset),
     };
     let (place, found) = (&fault.place, &fault.found);
-    format!("# {name}: refused {number}: {cause}\n# where: {place}{offset}\n# found: {found}\n")
+    format!("{first}# where: {place}{offset}\n# found: {found}\n")
 }
 
 /// `types`, then a line for each entry; after it the type in full, where that says more.

@@ -1,10 +1,11 @@
 //! `recipe write`: a text as a file of bytes.
 
 use crate::tool::arguments::Form;
-use crate::tool::faults::{fault, Fault, Place};
+use crate::tool::faults::Place;
 use crate::tool::files;
+use crate::tool::judge::{self, Refusal};
 use crate::tool::problem::{message, Outcome, Problem};
-use crate::tool::refusals;
+use crate::tool::text::hints;
 use crate::tool::text::parser::{read, Read};
 use crate::tool::text::tokens::{Position, TextError};
 use std::ffi::OsString;
@@ -26,8 +27,8 @@ pub fn command(words: &[OsString], out: &mut dyn Write) -> Outcome {
         None => beside(from)?,
     };
     let bytes = files::read(from)?;
-    let made = made(&bytes, given.has("--even-refused"));
-    let made = made.map_err(|text| message(format!("{}{text}", from.display())))?;
+    let made = judged(&bytes, given.has("--even-refused"));
+    let (made, verdict) = made.map_err(|text| message(format!("{}{text}", from.display())))?;
     if to == Path::new("-") {
         out.write_all(&made)?;
         return Ok(());
@@ -37,7 +38,7 @@ pub fn command(words: &[OsString], out: &mut dyn Write) -> Outcome {
         return Err(message(text));
     }
     files::write(&to, given.has("--force"), &made)?;
-    writeln!(out, "{}: {} bytes", to.display(), made.len())?;
+    writeln!(out, "{}: {} bytes, {verdict}", to.display(), made.len())?;
     Ok(())
 }
 
@@ -51,13 +52,19 @@ fn beside(from: &Path) -> Result<PathBuf, Problem> {
 
 /// The bytes of a text; an error begins with its place, to stand after the file's name.
 pub fn made(text: &[u8], even_refused: bool) -> Result<Vec<u8>, String> {
-    let text = std::str::from_utf8(text)
-        .map_err(|error| format!(": no text in UTF-8: byte {}", error.valid_up_to()))?;
+    judged(text, even_refused).map(|(file, _)| file)
+}
+
+/// The same with the verdict in words.
+fn judged(text: &[u8], even_refused: bool) -> Result<(Vec<u8>, String), String> {
+    let no_text = |at| format!(": {}", hints::no_text(text, at));
+    let text = std::str::from_utf8(text).map_err(|error| no_text(error.valid_up_to()))?;
     let read = read(text).map_err(|error| placed(&error))?;
     let file = read.recipe.write();
-    match fault(&file) {
-        Some(fault) if !even_refused => Err(refused(&read, &fault)),
-        _ => Ok(file),
+    match judge::refusal_in(&file, &read.nodes) {
+        Some(refusal) if !even_refused => Err(refused(&read, &refusal)),
+        Some(refusal) => Ok((file, refusal.short())),
+        None => Ok((file, format!("accepted by {}", judge::NAME))),
     }
 }
 
@@ -67,12 +74,19 @@ fn placed(error: &TextError) -> String {
 }
 
 /// The refusal, at the place in the text.
-fn refused(read: &Read, fault: &Fault) -> String {
-    let cause = refusals::in_words(fault.number);
-    let message = format!("refused {}: {cause}; {}", fault.number, fault.found);
+fn refused(read: &Read, refusal: &Refusal) -> String {
+    let words = refusal.in_words();
+    let fault = match &refusal.fault {
+        Some(fault) => fault,
+        None => return format!(": {words}"),
+    };
+    let message = format!("{words}; {}", fault.found);
     let position = match &fault.place {
         Place::Entry(number) => read.entries.get(*number),
-        Place::Node(bay, at, _) => read.nodes.get(*bay).and_then(|nodes| nodes.get(*at)),
+        Place::Node(bay, at, _) => {
+            let spot = read.nodes.get(*bay).and_then(|spots| spots.get(*at));
+            spot.map(|spot| &spot.position)
+        }
         Place::File | Place::Opening | Place::Pair(_) => None,
     };
     match position {

@@ -29,9 +29,18 @@ pub fn standard_error(output: &Output) -> String {
 
 /// Refused with exit status 1, nothing but a message; its text.
 pub fn complaint(words: &[&str]) -> String {
+    ended_with(1, words)
+}
+
+/// The same for words that no command takes: exit status 2.
+pub fn wrong_usage(words: &[&str]) -> String {
+    ended_with(2, words)
+}
+
+fn ended_with(status: i32, words: &[&str]) -> String {
     let output = recipe(words);
     let text = standard_error(&output);
-    assert_eq!(output.status.code(), Some(1), "{words:?}: {text}");
+    assert_eq!(output.status.code(), Some(status), "{words:?}: {text}");
     assert!(text.starts_with("recipe: "), "{words:?}: {text}");
     assert!(!text.contains("panicked"), "{words:?}: {text}");
     text

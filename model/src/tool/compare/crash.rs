@@ -1,9 +1,13 @@
-//! A library that is stopped by a signal: what it was called with is told before the tool ends.
-//! Only what a signal's handler may do is done in it: numbers, and `write`.
+//! A library that is stopped by a signal, gives no answer in time or ends the program: what it was
+//! called with is told before the tool ends. Only what a signal's handler may do is done for it:
+//! numbers, and `write`.
 
 use crate::tool::terminal::STANDARD_ERROR;
 use std::os::raw::{c_int, c_void};
+use std::os::unix::ffi::OsStrExt;
+use std::path::Path;
 use std::sync::atomic::{AtomicPtr, AtomicU64, AtomicUsize, Ordering};
+use std::time::{Duration, Instant};
 
 /// ILL, ABRT, BUS, FPE, SEGV.
 const SIGNALS: [c_int; 5] = [4, 6, 7, 8, 11];
@@ -23,6 +27,7 @@ extern "C" {
     fn sigaction(signal: c_int, action: *const Action, old: *mut c_void) -> c_int;
     fn write(file: c_int, bytes: *const c_void, count: usize) -> isize;
     fn _exit(status: c_int) -> !;
+    fn atexit(work: extern "C" fn()) -> c_int;
 }
 
 /// Bytes that stay where they are while a library runs.
@@ -46,6 +51,16 @@ impl Lent {
         self.length.store(bytes.len(), Ordering::SeqCst);
     }
 
+    /// The bytes themselves, on standard error.
+    fn say(&self) {
+        let length = self.length.load(Ordering::SeqCst);
+        let start = self.start.load(Ordering::SeqCst);
+        if !start.is_null() {
+            // SAFETY: a name that stays for ever.
+            say_bytes(unsafe { std::slice::from_raw_parts(start, length) });
+        }
+    }
+
     /// Two digits a byte, on standard error.
     fn tell(&self, word: &str) {
         let length = self.length.load(Ordering::SeqCst);
@@ -64,14 +79,48 @@ impl Lent {
     }
 }
 
+/// The number of the call that is under way; 0 between calls.
+static UNDER_WAY: AtomicU64 = AtomicU64::new(0);
+static PATHS: [Lent; 2] = [Lent::none(), Lent::none()];
 static LIBRARY: AtomicUsize = AtomicUsize::new(0);
 static THREAD: AtomicU64 = AtomicU64::new(0);
 static ROOM: AtomicUsize = AtomicUsize::new(0);
 static CALL: Lent = Lent::none();
 static INPUT: Lent = Lent::none();
 
-/// From now on such a signal is told.
-pub fn watch() {
+/// How often it is looked whether a call is still the same.
+const LOOK: Duration = Duration::from_millis(50);
+
+/// From now on each of these is told, of the libraries with these paths.
+pub fn watch(paths: [&Path; 2], limit: u64) {
+    for (lent, path) in PATHS.iter().zip(paths) {
+        lent.set(Box::leak(path.as_os_str().as_bytes().into()));
+    }
+    watch_signals();
+    // SAFETY: a function that stays for ever.
+    unsafe { atexit(tell_end) };
+    std::thread::spawn(move || watch_time(limit));
+}
+
+/// Ends the program if a call is under way for longer than that many seconds.
+fn watch_time(limit: u64) {
+    let (mut call, mut since) = (0, Instant::now());
+    loop {
+        std::thread::sleep(LOOK);
+        let now = UNDER_WAY.load(Ordering::SeqCst);
+        if now == 0 || now != call {
+            (call, since) = (now, Instant::now());
+        } else if since.elapsed() >= Duration::from_secs(limit) {
+            say_library();
+            say(" gave no answer within ");
+            say_number(limit);
+            say(" s");
+            tell_call();
+        }
+    }
+}
+
+fn watch_signals() {
     for signal in SIGNALS {
         let action = Action {
             handler: tell,
@@ -92,24 +141,48 @@ pub fn note_call(call: &'static str, input: &[u8], thread: u64, room: usize) {
     ROOM.store(room, Ordering::SeqCst);
 }
 
-/// Which library is called: 0 for A, 1 for B.
+/// Which library is called now: 0 for A, 1 for B.
 pub fn note_library(number: usize) {
+    static CALLS: AtomicU64 = AtomicU64::new(0);
     LIBRARY.store(number, Ordering::SeqCst);
+    let call = CALLS.fetch_add(1, Ordering::SeqCst) + 1;
+    UNDER_WAY.store(call, Ordering::SeqCst);
+}
+
+/// Both have answered.
+pub fn note_end() {
+    UNDER_WAY.store(0, Ordering::SeqCst);
 }
 
 extern "C" fn tell(signal: c_int) {
-    let library = LIBRARY.load(Ordering::SeqCst);
-    say("recipe: ");
-    say(if library == 0 { "A" } else { "B" });
+    say_library();
     say(" was stopped by signal ");
     say_number(signal as u64);
-    say(" in ");
-    let call = CALL.start.load(Ordering::SeqCst);
-    let length = CALL.length.load(Ordering::SeqCst);
-    if !call.is_null() {
-        // SAFETY: the name of a call, which stays for ever.
-        say_bytes(unsafe { std::slice::from_raw_parts(call, length) });
+    tell_call()
+}
+
+/// A library may end the program, which then would look as if all had gone well.
+extern "C" fn tell_end() {
+    if UNDER_WAY.load(Ordering::SeqCst) != 0 {
+        say_library();
+        say(" ended the program");
+        tell_call()
     }
+}
+
+/// "recipe: B (other.so)"
+fn say_library() {
+    let library = LIBRARY.load(Ordering::SeqCst);
+    say("recipe: ");
+    say(if library == 0 { "A (" } else { "B (" });
+    PATHS[library].say();
+    say(")");
+}
+
+/// The call that is under way; then the program ends.
+fn tell_call() -> ! {
+    say(" in ");
+    CALL.say();
     say(" (thread ");
     say_number(THREAD.load(Ordering::SeqCst));
     say(", out buffer of ");

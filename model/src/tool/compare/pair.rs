@@ -6,8 +6,8 @@ use crate::comparison::Counts;
 use crate::guard::Guarded;
 use crate::limits;
 use crate::tool::compare::crash;
+use crate::tool::compare::words::InWords;
 use crate::tool::shared_library::SharedLibrary;
-use std::fmt::Debug;
 
 /// Room for the longest recipe or image that the generator makes.
 const INPUT_ROOM: usize = 1 << 17;
@@ -145,11 +145,13 @@ fn both<T>(a: impl FnOnce() -> T, b: impl FnOnce() -> T) -> (T, T) {
     crash::note_library(0);
     let a = a();
     crash::note_library(1);
-    (a, b())
+    let b = b();
+    crash::note_end();
+    (a, b)
 }
 
-fn texts<T: Debug>(a: T, b: T, model: T) -> [String; 3] {
-    [a, b, model].map(|answer| format!("{answer:?}"))
+fn texts<T: InWords>(a: T, b: T, model: T) -> [String; 3] {
+    [a, b, model].map(|answer| answer.in_words())
 }
 
 /// The bytes that an answer says were written, if there are so many.

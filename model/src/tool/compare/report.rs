@@ -14,7 +14,7 @@ pub fn in_full(difference: &Difference) -> String {
     }
     let names = ["A", "B", "the model"];
     for (name, answer) in names.iter().zip(&difference.answers) {
-        let _ = writeln!(text, "{name} answers {answer}");
+        let _ = writeln!(text, "{name} answers: {answer}");
     }
     if let Some(at) = first_different(&difference.outs[0], &difference.outs[1]) {
         let bytes: Vec<String> = names

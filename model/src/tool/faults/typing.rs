@@ -3,6 +3,7 @@
 use crate::causes;
 use crate::nodes::{end_of_term, Node};
 use crate::table::Table;
+use crate::tool::faults::marks;
 use crate::tool::faults::terms::at_node;
 use crate::tool::faults::{Fault, Parts};
 use crate::tool::text::node_types::function;
@@ -53,7 +54,7 @@ fn unfit_constant(constant: Constant, given: &str) -> String {
 pub fn agree(recipe: &Parts, terms: &[Vec<Node>]) -> Result<(), Fault> {
     let texts = TypeTexts::new(&recipe.entries, &UNICODE);
     for (bay, nodes) in terms.iter().enumerate() {
-        let printer = Printer::new(nodes, &texts);
+        let printer = Printer::in_text(nodes, &texts, recipe.spots(bay));
         let disagrees = |at: &usize| disagreement(&printer, *at).is_some();
         let mut found = (0..nodes.len()).find(disagrees);
         while let Some(at) = found {
@@ -83,7 +84,8 @@ fn body_disagrees(printer: &Printer, at: usize, whole: u8) -> Option<(usize, Str
         return None;
     }
     let (due, found) = (printer.texts.told(result), printer.texts.told(body));
-    let text = format!("the lambda's body should be {due}, and is {found}");
+    let marks = marks::to_change(printer, at + 1, result);
+    let text = format!("the lambda's body should be {due}, and is {found}{marks}");
     Some((at + 1, text))
 }
 
@@ -104,8 +106,9 @@ fn argument_disagrees(printer: &Printer, at: usize) -> Option<(usize, String)> {
         return None;
     }
     let (due, found) = (printer.texts.told(parameter), printer.texts.told(argument));
+    let marks = marks::to_change(printer, place, parameter);
     let text = format!(
-        "the argument should be {due}, and {} is {found}",
+        "the argument should be {due}, and {} is {found}{marks}",
         term(place)
     );
     Some((place, text))

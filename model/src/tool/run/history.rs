@@ -1,6 +1,7 @@
 //! What a picture of a run needs: when vents changed, and how each thread spent its time.
 
-use crate::tool::run::image_view::Vent;
+use crate::rules::{HANDLE_BIND, THREAD_NEW};
+use crate::tool::run::image_view::{ImageView, Vent};
 use crate::tool::run::runner::Answer;
 use std::collections::BTreeMap;
 
@@ -28,6 +29,8 @@ pub struct History {
     /// For each bay the turns after which its vent changed.
     pub vents: Vec<Vec<(u64, Vent)>>,
     pub threads: BTreeMap<u64, Vec<Span>>,
+    /// For each thread the bay that it came from.
+    pub bay_of: BTreeMap<u64, usize>,
     /// Each rule with its turn and thread.
     pub rules: Vec<(u64, u64, u32)>,
 }
@@ -35,8 +38,39 @@ pub struct History {
 /// Rules are told one by one in runs up to this length.
 pub const RULES_TOLD: u64 = 60;
 
+/// The rules after which there is a thread more: a new one, or a future that is bound.
+const MAKE_THREADS: [u8; 2] = [THREAD_NEW, HANDLE_BIND];
+
 impl History {
-    pub fn note_vents(&mut self, turn: u64, vents: &[Vent]) {
+    /// The history of a run that begins with that image.
+    pub fn start(bays: usize, image: &[u8]) -> History {
+        let mut history = History::default();
+        history.note_vents(0, &ImageView(image).vents(bays));
+        let own = ImageView(image).threads().into_iter().zip(0..bays);
+        history.bay_of.extend(own);
+        history
+    }
+
+    /// A turn of that thread, and the image after it.
+    pub fn note_turn(&mut self, turn: u64, thread: u64, answer: Answer, image: &[u8]) {
+        self.note_vents(turn, &ImageView(image).vents(self.vents.len()));
+        self.note_answer(turn, thread, answer);
+        let makes = |rule: u32| MAKE_THREADS.iter().any(|made| u32::from(*made) == rule);
+        if matches!(answer, Answer::Rule(rule) if makes(rule)) {
+            self.note_threads(thread, &ImageView(image).threads());
+        }
+    }
+
+    /// A new thread comes from the bay of the thread that made it.
+    fn note_threads(&mut self, maker: u64, threads: &[u64]) {
+        if let Some(bay) = self.bay_of.get(&maker).copied() {
+            for thread in threads {
+                self.bay_of.entry(*thread).or_insert(bay);
+            }
+        }
+    }
+
+    fn note_vents(&mut self, turn: u64, vents: &[Vent]) {
         self.turns = turn;
         self.vents.resize(vents.len(), Vec::new());
         for (changes, vent) in self.vents.iter_mut().zip(vents) {
@@ -46,7 +80,7 @@ impl History {
         }
     }
 
-    pub fn note_answer(&mut self, turn: u64, thread: u64, answer: Answer) {
+    fn note_answer(&mut self, turn: u64, thread: u64, answer: Answer) {
         let state = match answer {
             Answer::Rule(rule) => {
                 if turn <= RULES_TOLD {

@@ -1,8 +1,10 @@
 //! What each thread did over the turns, and for which name it waited.
 
+use crate::tool::refusals;
 use crate::tool::run::history::{History, Span, State};
 use crate::tool::svg::scale::Scale;
 use crate::tool::svg::sheet::{Anchor, Sheet};
+use crate::tool::svg::vents;
 
 const ROW: f64 = 22.0;
 const BAR: f64 = 16.0;
@@ -12,70 +14,131 @@ const MOVING: &str = "#a6cbe3";
 const WAITING: &str = "#ffd27f";
 const REFUSED: &str = "#f4a6a0";
 const DONE: &str = "#e4e4e4";
+/// The least width of a refusal, which may come in the last of many turns.
+const LEAST_REFUSED: f64 = 6.0;
+/// Refusals that end this near to the last one drawn are left out.
+const NEAR: f64 = 1.0;
+/// How many rules Fig. 5 has.
+const RULES: u32 = 7;
 
 pub fn height(history: &History) -> f64 {
     ROW * history.threads.len().max(1) as f64
 }
 
 pub fn draw(sheet: &mut Sheet, top: f64, scale: &Scale, history: &History) {
-    sheet.text((scale.left - 8.0, top - 10.0), Anchor::End, 12, "thread");
+    sheet.text(
+        (scale.left - 8.0, top - 10.0),
+        Anchor::End,
+        12,
+        "thread, bay",
+    );
     let bottom = top + height(history);
     sheet.line((scale.left, top), (scale.left, bottom), "stroke=\"#222\"");
     for (row, (thread, spans)) in history.threads.iter().enumerate() {
         let y = top + ROW * row as f64 + (ROW - BAR) / 2.0;
-        let label = thread.to_string();
-        sheet.text((scale.left - 8.0, y + 12.0), Anchor::End, 12, &label);
+        draw_label(sheet, y, scale, history, *thread);
         draw_spans(sheet, y, scale, *thread, spans);
         draw_rules(sheet, y, scale, history, *thread);
+        draw_end(sheet, y, scale, spans);
     }
     scale.axis(sheet, bottom);
-    legend(sheet, top, scale);
+    legend(sheet, bottom, scale);
+}
+
+/// The thread's number, and the bay that it came from with the bay's line.
+fn draw_label(sheet: &mut Sheet, y: f64, scale: &Scale, history: &History, thread: u64) {
+    let bay = match history.bay_of.get(&thread) {
+        Some(bay) => *bay,
+        None => {
+            let label = thread.to_string();
+            sheet.text((scale.left - 8.0, y + 12.0), Anchor::End, 12, &label);
+            return;
+        }
+    };
+    let label = format!("{thread}, bay {bay}");
+    sheet.text((scale.left - 30.0, y + 12.0), Anchor::End, 12, &label);
+    let style = vents::style(bay, history.vents.len());
+    let middle = y + BAR / 2.0;
+    let (from, to) = (scale.left - 26.0, scale.left - 6.0);
+    sheet.line((from, middle), (to, middle), &style);
 }
 
 /// The stretches of a thread; those that end in the same tenth of a pixel are one.
 fn draw_spans(sheet: &mut Sheet, y: f64, scale: &Scale, thread: u64, spans: &[Span]) {
-    let mut drawn = f64::MIN;
-    for span in spans {
-        let (from, to) = (scale.x(span.from), scale.x(span.to));
-        if to - drawn < 0.1 {
+    let (mut drawn, mut refused) = (f64::MIN, f64::MIN);
+    for (place, span) in spans.iter().enumerate() {
+        let (mut from, to) = (scale.x(span.from), scale.x(span.to));
+        let is_refusal = matches!(span.state, State::Refused(_));
+        let is_last_refusal = is_refusal && place + 1 == spans.len();
+        let shown = is_last_refusal || is_refusal && to - refused >= NEAR;
+        if to - drawn < 0.1 && !shown {
             continue;
         }
         drawn = to;
-        let (fill, label, words) = match span.state {
-            State::Moving => (MOVING, String::new(), "moves".to_owned()),
-            State::Done => (DONE, "done".to_owned(), "is done".to_owned()),
-            State::Waiting(name) => (WAITING, name.to_string(), format!("waits for name {name}")),
-            State::Refused(number) => (REFUSED, number.to_string(), format!("refused {number}")),
-        };
-        let words = format!(
-            "thread {thread} {words}, turns {} to {}",
-            span.from,
-            span.to - 1
-        );
-        sheet.bar((from, y), (to - from, BAR), fill, &words);
-        let label = fitting(span.state, &label, to - from);
-        if !label.is_empty() {
-            let middle = (from + to) / 2.0;
-            sheet.text((middle, y + 12.0), Anchor::Middle, 11, &label);
+        if is_refusal {
+            refused = to;
+            from = from.min(to - LEAST_REFUSED).max(scale.left);
         }
+        draw_span(sheet, (from, to, y), thread, span);
+    }
+}
+
+fn draw_span(sheet: &mut Sheet, (from, to, y): (f64, f64, f64), thread: u64, span: &Span) {
+    let (fill, words) = match span.state {
+        State::Moving => (MOVING, "moves".to_owned()),
+        State::Done => (DONE, "is done".to_owned()),
+        State::Waiting(name) => (WAITING, format!("waits for name {name}")),
+        State::Refused(number) => (REFUSED, format!("refused {number}")),
+    };
+    let last = span.to - 1;
+    let words = format!("thread {thread} {words}, turns {} to {last}", span.from);
+    sheet.bar((from, y), (to - from, BAR), fill, &words);
+    let label = fitting(span.state, to - from);
+    if !label.is_empty() {
+        let middle = (from + to) / 2.0;
+        sheet.text((middle, y + 12.0), Anchor::Middle, 11, &label);
+    }
+}
+
+/// The label of a bar, long and short.
+fn labels(state: State) -> (String, String) {
+    match state {
+        State::Moving => (String::new(), String::new()),
+        State::Done => ("done".to_owned(), "done".to_owned()),
+        State::Waiting(name) => (format!("waits for {name}"), name.to_string()),
+        State::Refused(number) => (format!("refused {number}"), number.to_string()),
     }
 }
 
 /// The longest label that has room in a bar of that width.
-fn fitting(state: State, short: &str, width: f64) -> String {
-    let long = match state {
-        State::Waiting(name) => format!("waits for {name}"),
-        State::Refused(number) => format!("refused {number}"),
-        State::Moving | State::Done => short.to_owned(),
+fn fitting(state: State, width: f64) -> String {
+    let (long, short) = labels(state);
+    let fits = |text: &String| CHARACTER * text.chars().count() as f64 + 2.0 <= width;
+    let found = [long, short].into_iter().find(fits);
+    found.unwrap_or_default()
+}
+
+/// How a thread stands at the end, to the right of a bar that has no room for it.
+fn draw_end(sheet: &mut Sheet, y: f64, scale: &Scale, spans: &[Span]) {
+    let last = match spans.last() {
+        Some(last) if last.to == scale.end => last,
+        _ => return,
     };
-    let fits = |text: &&str| CHARACTER * text.chars().count() as f64 + 2.0 <= width;
-    let found = [long.as_str(), short].into_iter().find(fits);
-    found.unwrap_or_default().to_owned()
+    let (long, _) = labels(last.state);
+    if fitting(last.state, scale.x(last.to) - scale.x(last.from)) != long {
+        let right = scale.left + scale.width + 8.0;
+        sheet.text((right, y + 12.0), Anchor::Start, 11, &long);
+    }
+}
+
+/// Whether a rule's number has room at its turn.
+fn rules_are_drawn(scale: &Scale) -> bool {
+    scale.turn_width() >= CHARACTER + 3.0
 }
 
 /// In a short run each rule's number stands at its turn.
 fn draw_rules(sheet: &mut Sheet, y: f64, scale: &Scale, history: &History, thread: u64) {
-    if scale.turn_width() < CHARACTER + 3.0 {
+    if !rules_are_drawn(scale) {
         return;
     }
     for (turn, _, rule) in history.rules.iter().filter(|(_, own, _)| *own == thread) {
@@ -84,17 +147,25 @@ fn draw_rules(sheet: &mut Sheet, y: f64, scale: &Scale, history: &History, threa
     }
 }
 
-fn legend(sheet: &mut Sheet, top: f64, scale: &Scale) {
-    let left = scale.left + scale.width + 20.0;
+/// Below the axis: the colours, and where rules have numbers, their names.
+fn legend(sheet: &mut Sheet, bottom: f64, scale: &Scale) {
     let items = [
         (MOVING, "moves (the rule)"),
         (WAITING, "waits (for the name)"),
         (REFUSED, "refused (the number)"),
         (DONE, "done"),
     ];
-    for (line, (fill, words)) in items.iter().enumerate() {
-        let y = top - 30.0 + 20.0 * line as f64;
-        sheet.bar((left, y), (28.0, 12.0), fill, words);
-        sheet.text((left + 36.0, y + 11.0), Anchor::Start, 12, words);
+    let wide = scale.width / items.len() as f64;
+    for (place, (fill, words)) in items.iter().enumerate() {
+        let left = scale.left + wide * place as f64;
+        sheet.bar((left, bottom + 56.0), (28.0, 12.0), fill, words);
+        let at = (left + 36.0, bottom + 67.0);
+        sheet.text(at, Anchor::Start, 12, words);
+    }
+    if rules_are_drawn(scale) {
+        let rules = (1..=RULES).map(|number| format!("{number} {}", refusals::rule(number)));
+        let rules: Vec<String> = rules.collect();
+        let words = format!("rules: {}", rules.join(" · "));
+        sheet.text((scale.left, bottom + 92.0), Anchor::Start, 12, &words);
     }
 }

@@ -1,5 +1,6 @@
 //! The vents over the turns: one line a bay.
 
+use crate::limits::{MAX_BAYS, MAX_NUM};
 use crate::tool::run::history::History;
 use crate::tool::run::image_view::Vent;
 use crate::tool::run::report::percent;
@@ -9,10 +10,19 @@ use crate::tool::svg::sheet::{Anchor, Sheet};
 pub const HEIGHT: f64 = 320.0;
 const LEGEND_LINE: f64 = 18.0;
 
-/// Eight colours that can be told apart on white; the bays from 8 on have them dashed.
-const COLOURS: [&str; 8] = [
+/// The space above 100 percent and below 0, for lines that stand side by side.
+const MARGIN: f64 = 18.0;
+/// How far equal lines stand apart, where there is room.
+const APART: f64 = 3.0;
+/// The widest line.
+const WIDEST: f64 = 2.0;
+
+/// A colour for each bay; the bays from the ninth on are dashed too.
+const COLOURS: [&str; MAX_BAYS] = [
     "#1f77b4", "#d62728", "#2ca02c", "#9467bd", "#e07b00", "#8c564b", "#d633a6", "#444444",
+    "#00a3b4", "#7f0000", "#7d9a00", "#0b3d91", "#c29b00", "#006b54", "#ff6f91", "#5c7cfa",
 ];
+const DASHED_FROM: usize = 8;
 
 pub fn draw(sheet: &mut Sheet, top: f64, scale: &Scale, history: &History) {
     grid(sheet, top, scale);
@@ -24,7 +34,20 @@ pub fn draw(sheet: &mut Sheet, top: f64, scale: &Scale, history: &History) {
 }
 
 fn y(top: f64, opening: u16) -> f64 {
-    top + HEIGHT - HEIGHT * f64::from(opening) / 1_000.0
+    let whole = HEIGHT - 2.0 * MARGIN;
+    top + HEIGHT - MARGIN - whole * f64::from(opening) / f64::from(MAX_NUM)
+}
+
+/// How far the lines of that many bays stand apart.
+fn apart(bays: usize) -> f64 {
+    let room = 2.0 * (MARGIN - WIDEST);
+    APART.min(room / bays.max(1) as f64)
+}
+
+/// How far a bay's line stands below its opening, so that no line hides an equal one.
+fn lane(bay: usize, bays: usize) -> f64 {
+    let middle = bays.saturating_sub(1) as f64 / 2.0;
+    (bay as f64 - middle) * apart(bays)
 }
 
 fn grid(sheet: &mut Sheet, top: f64, scale: &Scale) {
@@ -39,15 +62,15 @@ fn grid(sheet: &mut Sheet, top: f64, scale: &Scale) {
     sheet.line((left, top), (left, top + HEIGHT), "stroke=\"#222\"");
 }
 
-/// Lower bays have wider lines, so that lines on top of each other can all be seen.
-fn style(bay: usize, bays: usize) -> String {
+/// No wider than the lines stand apart.
+pub fn style(bay: usize, bays: usize) -> String {
     let colour = COLOURS[bay % COLOURS.len()];
-    let dashes = if bay < COLOURS.len() {
+    let dashes = if bay < DASHED_FROM {
         ""
     } else {
-        " stroke-dasharray=\"7 4\""
+        " stroke-dasharray=\"8 3\""
     };
-    let width = 2.0 + 4.0 * (bays - 1 - bay) as f64 / bays.max(8) as f64;
+    let width = WIDEST.min(apart(bays));
     format!("stroke=\"{colour}\" stroke-width=\"{width:.1}\"{dashes}")
 }
 
@@ -63,7 +86,8 @@ fn dotted(bay: usize) -> String {
 /// A stair for each stretch in which the opening is known; where it is awaited, a ring and dots at
 /// the last known opening.
 fn bay_line(sheet: &mut Sheet, top: f64, scale: &Scale, history: &History, bay: usize) {
-    let style = style(bay, history.vents.len());
+    let bays = history.vents.len();
+    let (style, lane) = (style(bay, bays), lane(bay, bays));
     let changes = &history.vents[bay];
     let mut points: Vec<(f64, f64)> = Vec::new();
     for (at, (turn, vent)) in changes.iter().enumerate() {
@@ -73,11 +97,11 @@ fn bay_line(sheet: &mut Sheet, top: f64, scale: &Scale, history: &History, bay: 
             .map_or(history.turns + 1, |(turn, _)| *turn);
         match vent.opening() {
             Some(opening) => {
-                let height = y(top, opening);
+                let height = y(top, opening) + lane;
                 points.extend([(from, height), (scale.x(next), height)]);
             }
             None => {
-                let before = points.last().copied().unwrap_or((from, y(top, 0)));
+                let before = points.last().copied().unwrap_or((from, y(top, 0) + lane));
                 flush(sheet, &mut points, &style);
                 let after = (scale.x(next), before.1);
                 sheet.line(before, after, &dotted(bay));
@@ -123,6 +147,11 @@ fn legend(sheet: &mut Sheet, top: f64, scale: &Scale, history: &History) {
         };
         let label = format!("bay {bay}: {value}");
         sheet.text((left + 36.0, y + 4.0), Anchor::Start, 12, &label);
+    }
+    if history.vents.len() > 1 {
+        let y = top + 18.0 + LEGEND_LINE * (history.vents.len() + 1) as f64;
+        let words = "equal lines side by side";
+        sheet.text((left, y), Anchor::Start, 12, words);
     }
     let awaited = |(_, vent): &(u64, Vent)| vent.opening().is_none();
     if history.vents.iter().flatten().any(awaited) {

@@ -3,8 +3,10 @@
 use crate::format::Recipe;
 use crate::limits;
 use crate::nodes::Node;
+use crate::tool::text::hints;
 use crate::tool::text::numbering::Numbering;
 use crate::tool::text::spelling::UNICODE;
+use crate::tool::text::spot::Spot;
 use crate::tool::text::tokens::{tokens, Placed, Position, TextError, Token};
 use crate::tool::text::type_texts::TypeTexts;
 
@@ -17,7 +19,7 @@ pub struct Read {
     pub recipe: Recipe,
     /// Of the entries that the text lists.
     pub entries: Vec<Position>,
-    pub nodes: Vec<Vec<Position>>,
+    pub nodes: Vec<Vec<Spot>>,
 }
 
 /// The recipe that a text describes.
@@ -37,9 +39,9 @@ pub fn read(text: &str) -> Result<Read, TextError> {
     let mut terms = Vec::new();
     let mut nodes = Vec::new();
     while terms.is_empty() || parser.peek() != Token::End {
-        let (term, positions) = parser.bay(terms.len())?;
+        let (term, spots) = parser.bay(terms.len())?;
         terms.push(term);
-        nodes.push(positions);
+        nodes.push(spots);
     }
     let recipe = Recipe {
         entries: parser.types.entries,
@@ -91,10 +93,13 @@ impl<'t> Parser<'t> {
     }
 
     pub fn expected(&self, what: &str) -> TextError {
-        error(
-            self.position(),
-            format!("expected {what}, found {}", self.peek()),
-        )
+        let found = self.peek();
+        let hint = match found {
+            Token::Word(word) => hints::of_word(word),
+            _ => "",
+        };
+        let text = format!("expected {what}, found {found}{hint}");
+        error(self.position(), text)
     }
 
     pub fn expect(&mut self, wanted: Token) -> Result<(), TextError> {
@@ -146,7 +151,7 @@ impl<'t> Parser<'t> {
     }
 
     /// `bay N = term` or `bay N : type = term`
-    fn bay(&mut self, bay: usize) -> Result<(Vec<Node>, Vec<Position>), TextError> {
+    fn bay(&mut self, bay: usize) -> Result<(Vec<Node>, Vec<Spot>), TextError> {
         let here = self.position();
         if self.peek() != Token::Word("bay") {
             let due = format!("'bay {bay}'");

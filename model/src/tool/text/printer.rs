@@ -4,7 +4,8 @@ use crate::nodes::{end_of_term, Node};
 use crate::table::ONCE;
 use crate::tool::outline::Outline;
 use crate::tool::text::node_types::{function, node_types};
-use crate::tool::text::spelling::{constant_name, variable_name, SETTING};
+use crate::tool::text::spelling::{constant_name, SETTING};
+use crate::tool::text::spot::{self, Spot};
 use crate::tool::text::type_texts::TypeTexts;
 
 /// Where a term stands, for the brackets.
@@ -20,11 +21,18 @@ pub struct Printer<'a> {
     pub outline: Outline,
     pub types: Vec<Option<u8>>,
     pub texts: &'a TypeTexts<'a>,
+    /// Of the text that the term stands in, if it stands in one.
+    pub spots: &'a [Spot],
 }
 
 impl<'a> Printer<'a> {
     /// For a whole term.
     pub fn new(nodes: &'a [Node], texts: &'a TypeTexts<'a>) -> Printer<'a> {
+        Printer::in_text(nodes, texts, &[])
+    }
+
+    /// For a whole term of a text, by its names and with the types in full.
+    pub fn in_text(nodes: &'a [Node], texts: &'a TypeTexts<'a>, spots: &'a [Spot]) -> Printer<'a> {
         let outline = Outline::of(nodes);
         let types = node_types(texts.entries, nodes, &outline);
         Printer {
@@ -32,6 +40,7 @@ impl<'a> Printer<'a> {
             outline,
             types,
             texts,
+            spots,
         }
     }
 
@@ -83,26 +92,42 @@ impl<'a> Printer<'a> {
     /// not of the result's type, the type of the whole function: `λx[t5].`
     pub fn head(&self, at: usize) -> String {
         let lambda = self.texts.spelling.lambda;
-        let x = variable_name(self.outline.above[at].lambdas);
+        let x = spot::variable(self.spots, &self.outline, at);
         let whole = self.nodes[at].type_number().unwrap_or(0);
         match function(self.texts.entries, whole) {
             Some((p, q)) if self.types[at + 1] == Some(q) => {
                 let once = self.texts.entries[usize::from(whole)].kind == ONCE;
                 let mark = if once { "1 " } else { "" };
-                format!("{lambda}{mark}{x}:{}.", self.texts.name(p))
+                format!("{lambda}{mark}{x}:{}.", self.type_text(p))
             }
             _ => format!("{lambda}{x}[t{whole}]."),
         }
     }
 
+    /// A type as the text has it, or by its name.
+    fn type_text(&self, number: u8) -> String {
+        if self.spots.is_empty() {
+            return self.texts.name(number);
+        }
+        self.texts.told(number)
+    }
+
+    /// A constant's type as the text has it, or by its number.
+    fn bracketed(&self, number: u8) -> String {
+        if self.spots.is_empty() {
+            return format!("t{number}");
+        }
+        self.texts.told(number)
+    }
+
     fn leaf(&self, at: usize) -> String {
         match self.nodes[at] {
             Node::Variable(index) => match self.outline.binder(at, index) {
-                Some(lambda) => variable_name(self.outline.above[lambda].lambdas),
+                Some(lambda) => spot::variable(self.spots, &self.outline, lambda),
                 None => format!("@{index}"),
             },
             Node::Num(value) => value.to_string(),
-            Node::Constant(c, t) => format!("{}[t{t}]", constant_name(c)),
+            Node::Constant(c, t) => format!("{}[{}]", constant_name(c), self.bracketed(t)),
             Node::Name(bay) => format!("{SETTING}{bay}"),
             Node::Unit | Node::Lambda(_) | Node::Application => "unit".to_owned(),
         }

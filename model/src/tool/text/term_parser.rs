@@ -4,14 +4,16 @@
 use crate::limits;
 use crate::nodes::Node;
 use crate::table::{entry, MANY, ONCE};
+use crate::tool::text::hints;
 use crate::tool::text::node_types::function;
 use crate::tool::text::parser::{error, Parser};
 use crate::tool::text::spelling::{CONSTANTS, KEPT_WORDS, SETTING};
+use crate::tool::text::spot::Spot;
 use crate::tool::text::tokens::{Position, TextError, Token};
 
 /// A term's nodes with their places, and its type; or why its type cannot be told.
 pub struct Term {
-    pub nodes: Vec<(Node, Position)>,
+    pub nodes: Vec<(Node, Spot)>,
     pub type_number: Result<u8, TextError>,
 }
 
@@ -55,7 +57,7 @@ impl<'t> Parser<'t> {
             }
             (given, _) => given.unwrap_or(0),
         };
-        let mut nodes = vec![(Node::Lambda(whole), place)];
+        let mut nodes = vec![(Node::Lambda(whole), Spot::of_lambda(place, x))];
         nodes.extend(body.nodes);
         let type_number = self.in_table(whole, place);
         Ok(Term { nodes, type_number })
@@ -85,7 +87,7 @@ impl<'t> Parser<'t> {
             self.count_node(place)?;
             let argument = self.atom()?;
             let type_number = self.result_type(&applied, place);
-            let mut nodes = vec![(Node::Application, place)];
+            let mut nodes = vec![(Node::Application, Spot::of(place))];
             nodes.extend(applied.nodes);
             nodes.extend(argument.nodes);
             applied = Term { nodes, type_number };
@@ -123,7 +125,7 @@ impl<'t> Parser<'t> {
         self.count_node(place)?;
         let (node, type_number) = self.leaf(place)?;
         Ok(Term {
-            nodes: vec![(node, place)],
+            nodes: vec![(node, Spot::of(place))],
             type_number,
         })
     }
@@ -172,7 +174,8 @@ impl<'t> Parser<'t> {
             return Ok((Node::Name(bay), Ok(2)));
         }
         let inner = self.scope.iter().rev().position(|(x, _)| *x == word);
-        let index = inner.ok_or_else(|| error(place, format!("no λ here binds '{word}'")))?;
+        let unbound = || format!("no λ here binds '{word}'{}", hints::of_word(word));
+        let index = inner.ok_or_else(|| error(place, unbound()))?;
         let index = u8::try_from(index);
         let index = index.map_err(|_| error(place, format!("'{word}' is bound too far out")))?;
         self.advance();

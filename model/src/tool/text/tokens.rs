@@ -1,5 +1,6 @@
 //! The text as a list of words, numbers and signs, each with its line and column.
 
+use crate::tool::text::hints;
 use std::fmt;
 
 /// Both counted from 1, columns in characters.
@@ -93,7 +94,9 @@ fn tokens_of_line<'t>(
         let length = if first.is_whitespace() {
             first.len_utf8()
         } else {
-            let (token, length) = token_at(rest, first).ok_or_else(|| unknown(first, position))?;
+            let last = found.last().map(|placed| placed.token);
+            let (token, length) =
+                token_at(rest, first, last).ok_or_else(|| unknown(rest, first, position))?;
             found.push(Placed { token, position });
             length
         };
@@ -103,12 +106,14 @@ fn tokens_of_line<'t>(
     Ok(())
 }
 
-/// The token at the front of the text and its length in bytes.
-fn token_at(rest: &str, first: char) -> Option<(Token<'_>, usize)> {
+/// The token at the front of the text, after that last one, and its length in bytes.
+fn token_at<'t>(rest: &'t str, first: char, last: Option<Token>) -> Option<(Token<'t>, usize)> {
     let until = |inside: fn(char) -> bool| rest.find(|c| !inside(c)).unwrap_or(rest.len());
     if first.is_ascii_digit() {
         let length = until(|c| c.is_ascii_digit());
-        return Some((Token::Number(&rest[..length]), length));
+        // the mark of `λ1x` may stand before a name
+        let is_whole = last == Some(Token::Lambda) || hints::number(rest).is_none();
+        return is_whole.then_some((Token::Number(&rest[..length]), length));
     }
     if first.is_ascii_alphabetic() || first == '_' {
         let length = until(|c| c.is_ascii_alphanumeric() || c == '_' || c == '\'');
@@ -121,8 +126,12 @@ fn token_at(rest: &str, first: char) -> Option<(Token<'_>, usize)> {
     SIGNS.contains(first).then_some((Token::Sign(first), 1))
 }
 
-fn unknown(first: char, position: Position) -> TextError {
+fn unknown(rest: &str, first: char, position: Position) -> TextError {
+    if let Some(message) = hints::number(rest) {
+        return TextError { position, message };
+    }
     let message = match first {
+        hints::BYTE_ORDER_MARK => hints::WITHOUT_MARK.to_owned(),
         '→' | '-' => "expected an arrow: →1 or →ω (-1> or -w>)".to_owned(),
         _ => format!("there is no sign '{}' in a recipe", first.escape_default()),
     };

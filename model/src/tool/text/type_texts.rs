@@ -60,7 +60,7 @@ impl<'a> TypeTexts<'a> {
         })
     }
 
-    fn is_function(&self, number: u8) -> bool {
+    pub fn is_function(&self, number: u8) -> bool {
         let e = self.entries.get(usize::from(number));
         e.map_or(false, |e| e.kind == ONCE || e.kind == MANY)
     }
