@@ -9,10 +9,9 @@ PREFIX = /usr/local
 INSTALLED = $(DESTDIR)$(PREFIX)
 VERSION := $(shell sed -n 's/^.define FIKAREHU_VERSION "\(.*\)"$$/\1/p' include/fikarehu.h)
 
-# rt names the library after its crate; everything else knows it as libfikarehu.
-PROVED = target/staticlib/libhost.a
+# rt names the library after its crate.
+STATIC = target/staticlib/libfikarehu.a
 LIB = target/lib
-STATIC = $(LIB)/libfikarehu.a
 # programs that are linked with the shared library ask for this name
 SONAME = libfikarehu.so.0
 SHARED = $(LIB)/libfikarehu.so.$(VERSION)
@@ -46,12 +45,12 @@ run:
 
 # Proves what the static library needs, and builds it.
 library:
-	@$(call first_time,$(PROVED))
-	@$(call prove,staticlib host,library)
-	@mkdir -p $(LIB) && cp $(PROVED) $(STATIC)
+	@$(call first_time,$(STATIC))
+	@$(call prove,staticlib fikarehu,library)
 
 # The same as a shared library.
 shared: library
+	@mkdir -p $(LIB)
 	@$(CC) -shared -Wl,--whole-archive $(STATIC) -Wl,--no-whole-archive -Wl,-soname,$(SONAME) -Wl,-z,defs -o $(SHARED)
 	@ln -sf $(notdir $(SHARED)) $(LIB)/$(SONAME) && ln -sf $(SONAME) $(LIB)/libfikarehu.so
 

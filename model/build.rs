@@ -9,7 +9,7 @@ fn main() {
     }
     let folder = std::env::var("RATTLE_LIB")
         .unwrap_or_else(|_| format!("{}/../target/staticlib", env!("CARGO_MANIFEST_DIR")));
-    let library = format!("{folder}/libhost.a");
+    let library = format!("{folder}/libfikarehu.a");
     if !Path::new(&library).exists() {
         println!(
             "cargo:warning=there is no {library}: run `make library` in the repository, \
@@ -17,6 +17,6 @@ fn main() {
         );
     }
     println!("cargo:rustc-link-search=native={folder}");
-    println!("cargo:rustc-link-lib=static=host");
+    println!("cargo:rustc-link-lib=static=fikarehu");
     println!("cargo:rerun-if-changed={library}");
 }

@@ -1,7 +1,7 @@
 /*
  * The check called from C. Prints failures and a last line with the number of checks.
  *
- *   cc -std=c11 -O2 -Wall -Wextra -Werror -pthread tests/calls.c target/staticlib/libhost.a -o calls && ./calls
+ *   cc -std=c11 -O2 -Wall -Wextra -Werror -pthread tests/calls.c target/staticlib/libfikarehu.a -o calls && ./calls
  */
 #define _GNU_SOURCE
 #include "files.h"

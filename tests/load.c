@@ -1,7 +1,7 @@
 /*
  * The load called from C. Prints failures and a last line with the number of checks.
  *
- *   cc -std=c11 -O2 -Wall -Wextra -Werror -pthread tests/load.c target/staticlib/libhost.a -o load && ./load
+ *   cc -std=c11 -O2 -Wall -Wextra -Werror -pthread tests/load.c target/staticlib/libfikarehu.a -o load && ./load
  */
 #define _GNU_SOURCE
 #include "files.h"

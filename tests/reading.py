@@ -14,7 +14,7 @@ BEGIN, END = '<!-- the closure, written by tests/reading.py -->', '<!-- the end 
 # what it is today, rounded up: it may only fall
 MOST_LINES = 1230
 # the statements to start from: a crate, its file of contracts or its module, and the names
-CONTRACTS = [('host', ['fikarehu_check', 'fikarehu_load', 'fikarehu_step'])]
+CONTRACTS = [('fikarehu', ['fikarehu_check', 'fikarehu_load', 'fikarehu_step'])]
 STATEMENTS = [('demands', 'Demands', ['FirstDemand', 'SecondDemand', 'ThirdDemand'])]
 
 WORD = re.compile(r"[^\s(){}\[\],;.:λ⌜⌝&<>=/]+|:=|\[\]")

@@ -1,7 +1,7 @@
 /*
  * The step called from C. Prints failures and a last line with the number of checks.
  *
- *   cc -std=c11 -O2 -Wall -Wextra -Werror -pthread tests/step.c target/staticlib/libhost.a -o step && ./step
+ *   cc -std=c11 -O2 -Wall -Wextra -Werror -pthread tests/step.c target/staticlib/libfikarehu.a -o step && ./step
  */
 #define _GNU_SOURCE
 #include "check.h"

@@ -1,7 +1,7 @@
 /*
  * Reading a vent as docs/HOST.md says and the example host does. Prints failures and a last line with the number of checks.
  *
- *   cc -std=c11 -O2 -Wall -Wextra -Werror -Iinclude -pthread tests/vent.c target/staticlib/libhost.a -o vent && ./vent
+ *   cc -std=c11 -O2 -Wall -Wextra -Werror -Iinclude -pthread tests/vent.c target/staticlib/libfikarehu.a -o vent && ./vent
  */
 #define _GNU_SOURCE
 #include "files.h"

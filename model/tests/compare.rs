@@ -201,7 +201,7 @@ mod with_the_library {
             let own = repository().join("target/staticlib");
             own.to_string_lossy().into_owned()
         });
-        format!("{folder}/libhost.a")
+        format!("{folder}/libfikarehu.a")
     }
 
     /// The command that `recipe help compare` tells, with more words before it.

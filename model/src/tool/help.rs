@@ -83,7 +83,7 @@ when a library is stopped, ends the program or gives no answer in time; library 
 
 A shared library from a static one:
 
-  gcc -shared -Wl,--whole-archive libhost.a -Wl,--no-whole-archive -o libhost.so
+  gcc -shared -Wl,--whole-archive libfikarehu.a -Wl,--no-whole-archive -o libfikarehu.so
 ";
 
 const COMMANDS: [(&str, &str); 4] = [

@@ -4,7 +4,7 @@ use Prim.Native.Nat.{_<_, ℕ}
 use Rattle.calculus.specs.Limits.{max-names}
 use Rattle.step_spec.specs.declared.Outcome.{Outcome}
 use Rattle.step_spec.specs.declared.Outcome.the-variants.{Rule, Done, Waiting, Refused}
-use Rattle.host.specs.declared.Stepped.{Stepped}
+use Rattle.fikarehu.specs.declared.Stepped.{Stepped}
 
 -- an outcome in numbers
 unfoldable pub numbers : Outcome → Stepped

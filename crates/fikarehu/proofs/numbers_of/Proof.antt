@@ -1,9 +1,9 @@
 use mathlib.Core.Path.{ap, sym}
 use native.Mathlib.Omega.{arith}
 use borrow.Author.Needs.{needs}
-use Rattle.host.specs.Numbers.{numbers}
-use Rattle.host.proofs.numbers_of.Statement.{statement}
-use Rattle.host.proofs.numbers_of.Tie as tie
+use Rattle.fikarehu.specs.Numbers.{numbers}
+use Rattle.fikarehu.proofs.numbers_of.Statement.{statement}
+use Rattle.fikarehu.proofs.numbers_of.Tie as tie
 
 cast-t9 : tie.Need-cast-t9
 cast-t9 c = omega (arith, c .before .before .before .pre .small _ (c .before .outcome2 .given .1))

@@ -22,7 +22,7 @@ use Rattle.image.specs.Configuration.{config-of}
 use Rattle.image.specs.Stands.{image-stands, terms-stand}
 use Rattle.step_spec.specs.declared.Outcome.the-variants.{Waiting}
 use Rattle.step_spec.specs.Stepping.{outcome-of-reply, outcome-of, step-reply}
-use Rattle.host.specs.Numbers.{NameSmall}
+use Rattle.fikarehu.specs.Numbers.{NameSmall}
 
 unready-below : (C : Config) (y : ℕ) → Unready C y → y < length C
 unready-below C y (not-done e v h) = at-bound C y h

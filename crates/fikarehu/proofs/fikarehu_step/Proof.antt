@@ -1,9 +1,9 @@
 use mathlib.Core.Path.{_∙_, ap, subst⁻¹}
 use borrow.Author.Needs.{needs}
-use Rattle.host.specs.Numbers.{NameSmall, numbers}
-use Rattle.host.proofs.fikarehu_step.Statement.{statement}
-use Rattle.host.proofs.Waiting.{waiting-small}
-use Rattle.host.proofs.fikarehu_step.Tie as tie
+use Rattle.fikarehu.specs.Numbers.{NameSmall, numbers}
+use Rattle.fikarehu.proofs.fikarehu_step.Statement.{statement}
+use Rattle.fikarehu.proofs.Waiting.{waiting-small}
+use Rattle.fikarehu.proofs.fikarehu_step.Tie as tie
 
 numbers-of-requires : tie.Need-numbers-of-requires
 numbers-of-requires c κs =

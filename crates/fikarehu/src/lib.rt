@@ -7,7 +7,7 @@ ghost use lib.ListN.{length};
 ghost use Rattle.check_spec.specs.Verdict.{verdict-of};
 ghost use Rattle.load_spec.specs.Loading as load;
 ghost use Rattle.step_spec.specs.Stepping.{out-after-step, outcome-of};
-ghost use Rattle.host.specs.Numbers.{NameSmall, numbers};
+ghost use Rattle.fikarehu.specs.Numbers.{NameSmall, numbers};
 
 // What a step came to, in document 01's numbers: 0 done; 1 and the rule, with the new image's length; 2 and the awaited name; 3 and the refusal.
 #[repr(C)]
