@@ -1,4 +1,4 @@
--- Checking a recipe file. What is answered stands in crate verdict.
+-- Checking a recipe file. What is answered stands in crate check_spec.
 
 -- causes 5 to 8
 pub mod Refusals

@@ -1,4 +1,4 @@
--- What a step by a rule makes of a name: the same components as in moves, found by number first (proofs.Components, `after-is`).
+-- What a step by a rule makes of a name: the same components as in `Moves` (step_rules), found by number first (proofs.Components, `after-is`).
 use mathlib.Core.Bool.{cond}
 use mathlib.Core.List.{List, [], _∷_}
 use Prim.Native.Nat.{ℕ, _+_}
