@@ -11,7 +11,7 @@ type Numbers = BTreeMap<String, u64>;
 /// Some numbers: the header's prefix, the Rattle type or crate that has them, the model's values.
 struct Group {
     header: &'static str,
-    rattle: Option<&'static str>,
+    rattle: &'static str,
     model: &'static [(&'static str, u64)],
 }
 
@@ -24,7 +24,7 @@ macro_rules! numbers {
 
 const fn group(
     header: &'static str,
-    rattle: Option<&'static str>,
+    rattle: &'static str,
     model: &'static [(&'static str, u64)],
 ) -> Group {
     Group {
@@ -50,23 +50,19 @@ const CAUSES: &[(&str, u64)] = numbers!(causes: FILE_LENGTH OPENING LAYOUT TYPE_
     WRONG_KIND);
 
 const GROUPS: [Group; 11] = [
-    group("FIKAREHU_", Some("Recipe"), RECIPE),
-    group("FIKAREHU_", Some("Image"), IMAGE),
-    group("FIKAREHU_KIND_", Some("Image"), KINDS),
-    group("FIKAREHU_TYPE_", Some("Type"), TYPES),
-    group("FIKAREHU_", Some("Type"), ENTRIES),
-    group("FIKAREHU_TAG_", Some("Node"), TAGS),
-    group("FIKAREHU_", Some("Node"), numbers!(limits: MAX_NUM)),
+    group("FIKAREHU_", "Recipe", RECIPE),
+    group("FIKAREHU_", "Image", IMAGE),
+    group("FIKAREHU_KIND_", "Image", KINDS),
+    group("FIKAREHU_TYPE_", "Type", TYPES),
+    group("FIKAREHU_", "Type", ENTRIES),
+    group("FIKAREHU_TAG_", "Node", TAGS),
+    group("FIKAREHU_", "Node", numbers!(limits: MAX_NUM)),
+    group("FIKAREHU_", "recipe_file", numbers!(limits: ENTRY_LENGTH)),
+    group("FIKAREHU_", "Rule", RULES),
+    group("FIKAREHU_REFUSED_", "Cause", CAUSES),
     group(
         "FIKAREHU_",
-        Some("recipe_file"),
-        numbers!(limits: ENTRY_LENGTH),
-    ),
-    group("FIKAREHU_", Some("Rule"), RULES),
-    group("FIKAREHU_REFUSED_", Some("Cause"), CAUSES),
-    group(
-        "FIKAREHU_",
-        None,
+        "Stepped",
         numbers!(answers: DONE RULE WAITING REFUSED),
     ),
 ];
@@ -184,8 +180,8 @@ fn the_header_has_the_models_numbers_and_no_others() {
 fn the_rattle_sources_have_the_models_numbers() {
     let rattle = in_rattle();
     for group in &GROUPS {
-        for (name, value) in group.model.iter().filter(|_| group.rattle.is_some()) {
-            let whole = format!("{}::{}", group.rattle.unwrap_or(""), rattle_name(name));
+        for (name, value) in group.model {
+            let whole = format!("{}::{}", group.rattle, rattle_name(name));
             assert_eq!(rattle.get(&whole), Some(value), "{whole}");
         }
     }
@@ -194,13 +190,13 @@ fn the_rattle_sources_have_the_models_numbers() {
 #[test]
 fn every_limit_kind_rule_and_cause_of_the_rattle_sources_is_in_the_header() {
     let listed = |owner: &str, name: &str| {
-        let groups = GROUPS.iter().filter(|group| group.rattle == Some(owner));
+        let groups = GROUPS.iter().filter(|group| group.rattle == owner);
         let mut names = groups.flat_map(|group| group.model);
         names.any(|(known, _)| rattle_name(known) == name)
     };
     for (whole, value) in in_rattle() {
         let (owner, name) = whole.split_once("::").unwrap_or(("", ""));
-        let public = ["Recipe", "Image", "Type", "Rule", "Cause"].contains(&owner);
+        let public = ["Recipe", "Image", "Type", "Rule", "Cause", "Stepped"].contains(&owner);
         assert!(
             !public || listed(owner, name),
             "{whole} = {value} has no name in the header"

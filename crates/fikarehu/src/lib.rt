@@ -9,12 +9,22 @@ ghost use Rattle.load_spec.specs.Loading as load;
 ghost use Rattle.step_spec.specs.Stepping.{out-after-step, outcome-of};
 ghost use Rattle.fikarehu.specs.Numbers.{NameSmall, numbers};
 
-// What a step came to, in document 01's numbers: 0 done; 1 and the rule, with the new image's length; 2 and the awaited name; 3 and the refusal.
+// What a step came to, in numbers: done; the rule, with the new image's length; the awaited name; the refusal.
 #[repr(C)]
 pub struct Stepped {
     pub outcome: u32,
     pub number: u32,
     pub length: u64,
+}
+
+impl Stepped {
+    pub const DONE: u32 = 0;
+
+    pub const RULE: u32 = 1;
+
+    pub const WAITING: u32 = 2;
+
+    pub const REFUSED: u32 = 3;
 }
 
 // Document 01: "Accepting answers b and each bay's type number"; a refusal its number.
@@ -41,22 +51,22 @@ fn numbers_of(outcome: Outcome) -> Stepped
 {
     match outcome {
         Outcome::Rule(rule, length) => Stepped {
-            outcome: 1,
+            outcome: Stepped::RULE,
             number: rule as u32,
             length: length as u64,
         },
         Outcome::Done => Stepped {
-            outcome: 0,
+            outcome: Stepped::DONE,
             number: 0,
             length: 0,
         },
         Outcome::Waiting(name) => Stepped {
-            outcome: 2,
+            outcome: Stepped::WAITING,
             number: name as u32,
             length: 0,
         },
         Outcome::Refused(number) => Stepped {
-            outcome: 3,
+            outcome: Stepped::REFUSED,
             number: number as u32,
             length: 0,
         },
