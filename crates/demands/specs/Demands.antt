@@ -10,7 +10,7 @@ use Rattle.calculus.specs.Bytes.{Bytes}
 use Rattle.calculus.specs.Limits.{max-bays, max-image-length}
 use Rattle.calculus.specs.Lowest.{Lowest}
 use Rattle.calculus.specs.Causes.{buffer-cause, image-cause, no-thread-cause, room-cause, used-handle-cause, wrong-kind-cause}
-use Rattle.calculus.specs.Types.{many, LinType, multiplicity}
+use Rattle.calculus.specs.Types.{LinType}
 use Rattle.calculus.specs.Syntax.{Exp, Value, thread-of, Config, at, EachAll}
 use Rattle.calculus.specs.Typing.{TypeNumbers, Derivation}
 use Rattle.calculus.specs.Reduction.{HANDLE-BIND, Rule as RuleName, number, Reduces}
@@ -46,10 +46,25 @@ pub record FirstDemand : Type 0 where
   pub step-writes-nothing : (image : List ℕ) (x : ℕ) (out : List ℕ) → ((rule size : ℕ) → ¬ (outcome-of image x out ≡ Rule rule size)) → out-after-step image x out ≡ out
 
 -- a file that says a recipe which the papers accept: table and terms
-pub record Accepted (file : List ℕ) : Type 0 where
-  pub table : Table
-  pub terms : List Exp
-  pub recipe : Recipe file table terms
+abbrev pub Accepted : List ℕ → Type 0
+Accepted file = (T : Table) × (es : List Exp) × Recipe file T es
+
+-- "the out buffer holds the image in its first bytes and is unchanged beyond", where it was `before` and is `after`
+abbrev pub Written : List ℕ → List ℕ → List ℕ → Type 0
+Written image before after = (after ≡ image ++ drop (length image) before) × (length image ≤ length before)
+
+-- what is answered and left of a file that says the table T and the terms es
+pub record RecipeDemand (file : List ℕ) (T : Table) (es : List Exp) : Type 0 where
+  -- "Accepting answers b and each bay's type number": the type that a derivation gives; beyond the bays 0
+  pub bays : verdict-of file .bays ≡ length es
+  pub types : (bay : ℕ) (e : Exp) → at es bay ≡ some e → (α : LinType) →
+      (type-at T (getD (verdict-of file .types) bay 0) ≡ some α) ↔ Derivation (type-at T) (setting-types (length es)) [] e α
+  pub types-beyond : (bay : ℕ) → length es ≤ bay → getD (verdict-of file .types) bay 0 ≡ 0
+  -- "loading also the image's length": what a check answers, and the starting image's length
+  pub loaded-answer : (out : List ℕ) → max-image-length ≤ length out →
+      loaded-of file (length out) ≡ record { refusal = 0; bays = length es; types = verdict-of file .types; length = length (image-of (start T es .config)) }
+  -- "After a load .. the out buffer holds the image in its first bytes and is unchanged beyond"
+  pub loaded-image : (out : List ℕ) → max-image-length ≤ length out → Written (image-of (start T es .config)) out (out-after-load file out)
 
 -- a slice that is the image of a configuration, every rule and limit of "The image" kept
 pub record ImageOf (s : List ℕ) (C : Config) : Type 0 where
@@ -58,78 +73,54 @@ pub record ImageOf (s : List ℕ) (C : Config) : Type 0 where
   pub writable : EachAll Writable C
 
 -- what an answer of a step to the slice s means, where P is what it says of the configuration: 12 and 13 do not fit
-pub record Means (s out : List ℕ) (P : Config → Type 0) : Type 0 where
-  pub long : max-image-length ≤ length out
-  pub config : Config
-  pub image : ImageOf s config
-  pub says : P config
+abbrev pub Means : List ℕ → List ℕ → (Config → Type 0) → Type 0
+Means s out P = (max-image-length ≤ length out) × (C : Config) × ImageOf s C × P C
 
 -- "a rule applies": Fig. 5 has a move of thread x by the rule with this number, to a configuration within the limits whose image has this length
-pub record Moves (x rule size : ℕ) (C : Config) : Type 0 where
-  pub by : RuleName
-  pub outcome : Config
-  pub move : Reduces C x by outcome
-  pub limits : WithinLimits outcome
-  pub numbered : rule ≡ number by
-  pub measured : size ≡ length (image-of outcome)
+abbrev pub Moves : ℕ → ℕ → ℕ → Config → Type 0
+Moves x rule size C = (by : RuleName) × (C′ : Config) × Reduces C x by C′ × WithinLimits C′ × (rule ≡ number by) × (size ≡ length (image-of C′))
 
 -- "a rule applies, outcome above 256 names or 4,096 nodes"
-pub record LacksRoom (x : ℕ) (C : Config) : Type 0 where
-  pub by : RuleName
-  pub outcome : Config
-  pub move : Reduces C x by outcome
-  pub above : ¬ WithinLimits outcome
+abbrev pub LacksRoom : ℕ → Config → Type 0
+LacksRoom x C = (by : RuleName) × (C′ : Config) × Reduces C x by C′ × ¬ WithinLimits C′
 
 -- "two values meet, neither a rule, nor waiting, nor 16"
-pub record WrongKind (x : ℕ) (C : Config) : Type 0 where
-  pub meets : Meets C x
-  pub no-rule : (by : RuleName) (C′ : Config) → ¬ Reduces C x by C′
-  pub no-waiting : (y : ℕ) → ¬ (Needs C x y × Unready C y)
-  pub not-16 : ¬ AppliesUsed C x
+abbrev pub WrongKind : ℕ → Config → Type 0
+WrongKind x C = Meets C x × ((by : RuleName) (C′ : Config) → ¬ Reduces C x by C′) × ((y : ℕ) → ¬ (Needs C x y × Unready C y)) × ¬ AppliesUsed C x
+
+-- what a step of thread x of the slice s answers, and leaves in the out buffer
+pub record StepDemand (s : List ℕ) (x : ℕ) (out : List ℕ) : Type 0 where
+  -- "A step answers with its rule and the new image's length"
+  pub rule : (rule size : ℕ) → (outcome-of s x out ≡ Rule rule size) ↔ Means s out (Moves x rule size)
+  -- "After a .. step the out buffer holds the image in its first bytes and is unchanged beyond"
+  pub rule-image : (C C′ : Config) (by : RuleName) → ImageOf s C → Reduces C x by C′ → WithinLimits C′ → max-image-length ≤ length out → Written (image-of C′) out (out-after-step s x out)
+  -- "A thread whose expression is a value .. answers done"
+  pub done : (outcome-of s x out ≡ Done) ↔ Means s out (λ C. (v : Exp) × Value v × (at C x ≡ some (thread-of v)))
+  -- "A thread that needs the value of a thread not done, or of a future not bound, answers waiting with that name"
+  pub waiting : (y : ℕ) → (outcome-of s x out ≡ Waiting y) ↔ Means s out (λ C. Needs C x y × Unready C y)
+  -- 13: "image breaks a rule or limit under "The image""
+  pub thirteen : (outcome-of s x out ≡ Refused image-cause) ↔ ((max-image-length ≤ length out) × ((C : Config) → ¬ ImageOf s C))
+  -- 14: "number is no thread"
+  pub fourteen : (outcome-of s x out ≡ Refused no-thread-cause) ↔ Means s out (λ C. (e : Exp) → ¬ (at C x ≡ some (thread-of e)))
+  -- 15: "a rule applies, outcome above 256 names or 4,096 nodes"
+  pub fifteen : (outcome-of s x out ≡ Refused room-cause) ↔ Means s out (LacksRoom x)
+  -- 16: "used handle applied"
+  pub sixteen : (outcome-of s x out ≡ Refused used-handle-cause) ↔ Means s out (λ C. AppliesUsed C x)
+  -- 17: "two values meet, neither a rule, nor waiting, nor 16"
+  pub seventeen : (outcome-of s x out ≡ Refused wrong-kind-cause) ↔ Means s out (WrongKind x)
 
 -- The second demand: "A recipe within the limits is accepted exactly when each bay's term has a derivation under the paper's linear rules .., under a many type. Exactly
 -- those are loaded, as the starting image. A thread is stepped exactly when a rule moves it and outcome and buffer fit; the new image is exactly what the rule gives."
 pub record SecondDemand : Type 0 where
-  -- accepted exactly when; the file says one recipe
+  -- accepted exactly when; the file says one recipe; there is a type number for each bay that there may be
   pub accepted : (file : List ℕ) → Bytes file → (verdict-of file .refusal ≡ 0) ↔ Accepted file
   pub one-recipe : (file : List ℕ) (T T′ : Table) (es es′ : List Exp) → Recipe file T es → Recipe file T′ es′ → (T ≡ T′) × (es ≡ es′)
-  -- "Accepting answers b and each bay's type number"; types beyond the bays are 0
-  pub bays : (file : List ℕ) (T : Table) (es : List Exp) → Recipe file T es → verdict-of file .bays ≡ length es
-  pub types : (file : List ℕ) (T : Table) (es : List Exp) → Recipe file T es → (bay : ℕ) (e : Exp) → at es bay ≡ some e → (α : LinType) →
-      (type-at T (getD (verdict-of file .types) bay 0) ≡ some α) ↔ Derivation (type-at T) (setting-types (length es)) [] e α
-  pub many-types : (file : List ℕ) (T : Table) (es : List Exp) → Recipe file T es → (bay : ℕ) (e : Exp) → at es bay ≡ some e →
-      (α : LinType) × (type-at T (getD (verdict-of file .types) bay 0) ≡ some α) × (multiplicity α ≡ many)
-  pub types-beyond : (file : List ℕ) (T : Table) (es : List Exp) → Recipe file T es → (bay : ℕ) → length es ≤ bay → getD (verdict-of file .types) bay 0 ≡ 0
   pub types-length : (file : List ℕ) → length (verdict-of file .types) ≡ max-bays
-  -- loaded exactly when; "loading also the image's length": what a check answers, and the starting image's length
+  -- loaded exactly when
   pub loaded : (file out : List ℕ) → Bytes file → (loaded-of file (length out) .refusal ≡ 0) ↔ (Accepted file × (max-image-length ≤ length out))
-  pub loaded-answer : (file : List ℕ) (T : Table) (es : List Exp) → Recipe file T es → (out : List ℕ) → max-image-length ≤ length out →
-      (loaded-of file (length out) .bays ≡ verdict-of file .bays) × (loaded-of file (length out) .types ≡ verdict-of file .types) ×
-      (loaded-of file (length out) .length ≡ length (image-of (start T es .config)))
-  -- "After a load .. the out buffer holds the image in its first bytes and is unchanged beyond"
-  pub loaded-image : (file : List ℕ) → Bytes file → (T : Table) (es : List Exp) → Recipe file T es → (out : List ℕ) → max-image-length ≤ length out →
-      (out-after-load file out ≡ image-of (start T es .config) ++ drop (length (image-of (start T es .config))) out) × (length (image-of (start T es .config)) ≤ length out)
-  -- "A step answers with its rule and the new image's length"
-  pub rule : (s : List ℕ) → Bytes s → (x : ℕ) (out : List ℕ) (rule size : ℕ) → (outcome-of s x out ≡ Rule rule size) ↔ Means s out (Moves x rule size)
-  -- "After a .. step the out buffer holds the image in its first bytes and is unchanged beyond"
-  pub rule-image : (s : List ℕ) (C C′ : Config) (x : ℕ) (by : RuleName) (out : List ℕ) → ImageOf s C → Reduces C x by C′ → WithinLimits C′ → max-image-length ≤ length out →
-      (out-after-step s x out ≡ image-of C′ ++ drop (length (image-of C′)) out) × (length (image-of C′) ≤ length out)
-  -- "A thread whose expression is a value .. answers done"
-  pub done : (s : List ℕ) → Bytes s → (x : ℕ) (out : List ℕ) → (outcome-of s x out ≡ Done) ↔ Means s out (λ C. (v : Exp) × Value v × (at C x ≡ some (thread-of v)))
-  -- "A thread that needs the value of a thread not done, or of a future not bound, answers waiting with that name"
-  pub waiting : (s : List ℕ) → Bytes s → (x : ℕ) (out : List ℕ) (y : ℕ) → (outcome-of s x out ≡ Waiting y) ↔ Means s out (λ C. Needs C x y × Unready C y)
-  -- 13: "image breaks a rule or limit under "The image""
-  pub thirteen : (s : List ℕ) → Bytes s → (x : ℕ) (out : List ℕ) →
-      (outcome-of s x out ≡ Refused image-cause) ↔ ((max-image-length ≤ length out) × ((C : Config) → ¬ ImageOf s C))
-  -- 14: "number is no thread"
-  pub fourteen : (s : List ℕ) → Bytes s → (x : ℕ) (out : List ℕ) →
-      (outcome-of s x out ≡ Refused no-thread-cause) ↔ Means s out (λ C. (e : Exp) → ¬ (at C x ≡ some (thread-of e)))
-  -- 15: "a rule applies, outcome above 256 names or 4,096 nodes"
-  pub fifteen : (s : List ℕ) → Bytes s → (x : ℕ) (out : List ℕ) → (outcome-of s x out ≡ Refused room-cause) ↔ Means s out (LacksRoom x)
-  -- 16: "used handle applied"
-  pub sixteen : (s : List ℕ) → Bytes s → (x : ℕ) (out : List ℕ) → (outcome-of s x out ≡ Refused used-handle-cause) ↔ Means s out (λ C. AppliesUsed C x)
-  -- 17: "two values meet, neither a rule, nor waiting, nor 16"
-  pub seventeen : (s : List ℕ) → Bytes s → (x : ℕ) (out : List ℕ) → (outcome-of s x out ≡ Refused wrong-kind-cause) ↔ Means s out (WrongKind x)
+  -- what check and load answer then; what a step answers, to any slice, thread number and buffer
+  pub recipe : (file : List ℕ) → Bytes file → (T : Table) (es : List Exp) → Recipe file T es → RecipeDemand file T es
+  pub step : (s : List ℕ) → Bytes s → (x : ℕ) (out : List ℕ) → StepDemand s x out
 
 -- the third demand of the calls from this image with these types
 pub record RunDemand (τ : TypeNumbers) (image : List ℕ) (types : List LinType) (calls : List Call) : Type 0 where

@@ -3,17 +3,17 @@ use mathlib.Core.Path.{_∙_, _≡_, ap, refl, sym}
 use mathlib.Core.Logic.{_↔_}
 use mathlib.Core.Bool.{Bool, cond, false, true}
 use mathlib.Core.Option.{some}
-use mathlib.Core.List.{List, [], _∷_, _++_}
-use Prim.Native.Nat.{ℕ, _+_, _<_, _≤_, suc, zero}
+use mathlib.Core.List.{List, [], _∷_}
+use Prim.Native.Nat.{ℕ, _<_, _≤_, suc, zero}
 use native.Mathlib.Decide.{decLt}
 use native.Mathlib.Omega.{arith}
 use lib.Dec.{eqb}
-use lib.ListN.{drop, getD, length}
+use lib.ListN.{getD, length}
 use Rattle.calculus.specs.Bytes.{Bytes}
 use Rattle.calculus.specs.Lists.{tabulate}
 use Rattle.calculus.specs.Limits.{max-bays, max-image-length}
 use Rattle.calculus.specs.Causes.{buffer-cause, image-cause, no-thread-cause, room-cause, used-handle-cause, wrong-kind-cause}
-use Rattle.calculus.specs.Types.{many, LinType, multiplicity}
+use Rattle.calculus.specs.Types.{LinType}
 use Rattle.calculus.specs.Syntax.{Exp, Value, thread-of, Config, at}
 use Rattle.calculus.specs.Typing.{Derivation}
 use Rattle.calculus.specs.Reduction.{Rule as RuleName, number, Reduces}
@@ -46,7 +46,7 @@ use Rattle.step_spec.specs.declared.Outcome.the-variants.{Rule, Done, Waiting, 
 use Rattle.step_spec.specs.Stepping.{step-reply, outcome-of-reply, out-after-reply, outcome-of, out-after-step}
 use Rattle.step_spec.specs.Theory.Exactly.{step-is}
 use Rattle.step_spec.specs.Theory.Replies.{reply-short, reply-broken, reply-stands, Told, told-moved, told-room, told-waiting, told-done, told-no-thread, told-used, told-wrong, tells}
-use Rattle.demands.specs.Demands.{Accepted, ImageOf, Means, Moves, LacksRoom, WrongKind, SecondDemand}
+use Rattle.demands.specs.Demands.{Accepted, ImageOf, LacksRoom, Means, Moves, RecipeDemand, SecondDemand, StepDemand, Written, WrongKind}
 
 -- ---- a check
 
@@ -54,10 +54,7 @@ recipe-accepted : {file : List ℕ} {T : Table} {es : List Exp} → Recipe file 
 recipe-accepted {file} r = no-cause-iff file .1 (no-cause r)
 
 accepts : (file : List ℕ) → Bytes file → (verdict-of file .refusal ≡ 0) ↔ Accepted file
-accepts file b = (
-  λ e. let (T, es, r) = accepted-exactly file b .0 (sym (refusal-is file) ∙ e) in record { table = T; terms = es; recipe = r },
-  λ a. refusal-is file ∙ recipe-accepted (a .recipe),
-)
+accepts file b = (λ e. accepted-exactly file b .0 (sym (refusal-is file) ∙ e), λ (T, es, r). refusal-is file ∙ recipe-accepted r)
 
 past-end : (l : List ℕ) (k : ℕ) → length l ≤ k → getD l k 0 ≡ 0
 past-end [] k h = refl
@@ -70,10 +67,6 @@ module _ {file : List ℕ} {T : Table} {es : List Exp} (r : Recipe file T es) wh
 
   bays-are : verdict-of file .bays ≡ length es
   bays-are = rw verdict-is (sym (r .count))
-
-  many-types : (bay : ℕ) (e : Exp) → at es bay ≡ some e →
-      (α : LinType) × (type-at T (getD (verdict-of file .types) bay 0) ≡ some α) × (multiplicity α ≡ many)
-  many-types bay e h = let (α, t, d, m) = type-answered r bay e h in (α, rw verdict-is t, m)
 
   types-are : (bay : ℕ) (e : Exp) → at es bay ≡ some e → (α : LinType) →
       (type-at T (getD (verdict-of file .types) bay 0) ≡ some α) ↔ Derivation (type-at T) (setting-types (length es)) [] e α
@@ -112,7 +105,7 @@ loads file out b = (
         | yes l ↦ absurd (let s = short file (length out) l in omega arith)
         | no l ↦ (accepts file b .0 (refusal-is file ∙ sym (long file (length out) (omega arith)) ∙ z), omega arith)
       ],
-  λ (a, l). load-refusal-is file (length out) ∙ long file (length out) l ∙ recipe-accepted (a .recipe),
+  λ (a, l). load-refusal-is file (length out) ∙ long file (length out) l ∙ recipe-accepted (a .2),
 )
 
 module _ {file : List ℕ} {T : Table} {es : List Exp} (r : Recipe file T es) (out : List ℕ) (l : max-image-length ≤ length out) where
@@ -123,15 +116,10 @@ module _ {file : List ℕ} {T : Table} {es : List Exp} (r : Recipe file T es) (o
   unfolding starting-image
   starting-is = rw (table-is r, terms-are r) refl
 
-  loaded-answer : (loaded-of file (length out) .bays ≡ verdict-of file .bays) × (loaded-of file (length out) .types ≡ verdict-of file .types) ×
-      (loaded-of file (length out) .length ≡ length (image-of (start T es .config)))
-  loaded-answer =
-      let e = loaded-is file (length out) no-refusal in
-      let v = verdict-is r in
-      (rw (e, v) refl, rw (e, v) refl, rw (e, starting-is) refl)
+  loaded-answer : loaded-of file (length out) ≡ record { refusal = 0; bays = length es; types = verdict-of file .types; length = length (image-of (start T es .config)) }
+  loaded-answer = rw (loaded-is file (length out) no-refusal, verdict-is r, starting-is, r .count) refl
 
-  loaded-image : Bytes file → (out-after-load file out ≡ image-of (start T es .config) ++ drop (length (image-of (start T es .config))) out) ×
-      (length (image-of (start T es .config)) ≤ length out)
+  loaded-image : Bytes file → Written (image-of (start T es .config)) out (out-after-load file out)
   loaded-image b =
       let f = starting-fits file b (recipe-accepted r) in
       let f′ : length (image-of (start T es .config)) ≤ max-image-length = rw starting-is at f in
@@ -157,7 +145,7 @@ module _ (s : List ℕ) (b : Bytes s) (x : ℕ) (out : List ℕ) where
           let (C, i, k, w) = image-exactly s b .0 q in
           let p : outcome-of-reply (reply-of (step-of C x)) ≡ A =
           sym (ap outcome-of-reply (step-is C k w x (length out) l)) ∙ ap (λ (t : List ℕ). outcome-of-reply (step-reply t x (length out))) (sym i) ∙ e in
-          record { long = l; config = C; image = record { bytes = i; rule = k; writable = w }; says = iff C k .0 p }
+          (l, C, record { bytes = i; rule = k; writable = w }, iff C k .0 p)
 
       there : outcome-of s x out ≡ A → Means s out P
       there e =
@@ -167,11 +155,10 @@ module _ (s : List ℕ) (b : Bytes s) (x : ℕ) (out : List ℕ) where
           ]
 
       back : Means s out P → outcome-of s x out ≡ A
-      back m =
-          let i = m .image in
+      back (l, C, i, p) =
           ap (λ (t : List ℕ). outcome-of-reply (step-reply t x (length out))) (i .bytes)
-          ∙ ap outcome-of-reply (step-is (m .config) (i .rule) (i .writable) x (length out) (m .long))
-          ∙ iff (m .config) (i .rule) .1 (m .says)
+          ∙ ap outcome-of-reply (step-is C (i .rule) (i .writable) x (length out) l)
+          ∙ iff C (i .rule) .1 p
 
   thirteen : (outcome-of s x out ≡ Refused image-cause) ↔ ((max-image-length ≤ length out) × ((C : Config) → ¬ ImageOf s C))
   unfolding outcome-of outcome-of-reply
@@ -209,25 +196,24 @@ module _ (C : Config) (x : ℕ) where
   within {C′} e = limits-test-iff C′ .0 e
 
   moves-there : {a : Answer} {k size : ℕ} → step-of C x ≡ a → Told a (Rule k size) → Moves x k size C
-  moves-there q (told-moved {r} {C′} l) = record { by = r; outcome = C′; move = rule-iff C C′ x r .0 q; limits = within l; numbered = refl; measured = refl }
+  moves-there q (told-moved {r} {C′} l) = (r, C′, rule-iff C C′ x r .0 q, within l, refl, refl)
 
   moves-iff : (k size : ℕ) → (told-of (step-of C x) ≡ Rule k size) ↔ Moves x k size C
   unfolding outcome-of-reply reply-of
   moves-iff k size = (
     λ e. moves-there refl (rw e at (tells (step-of C x))),
-    λ m. rw (rule-iff C (m .outcome) x (m .by) .1 (m .move), limits-test-iff (m .outcome) .1 (m .limits), m .numbered, m .measured) refl,
+    λ (r, C′, m, w, k-is, size-is). rw (rule-iff C C′ x r .1 m, limits-test-iff C′ .1 w, k-is, size-is) refl,
   )
 
   room-iff : (told-of (step-of C x) ≡ Refused room-cause) ↔ LacksRoom x C
   unfolding outcome-of-reply reply-of
   room-iff = (
     λ e. there (step-of C x) refl (rw e at (tells (step-of C x))),
-    λ m. rw (rule-iff C (m .outcome) x (m .by) .1 (m .move)) (above (m .by) (m .outcome) (limits-test (m .outcome)) refl (m .above)),
+    λ (r, C′, m, n). rw (rule-iff C C′ x r .1 m) (above r C′ (limits-test C′) refl n),
   )
     where
       there : (a : Answer) → step-of C x ≡ a → Told a (Refused room-cause) → LacksRoom x C
-      there (rule r C′) q (told-room l) =
-          record { by = r; outcome = C′; move = rule-iff C C′ x r .0 q; above = λ w. clash (let p = limits-test-iff C′ .1 w in cc) }
+      there (rule r C′) q (told-room l) = (r, C′, rule-iff C C′ x r .0 q, λ w. clash (let p = limits-test-iff C′ .1 w in cc))
 
       above : (r : RuleName) (C′ : Config) (t : Bool) → limits-test C′ ≡ t → ¬ WithinLimits C′ →
           outcome-of-reply (cond t (moved (number r) C′) (refuses room-cause)) ≡ Refused room-cause
@@ -265,47 +251,54 @@ module _ (C : Config) (x : ℕ) where
   wrong-told : ImageRule C → (told-of (step-of C x) ≡ Refused wrong-kind-cause) ↔ WrongKind x C
   unfolding outcome-of-reply reply-of
   wrong-told k = (
-    λ e.
-        let (a, b, c, d) = wrong-kind-iff C x (λ e h. k .bound x (thread-of e) h) .0 (only (rw e at (tells (step-of C x)))) in
-        record { meets = a; no-rule = b; no-waiting = c; not-16 = d },
-    λ w. rw (wrong-kind-iff C x (λ e h. k .bound x (thread-of e) h) .1 (w .meets, w .no-rule, w .no-waiting, w .not-16)) refl,
+    λ e. wrong-kind-iff C x (λ e h. k .bound x (thread-of e) h) .0 (only (rw e at (tells (step-of C x)))),
+    λ w. rw (wrong-kind-iff C x (λ e h. k .bound x (thread-of e) h) .1 w) refl,
   )
     where
       only : {a : Answer} → Told a (Refused wrong-kind-cause) → a ≡ wrong-kind
       only told-wrong = refl
 
 -- the image that a rule leaves
-rule-image : (s : List ℕ) (C C′ : Config) (x : ℕ) (by : RuleName) (out : List ℕ) → ImageOf s C → Reduces C x by C′ → WithinLimits C′ → max-image-length ≤ length out →
-    (out-after-step s x out ≡ image-of C′ ++ drop (length (image-of C′)) out) × (length (image-of C′) ≤ length out)
+rule-image : (s : List ℕ) (x : ℕ) (out : List ℕ) (C C′ : Config) (by : RuleName) → ImageOf s C → Reduces C x by C′ → WithinLimits C′ → max-image-length ≤ length out →
+    Written (image-of C′) out (out-after-step s x out)
 unfolding out-after-step out-after-reply reply-of
-rule-image s C C′ x by out i m w l = (
+rule-image s x out C C′ by i m w l = (
   ap (λ (t : List ℕ). out-after-reply (step-reply t x (length out)) out) (i .bytes)
       ∙ rw (step-is C (i .rule) (i .writable) x (length out) l, rule-iff C C′ x by .1 m, limits-test-iff C′ .1 w) refl,
   omega (arith, length-image-of C′, image-fits C′ w),
 )
 
-pub second-demand : SecondDemand
-second-demand = record {
-  accepted = accepts;
-  one-recipe = λ file T T′ es es′ r r′. one-recipe r r′;
-  bays = λ file T es r. bays-are r;
-  types = λ file T es r. types-are r;
-  many-types = λ file T es r. many-types r;
-  types-beyond = λ file T es r. types-beyond r;
-  types-length = types-length;
-  loaded = loads;
-  loaded-answer = λ file T es r. loaded-answer r;
-  loaded-image = λ file b T es r out l. loaded-image r out l b;
-  rule = λ s b x out k size. means s b x out (Rule k size) (Moves x k size) (record { not-12 = λ e. clash (cc); not-13 = λ e. clash (cc) }) (λ C r. moves-iff C x k size);
-  rule-image = rule-image;
-  done = λ s b x out. means s b x out Done _ (record { not-12 = λ e. clash (cc); not-13 = λ e. clash (cc) }) (λ C r. done-told C x);
-  waiting = λ s b x out y. means s b x out (Waiting y) _ (record { not-12 = λ e. clash (cc); not-13 = λ e. clash (cc) }) (λ C r. waiting-told C x y);
-  thirteen = thirteen;
-  fourteen = λ s b x out. means s b x out (Refused no-thread-cause) _ (later no-thread-cause (omega arith)) (λ C r. no-thread-told C x);
-  fifteen = λ s b x out. means s b x out (Refused room-cause) (LacksRoom x) (later room-cause (omega arith)) (λ C r. room-iff C x);
-  sixteen = λ s b x out. means s b x out (Refused used-handle-cause) _ (later used-handle-cause (omega arith)) (λ C r. used-told C x);
-  seventeen = λ s b x out. means s b x out (Refused wrong-kind-cause) (WrongKind x) (later wrong-kind-cause (omega arith)) (λ C r. wrong-told C x r);
+step-demand : (s : List ℕ) → Bytes s → (x : ℕ) (out : List ℕ) → StepDemand s x out
+step-demand s b x out = record {
+  rule = λ k size. means s b x out (Rule k size) (Moves x k size) (record { not-12 = λ e. clash (cc); not-13 = λ e. clash (cc) }) (λ C r. moves-iff C x k size);
+  rule-image = rule-image s x out;
+  done = means s b x out Done _ (record { not-12 = λ e. clash (cc); not-13 = λ e. clash (cc) }) (λ C r. done-told C x);
+  waiting = λ y. means s b x out (Waiting y) _ (record { not-12 = λ e. clash (cc); not-13 = λ e. clash (cc) }) (λ C r. waiting-told C x y);
+  thirteen = thirteen s b x out;
+  fourteen = means s b x out (Refused no-thread-cause) _ (later no-thread-cause (omega arith)) (λ C r. no-thread-told C x);
+  fifteen = means s b x out (Refused room-cause) (LacksRoom x) (later room-cause (omega arith)) (λ C r. room-iff C x);
+  sixteen = means s b x out (Refused used-handle-cause) _ (later used-handle-cause (omega arith)) (λ C r. used-told C x);
+  seventeen = means s b x out (Refused wrong-kind-cause) (WrongKind x) (later wrong-kind-cause (omega arith)) (λ C r. wrong-told C x r);
 }
   where
     later : (n : ℕ) → image-cause < n → Later (Refused n)
     later n l = record { not-12 = λ e. let q : n ≡ buffer-cause = cc in omega arith; not-13 = λ e. let q : n ≡ image-cause = cc in omega arith }
+
+recipe-demand : (file : List ℕ) → Bytes file → (T : Table) (es : List Exp) → Recipe file T es → RecipeDemand file T es
+recipe-demand file b T es r = record {
+  bays = bays-are r;
+  types = types-are r;
+  types-beyond = types-beyond r;
+  loaded-answer = loaded-answer r;
+  loaded-image = λ out l. loaded-image r out l b;
+}
+
+pub second-demand : SecondDemand
+second-demand = record {
+  accepted = accepts;
+  one-recipe = λ file T T′ es es′ r r′. one-recipe r r′;
+  types-length = types-length;
+  loaded = loads;
+  recipe = recipe-demand;
+  step = step-demand;
+}
