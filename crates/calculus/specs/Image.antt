@@ -7,9 +7,9 @@ use mathlib.Core.List.{[], _∷_}
 use Prim.Native.Nat.{_*_, _+_, _<_, _≤_, suc, ℕ}
 use lib.Dec.{eqb, ltb}
 use lib.ListN.{length}
-use Rattle.calculus.specs.Syntax.{Const, unit, num, op, Exp, var, name, const, lam, app, Value, Component, thread-of, holds, open-for, used, awaited, Config, at, Allowed, constants, EachAll}
-use Rattle.calculus.specs.Names.{count-in}
-use Rattle.calculus.specs.Step.{Place, settled, meet, loose, place}
+use Rattle.calculus.specs.Names.{count}
+use Rattle.calculus.specs.Syntax.{Const, unit, num, op, Exp, var, name, const, lam, app, Value, Component, thread-of, holds, open-for, used, awaited, Config, at, Allowed, constants, EachAll, In, sum-in, sum-all}
+use Rattle.calculus.specs.Step.{Place, place, on-place}
 use Rattle.calculus.specs.Limits.{max-num, max-names, max-nodes, byte-values, first-head, head-length}
 
 -- document 01, "variables are bound inside them": every variable of e is bound in e, or by one of `depth` lambdas around it
@@ -19,14 +19,6 @@ pub data Closed : ℕ → Exp → Type 0 where
   closed-const : {depth : ℕ} {c : Const} → Closed depth (const c)
   closed-lam : {depth t : ℕ} {e : Exp} → Closed (suc depth) e → Closed depth (lam t e)
   closed-app : {depth : ℕ} {f a : Exp} → Closed depth f → Closed depth a → Closed depth (app f a)
-
--- a component's expression is closed
-abbrev pub ClosedIn : Component → Type 0
-ClosedIn (thread-of e) = Closed 0 e
-ClosedIn (holds e) = Closed 0 e
-ClosedIn (open-for y) = Unit {0}
-ClosedIn used = Unit {0}
-ClosedIn awaited = Unit {0}
 
 -- document 01, "nums at most 1000"
 abbrev pub NumSmall : Const → Type 0
@@ -55,18 +47,6 @@ size (const c) = const-size c
 size (lam t e) = 2 + size e
 size (app f a) = suc (size f + size a)
 
--- the sum over all expressions of a configuration
-unfoldable pub sum-in : (Exp → ℕ) → Component → ℕ
-sum-in measure (thread-of e) = measure e
-sum-in measure (holds e) = measure e
-sum-in measure (open-for y) = 0
-sum-in measure used = 0
-sum-in measure awaited = 0
-
-unfoldable pub sum-all : (Exp → ℕ) → Config → ℕ
-sum-all measure [] = 0
-sum-all measure (c ∷ C) = sum-in measure c + sum-all measure C
-
 abbrev pub nodes-all : Config → ℕ
 nodes-all C = sum-all nodes C
 
@@ -82,9 +62,9 @@ pub record WithinLimits (C : Config) : Type 0 where
 -- what an image has to keep: cause 13 does not fit
 pub record ImageRule (C : Config) : Type 0 where
   -- "variables are bound inside them"
-  pub bound : (x : ℕ) (c : Component) → at C x ≡ some c → ClosedIn c
+  pub bound : (x : ℕ) (c : Component) → at C x ≡ some c → In (Closed 0) c
   -- "names are below m"
-  pub names-below : (x : ℕ) (c : Component) → at C x ≡ some c → (k : ℕ) → length C ≤ k → count-in k c ≡ 0
+  pub names-below : (x : ℕ) (c : Component) → at C x ≡ some c → (k : ℕ) → length C ≤ k → sum-in (count k) c ≡ 0
   -- "nums at most 1000"
   pub small : EachAll (constants NumSmall) C
   -- "Cells hold values"
@@ -112,9 +92,7 @@ expression-test m depth (app f a) = expression-test m depth f && expression-test
 
 -- "Cells hold values"
 unfoldable pub is-settled : Place → Bool
-is-settled (settled v w) = true
-is-settled (meet F f v wf wv) = false
-is-settled loose = false
+is-settled p = on-place p true false λ F f w v. false
 
 -- "each open handle's companion is of kind 5"
 unfoldable pub is-awaited : Option Component → Bool

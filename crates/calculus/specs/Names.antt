@@ -2,11 +2,11 @@
 use mathlib.Core.Path.{_≡_}
 use mathlib.Core.Bool.{cond}
 use mathlib.Core.Option.{some}
-use mathlib.Core.List.{[], _∷_}
+use mathlib.Core.List.{[]}
 use Prim.Native.Nat.{_+_, _≤_, suc, ℕ}
 use lib.Dec.{eqb}
 use Rattle.calculus.specs.Types.{once, LinType, fun, multiplicity}
-use Rattle.calculus.specs.Syntax.{Const, Exp, var, name, const, lam, app, Value, Component, thread-of, holds, open-for, used, awaited, Config, at}
+use Rattle.calculus.specs.Syntax.{Const, Exp, var, name, const, lam, app, Value, at}
 use Rattle.calculus.specs.Typing.{TypeNumbers, NameTypes, Derivation}
 use Rattle.calculus.specs.Narrowing.{Narrow}
 
@@ -25,18 +25,6 @@ uses depth (name j) = 0
 uses depth (const c) = 0
 uses depth (lam t e) = uses (suc depth) e
 uses depth (app e₁ e₂) = uses depth e₁ + uses depth e₂
-
--- how often name k stands in a component, and in all those of a configuration
-unfoldable pub count-in : ℕ → Component → ℕ
-count-in k (thread-of e) = count k e
-count-in k (holds e) = count k e
-count-in k (open-for y) = 0
-count-in k used = 0
-count-in k awaited = 0
-
-unfoldable pub count-all : ℕ → Config → ℕ
-count-all k [] = 0
-count-all k (c ∷ C) = count-in k c + count-all k C
 
 -- name k has a once type
 abbrev pub OnceName : NameTypes → ℕ → Type 0

@@ -4,7 +4,7 @@ use mathlib.Core.Option.{Option, none, some}
 use mathlib.Core.List.{[], _++_, _∷_}
 use Prim.Native.Nat.{_+_, ℕ}
 use lib.ListN.{length, set}
-use Rattle.calculus.specs.Syntax.{unit, num, op, cell, exch, thread, handle, Exp, var, name, const, lam, app, Value, is-name, is-const, is-lam, is-exch, Component, thread-of, holds, open-for, used, awaited, Config, at}
+use Rattle.calculus.specs.Syntax.{unit, num, op, cell, exch, thread, handle, Exp, var, name, const, lam, app, Value, is-name, is-const, is-lam, is-exch, Component, thread-of, holds, open-for, used, awaited, Config, at, on-thread}
 use Rattle.calculus.specs.Reduction.{substitute, Context, hole, in-function, in-argument, Has, put, Rule, BETA, THREAD-NEW, FUTURE-DEREF, HANDLE-NEW, HANDLE-BIND, CELL-NEW, CELL-EXCH}
 
 -- Fig. 3, document 01 "one place where two values meet": what an expression is. It is the value v; or F[f v], where the values f and v meet and
@@ -42,6 +42,12 @@ place (const c) = settled (const c) is-const
 place (lam t e) = settled (lam t e) is-lam
 place (app f a) = place-app (place f) (place a) a
 
+-- what is made of a place: one thing of a value, another of a variable in the way, and of F[f v] what `meeting` says
+abbrev pub on-place : {A : Type 0} → Place → A → A → (Context → (f : Exp) → Value f → Exp → A) → A
+on-place (settled v w) value stuck meeting = value
+on-place loose value stuck meeting = stuck
+on-place (meet F f v wf wv) value stuck meeting = meeting F f wf v
+
 -- document 01, "A step": a rule with its outcome, waiting with the name needed, done; and causes 14 (no-thread), 16 (used-handle)
 -- and 17 (wrong-kind). Causes 12, 13 and 15 are about bytes and limits, and not the calculus's.
 pub data Answer : Type 0 where
@@ -51,9 +57,7 @@ pub data Answer : Type 0 where
 
 -- document 01: "a thread that needs the value of a thread not done .. answers waiting with that name"
 unfoldable pub when-done : ℕ → Place → Answer → Answer
-when-done y (settled v w) answer = answer
-when-done y (meet F f v wf wv) answer = waiting y
-when-done y loose answer = waiting y
+when-done y p answer = on-place p answer (waiting y) λ F f w v. waiting y
 
 -- F[y v] by y's component: FUTURE.DEREF, waiting, HANDLE.BIND, cause 16, else cause 17
 unfoldable pub step-call : Config → ℕ → Context → ℕ → Exp → Option Component → Answer
@@ -79,8 +83,7 @@ step-meeting C x F (is-lam {t = t} {e = e}) v = rule BETA (put C x F (substitute
 step-meeting C x F (is-const {c = op thread t}) v = rule THREAD-NEW (put C x F (name (length C)) ++ (thread-of (app v (name (length C))) ∷ []))
 step-meeting C x F (is-name {k = y}) v = step-call C x F y v (at C y)
 step-meeting C x F (is-exch {t = t} (is-name {k = y})) v = step-exchange C x F t y v (at C y)
-step-meeting C x F (is-const {c = op handle t}) v =
-    rule HANDLE-NEW (put C x F (app (app v (name (length C))) (name (length C + 1))) ++ (awaited ∷ open-for (length C) ∷ []))
+step-meeting C x F (is-const {c = op handle t}) v = rule HANDLE-NEW (put C x F (app (app v (name (length C))) (name (length C + 1))) ++ (awaited ∷ open-for (length C) ∷ []))
 step-meeting C x F (is-const {c = op cell t}) v = rule CELL-NEW (put C x F (name (length C)) ++ (holds v ∷ []))
 step-meeting C x F (is-const {c = unit}) v = wrong-kind
 step-meeting C x F (is-const {c = num n}) v = wrong-kind
@@ -91,23 +94,12 @@ step-meeting C x F (is-exch (is-exch w)) v = wrong-kind
 
 -- document 01: "a thread whose expression is a value .. answers done"
 unfoldable pub step-place : Config → ℕ → Place → Answer
-step-place C x (settled v w) = done
-step-place C x (meet F f v wf wv) = step-meeting C x F wf v
-step-place C x loose = wrong-kind
-
--- document 01, cause 14: "number is no thread"
-unfoldable pub step-component : Config → ℕ → Option Component → Answer
-step-component C x (some (thread-of e)) = step-place C x (place e)
-step-component C x (some (holds v)) = no-thread
-step-component C x (some (open-for y)) = no-thread
-step-component C x (some used) = no-thread
-step-component C x (some awaited) = no-thread
-step-component C x none = no-thread
+step-place C x p = on-place p done wrong-kind λ F f w v. step-meeting C x F w v
 
 -- what a step of thread x of C answers. It is meant for what an image may hold (Image, `ImageRule`): cause 13 is tried before. Elsewhere HANDLE.BIND does
--- not look at the future, `substitute` shifts nothing, and a variable in the way answers 17.
+-- not look at the future, `substitute` shifts nothing, and a variable in the way answers 17. Cause 14: "number is no thread".
 unfoldable pub step-of : Config → ℕ → Answer
-step-of C x = step-component C x (at C x)
+step-of C x = on-thread (at C x) no-thread λ e. step-place C x (place e)
 
 -- Fig. 3, Ef: the place of thread x needs y's value, F[y v] or F[exch y v]
 pub data Needs (C : Config) (x y : ℕ) : Type 0 where

@@ -13,7 +13,7 @@ use Rattle.calculus.specs.Limits.{max-nesting, max-recipe-nodes}
 use Rattle.calculus.specs.Image.{nodes-all}
 use Rattle.calculus.specs.Table.{Table, TableRule, type-at}
 use Rattle.calculus.specs.Recipe.{setting-types}
-use Rattle.term.specs.Expressions.{bytes, FitsBytes, nesting}
+use Rattle.term.specs.Expressions.{bytes, nesting, FitsBytes}
 use Rattle.recipe_file.specs.File.{bays, table-bytes, term-bytes}
 use Rattle.recipe_file.specs.FileRule.{FileRule}
 

@@ -2,10 +2,11 @@
 use mathlib.Core.Path.{_≡_, refl}
 use mathlib.Core.List.{List, [], _∷_}
 use Prim.Native.Nat.{ℕ}
+use Rattle.calculus.specs.Syntax.{sum-in, sum-all}
 use Rattle.calculus.specs.Bytes.{word}
 use Rattle.calculus.specs.Lists.{each-below, tabulate}
 use Rattle.calculus.specs.Step.{beside, place, place-app}
-use Rattle.calculus.specs.Image.{component-test, constant-test, each-test, expression-test, handle-for, handles-for, image-test, is-awaited, is-settled, limits-test, nodes, sum-all, sum-in}
+use Rattle.calculus.specs.Image.{component-test, constant-test, each-test, expression-test, handle-for, handles-for, image-test, is-awaited, is-settled, limits-test, nodes}
 use Rattle.term.specs.Forms.{form-of, forms}
 use Rattle.term.specs.Numbers.{value-of}
 use Rattle.term.specs.Reader.{first-tree, node-of, one-term, read, read-term, tree-at}

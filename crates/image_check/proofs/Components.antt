@@ -7,9 +7,9 @@ use native.Mathlib.Decide.{decLt}
 use native.Mathlib.Omega.{arith}
 use borrow.Author.Tests.{le-leb}
 use lib.Dec.{leb}
-use Rattle.calculus.specs.Syntax.{Exp}
+use Rattle.calculus.specs.Syntax.{Exp, sum-in}
 use Rattle.calculus.specs.Step.{place}
-use Rattle.calculus.specs.Image.{expression-test, is-settled, nodes, sum-in}
+use Rattle.calculus.specs.Image.{expression-test, is-settled, nodes}
 use Rattle.calculus.specs.Theory.Tests.{and-parts, and-true, leb-complete, leb-sound}
 use Rattle.term.specs.Reader.{GoodAt, one-term, read-term}
 use Rattle.term.specs.Expressions.{term-at}

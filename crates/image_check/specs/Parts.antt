@@ -6,11 +6,11 @@ use mathlib.Core.List.{List}
 use Prim.Native.Nat.{_<_, ℕ}
 use lib.Dec.{eqb, leb}
 use lib.ListN.{getD, length}
-use Rattle.calculus.specs.Syntax.{Component, thread-of, holds, open-for, used, awaited, Config, at}
+use Rattle.calculus.specs.Syntax.{Component, thread-of, holds, open-for, used, awaited, Config, at, sum-in}
 use Rattle.calculus.specs.Lists.{each-below, sum-below}
 use Rattle.calculus.specs.Limits.{max-names, max-nodes}
 use Rattle.calculus.specs.Step.{place}
-use Rattle.calculus.specs.Image.{expression-test, handle-for, handles-for, is-awaited, is-settled, nodes, sum-in}
+use Rattle.calculus.specs.Image.{expression-test, handle-for, handles-for, is-awaited, is-settled, nodes}
 use Rattle.term.specs.Reader.{one-term, read-term}
 use Rattle.term.specs.Expressions.{term-at}
 use Rattle.term_scan.specs.declared.Part.{Part}

@@ -36,25 +36,20 @@ pub record Step : Type 0 where
 abbrev pub answer : Step → Outcome
 answer n = outcome-of (n .image) (n .call .thread) (n .call .out)
 
--- what it leaves: "the new image if that answered a rule, else the same image again". A rule answers the length of the image in the out buffer's first bytes.
-unfoldable pub image-left : Outcome → List ℕ → List ℕ → List ℕ
-image-left (Rule rule size) out image = take size out
-image-left Done out image = image
-image-left (Waiting y) out image = image
-image-left (Refused cause) out image = image
+-- what is new where a rule was answered, by the new image's length, and else what was before
+unfoldable pub renewed : {A : Type 0} → Outcome → (ℕ → A) → A → A
+renewed (Rule rule size) new before = new size
+renewed Done new before = before
+renewed (Waiting y) new before = before
+renewed (Refused cause) new before = before
 
+-- what it leaves: "the new image if that answered a rule, else the same image again"; that is in the out buffer's first bytes
 abbrev pub left : Step → List ℕ
-left n = image-left (answer n) (out-after-step (n .image) (n .call .thread) (n .call .out)) (n .image)
+left n = renewed (answer n) (λ size. take size (out-after-step (n .image) (n .call .thread) (n .call .out))) (n .image)
 
 -- the types of the names of the image that it leaves
-unfoldable pub types-by : Outcome → List LinType → List LinType → List LinType
-types-by (Rule rule size) new types = types ++ new
-types-by Done new types = types
-types-by (Waiting y) new types = types
-types-by (Refused cause) new types = types
-
 abbrev pub types-left : TypeNumbers → Step → List LinType
-types-left τ n = types-by (answer n) (new-types τ (config-of (n .image)) (n .call .thread)) (n .types)
+types-left τ n = renewed (answer n) (λ size. n .types ++ new-types τ (config-of (n .image)) (n .call .thread)) (n .types)
 
 -- "Each later one is handed what the step before it left": the steps of a list of calls, the first being handed this image with these types
 unfoldable pub steps : TypeNumbers → List ℕ → List LinType → List Call → List Step

@@ -5,6 +5,7 @@ use mathlib.Core.Option.{some}
 use mathlib.Core.List.{List}
 use Prim.Native.Nat.{ℕ, _≤_, _<_}
 use native.Mathlib.Omega.{arith}
+use Rattle.image.specs.Theory.Lengths.{length-config}
 use Rattle.calculus.specs.Bytes.{Bytes}
 use Rattle.calculus.specs.Syntax.{Exp, Component, thread-of, holds, open-for, used, awaited, at}
 use Rattle.calculus.specs.Theory.Lists.{at-below}
@@ -16,7 +17,7 @@ use Rattle.image_layout.specs.Readable.{HasHead}
 use Rattle.image_layout.specs.Theory.Reading.{has-head}
 use Rattle.image.specs.Configuration.{encode, config-of}
 use Rattle.image.specs.Stands.{image-stands}
-use Rattle.step_rules.specs.Theory.Reading.{encoded-is, heads-do, length-config}
+use Rattle.step_rules.specs.Theory.Reading.{encoded-is, heads-do}
 
 -- what a name's head says, and its component
 pub data Kind (s : List ℕ) (y : ℕ) : ℕ → Type 0 where
@@ -40,7 +41,7 @@ module _ (s : List ℕ) (b : Bytes s) (stands : image-stands s ≡ true) (y : �
 
   pub kind-there : Kind s y (kind-at s y)
   kind-there =
-      let (c, h) = at-below (config-of s) y (omega (arith, length-config s b stands)) in
+      let (c, h) = at-below (config-of s) y (omega (arith, length-config s)) in
       let e = encoded-is s b stands y h in
       kind-of c h (sym (encoded-kind s y) ∙ ap (λ (x : Encoded). x .kind) (sym e)) (sym (encoded-companion s y) ∙ ap (λ (x : Encoded). x .companion) (sym e))
 

@@ -11,7 +11,7 @@ use Rattle.calculus.specs.Syntax.{Exp}
 use Rattle.calculus.specs.Image.{size}
 use Rattle.term.specs.Tree.{Tree, tree-size}
 use Rattle.term.specs.Reader.{end-at, first-rest, first-tree, Got, none, got, GoodAt, one-term, read-term, tree-at}
-use Rattle.term.specs.Expressions.{bytes, exp-of, FitsBytes, term-at, TermAt, tree-of}
+use Rattle.term.specs.Expressions.{bytes, exp-of, term-at, TermAt, tree-of, FitsBytes}
 use Rattle.term.proofs.Trees.{bytes-tree, exp-bytes, exp-fits, exp-size, exp-tree, tree-well-formed}
 use Rattle.term.proofs.Reading.{past-term}
 use Rattle.term.proofs.Fronts.{is-good, is-tree}

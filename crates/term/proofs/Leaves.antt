@@ -15,7 +15,7 @@ use Rattle.calculus.specs.Theory.Tests.{clash}
 use Rattle.calculus.specs.Theory.Expressions.{count-other}
 use Rattle.term.specs.Forms.{form-of, forms, in-range, variable-tag, lambda-tag, application-tag, unit-tag, num-tag, cell-tag, handle-tag, name-tag, subterms-of, tags}
 use Rattle.term.specs.Tree.{InTable, leaf}
-use Rattle.term.specs.Expressions.{const-tree, FitsBytes, leaf-exp, leaf-forms, nesting, op-tag, tree-of}
+use Rattle.term.specs.Expressions.{const-tree, leaf-exp, leaf-forms, nesting, op-tag, tree-of, FitsBytes}
 use Rattle.term.proofs.Table.{below, end-of-row, every, every-at, Row, _∣_}
 
 -- a rule of leaves, by one test

@@ -16,7 +16,7 @@ use Rattle.calculus.specs.Theory.Expressions.{count-same}
 use Rattle.term.specs.Numbers.{little-endian}
 use Rattle.term.specs.Forms.{form-of, forms, lambda-tag, application-tag}
 use Rattle.term.specs.Tree.{InTable, Tree, leaf, one, tree-bytes, tree-size, two, WellFormed}
-use Rattle.term.specs.Expressions.{bytes, const-bytes, const-tree, exp-of, FitsBytes, leaf-exp, leaf-forms, op-tag, tree-of}
+use Rattle.term.specs.Expressions.{bytes, const-bytes, const-tree, exp-of, leaf-exp, leaf-forms, op-tag, tree-of, FitsBytes}
 use Rattle.term.proofs.Leaves.{is-application, is-lambda, leaf-fits, leaf-tree}
 use Rattle.term.proofs.Sizes.{length-bytes}
 use Rattle.term.proofs.Terms.{size-bytes}

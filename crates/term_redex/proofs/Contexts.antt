@@ -9,7 +9,7 @@ use Rattle.calculus.specs.Syntax.{Exp, app, each-app}
 use Rattle.calculus.specs.Reduction.{Context, hole, in-function, in-argument, plug}
 use Rattle.calculus.specs.Names.{count}
 use Rattle.calculus.specs.Image.{Closed, closed-app, nodes, size}
-use Rattle.term.specs.Expressions.{bytes, FitsBytes, TermAt}
+use Rattle.term.specs.Expressions.{bytes, TermAt, FitsBytes}
 use Rattle.term.proofs.Sizes.{length-bytes}
 use Rattle.term.proofs.Trees.{fits-app}
 use Rattle.term_redex.specs.Contexts.{back, context-nodes, front, hole-at}

@@ -7,7 +7,7 @@ use mathlib.Core.List.{List, [], _++_, _∷_}
 use Prim.Native.Nat.{suc, zero, ℕ}
 use lib.Dec.{eqb}
 use lib.ListN.{length, set}
-use Rattle.calculus.specs.Syntax.{unit, Exp, var, name, const, lam, app, Component, thread-of, holds, open-for, used, awaited, Config, at, Allowed, Each, each-var, each-name, each-const, each-lam, each-app, EachIn, EachAll}
+use Rattle.calculus.specs.Syntax.{unit, Exp, var, name, const, lam, app, Component, thread-of, holds, open-for, used, awaited, Config, at, Allowed, Each, each-var, each-name, each-const, each-lam, each-app, EachAll, In}
 use Rattle.calculus.specs.Typing.{TypeNumbers}
 use Rattle.calculus.specs.Reduction.{substitute, Context, hole, in-function, in-argument, plug, Rule, Reduces, beta, thread-new, future-deref, future-deref-exch, handle-new, handle-bind, cell-new, cell-exch}
 use Rattle.calculus.specs.Image.{WithinLimits}
@@ -45,13 +45,13 @@ each-body : {Q : Allowed} {t : ℕ} {e : Exp} → Each Q (lam t e) → Each Q e
 each-body (each-lam l s) = s
 
 module _ (Q : Allowed) where
-  each-set : (C : Config) (x : ℕ) (c : Component) → EachAll Q C → EachIn Q c → EachAll Q (set C x c)
+  each-set : (C : Config) (x : ℕ) (c : Component) → EachAll Q C → In (Each Q) c → EachAll Q (set C x c)
   each-set C x c a s k b p = elim (set-cases C x k c p) [ inl q ↦ rw (q .1) s | inr q ↦ a k b (q .1) ]
 
   pub each-append : (C D : Config) → EachAll Q C → EachAll Q D → EachAll Q (C ++ D)
   each-append C D a b k c p = elim (append-cases C D k p) [ inl q ↦ a k c q | inr q ↦ b (q .0) c (q .2) ]
 
-  each-one : (c : Component) (C : Config) → EachIn Q c → EachAll Q C → EachAll Q (c ∷ C)
+  each-one : (c : Component) (C : Config) → In (Each Q) c → EachAll Q C → EachAll Q (c ∷ C)
   each-one c C s a zero b p = let e : c ≡ b = cc in rw e at s
   each-one c C s a (suc k) b p = a k b p
 

@@ -9,11 +9,11 @@ use native.Mathlib.Decide.{decLt}
 use native.Mathlib.Omega.{arith}
 use lib.Dec.{eqb, ltb}
 use lib.ListN.{length}
-use Rattle.calculus.specs.Syntax.{Const, unit, num, op, Exp, var, name, const, lam, app, Value, Component, thread-of, holds, open-for, used, awaited, Config, at, constants, Each, each-var, each-name, each-const, each-lam, each-app, EachIn}
-use Rattle.calculus.specs.Names.{count, count-in}
+use Rattle.calculus.specs.Syntax.{Const, unit, num, op, Exp, var, name, const, lam, app, Value, Component, thread-of, holds, open-for, used, awaited, Config, at, constants, Each, each-var, each-name, each-const, each-lam, each-app, In, sum-in}
+use Rattle.calculus.specs.Names.{count}
 use Rattle.calculus.specs.Step.{Place, settled, meet, loose, place}
 use Rattle.calculus.specs.Limits.{max-num, max-names, max-nodes}
-use Rattle.calculus.specs.Image.{Closed, closed-var, closed-name, closed-const, closed-lam, closed-app, ClosedIn, NumSmall, nodes-all, WithinLimits, ImageRule, constant-test, expression-test, is-settled, is-awaited, handle-for, handles-for, component-test, each-test, limits-test, image-test}
+use Rattle.calculus.specs.Image.{Closed, closed-var, closed-name, closed-const, closed-lam, closed-app, NumSmall, nodes-all, WithinLimits, ImageRule, constant-test, expression-test, is-settled, is-awaited, handle-for, handles-for, component-test, each-test, limits-test, image-test}
 use Rattle.calculus.specs.Theory.Tests.{clash, and-true, and-parts, eqb-sound, eqb-complete, eqb-differ, ltb-sound, ltb-complete}
 use Rattle.calculus.specs.Theory.Expressions.{count-same}
 use Rattle.calculus.specs.Theory.Places.{place-sound, place-value, Placed}
@@ -174,7 +174,7 @@ each-complete test k (d ∷ C) f =
 
 -- the test passes exactly what keeps the rules
 pub image-test-iff : (C : Config) → (image-test C ≡ true) ↔ ImageRule C
-unfolding image-test component-test count-in is-awaited
+unfolding image-test component-test sum-in is-awaited
 image-test-iff C = (there, back)
   where
     there : image-test C ≡ true → ImageRule C
@@ -197,21 +197,21 @@ image-test-iff C = (there, back)
         kept : (v : Exp) → (expression-test (length C) 0 v && is-settled (place v)) ≡ true → Kept (length C) 0 v
         kept v t = expression-sound (length C) 0 v (and-parts (expression-test (length C) 0 v) (is-settled (place v)) t .0)
 
-        bound : (x : ℕ) (c : Component) → component-test C x c ≡ true → ClosedIn c
+        bound : (x : ℕ) (c : Component) → component-test C x c ≡ true → In (Closed 0) c
         bound x (thread-of e) t = expression-sound (length C) 0 e t .0
         bound x (holds v) t = kept v t .0
         bound x (open-for y) t = tt
         bound x used t = tt
         bound x awaited t = tt
 
-        below : (x : ℕ) (c : Component) → component-test C x c ≡ true → (k : ℕ) → length C ≤ k → count-in k c ≡ 0
+        below : (x : ℕ) (c : Component) → component-test C x c ≡ true → (k : ℕ) → length C ≤ k → sum-in (count k) c ≡ 0
         below x (thread-of e) t = expression-sound (length C) 0 e t .1
         below x (holds v) t = kept v t .1
         below x (open-for y) t = λ k l. refl
         below x used t = λ k l. refl
         below x awaited t = λ k l. refl
 
-        small : (x : ℕ) (c : Component) → component-test C x c ≡ true → EachIn (constants NumSmall) c
+        small : (x : ℕ) (c : Component) → component-test C x c ≡ true → In (Each (constants NumSmall)) c
         small x (thread-of e) t = expression-sound (length C) 0 e t .2
         small x (holds v) t = kept v t .2
         small x (open-for y) t = tt

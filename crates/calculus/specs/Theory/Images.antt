@@ -6,14 +6,14 @@ use mathlib.Core.List.{List, [], _∷_}
 use Prim.Native.Nat.{_*_, _≤_, ℕ}
 use native.Mathlib.Omega.{arith}
 use Rattle.calculus.specs.Types.{once, LinType, multiplicity}
-use Rattle.calculus.specs.Syntax.{Const, unit, num, op, Exp, var, name, const, lam, app, Component, thread-of, holds, open-for, used, awaited, Config, at, constants, Each, each-var, each-name, each-const, each-lam, each-app, EachIn, EachAll}
+use Rattle.calculus.specs.Syntax.{Const, unit, num, op, Exp, var, name, const, lam, app, Component, thread-of, holds, open-for, used, awaited, Config, at, constants, Each, each-var, each-name, each-const, each-lam, each-app, EachAll, In, sum-in, sum-all}
 use Rattle.calculus.specs.Typing.{TypeNumbers}
 use Rattle.calculus.specs.Reduction.{Rule, Reduces}
 use Rattle.calculus.specs.Names.{OnceName}
 use Rattle.calculus.specs.State.{State}
 use Rattle.calculus.specs.Theory.ConfigRuns.{ConfigCall, state-grown, state-after, ConfigStep, config-steps}
 use Rattle.calculus.specs.Limits.{max-image-length}
-use Rattle.calculus.specs.Image.{ClosedIn, NumSmall, nodes, const-size, size, sum-in, sum-all, image-length, WithinLimits, ImageRule, WritableConst, Writable}
+use Rattle.calculus.specs.Image.{NumSmall, nodes, const-size, size, image-length, WithinLimits, ImageRule, WritableConst, Writable, Closed}
 use Rattle.calculus.specs.Theory.Tests.{clash}
 use Rattle.calculus.specs.Theory.Lists.{at-bound, at-below}
 use Rattle.calculus.specs.Theory.Expressions.{derivation-closed}
@@ -23,7 +23,7 @@ use Rattle.calculus.specs.Theory.Runs.{SoundState}
 use Rattle.calculus.specs.Theory.Each.{each-step}
 use Rattle.calculus.specs.Theory.Preservation.{preservation}
 
-fits-closed : (τ : TypeNumbers) (S : List LinType) (C : Config) (x : ℕ) (c : Component) → Fits τ S C x c → ClosedIn c
+fits-closed : (τ : TypeNumbers) (S : List LinType) (C : Config) (x : ℕ) (c : Component) → Fits τ S C x c → In (Closed 0) c
 fits-closed τ S C x (thread-of e) f = derivation-closed (f .3)
 fits-closed τ S C x (holds e) f = derivation-closed (f .3)
 fits-closed τ S C x (open-for y) f = tt
@@ -73,7 +73,7 @@ each-small (each-const {c = c} w) = each-const (writable-small c w)
 each-small (each-lam l s) = each-lam tt (each-small s)
 each-small (each-app p q) = each-app (each-small p) (each-small q)
 
-in-small : (c : Component) → EachIn Writable c → EachIn (constants NumSmall) c
+in-small : (c : Component) → In (Each Writable) c → In (Each (constants NumSmall)) c
 in-small (thread-of e) w = each-small w
 in-small (holds e) w = each-small w
 in-small (open-for y) w = tt

@@ -5,16 +5,16 @@ use mathlib.Core.List.{List, [], _∷_, map}
 use Prim.Native.Nat.{ℕ}
 use lib.ListN.{replicate}
 use Rattle.calculus.specs.Types.{once, unit-type, num-type, fun}
-use Rattle.calculus.specs.Syntax.{unit, num, op, cell, exch, thread, handle, Exp, var, name, const, lam, app, holds, at}
+use Rattle.calculus.specs.Syntax.{unit, num, op, cell, exch, thread, handle, Exp, var, name, const, lam, app, holds, at, sum-in, sum-all}
 use Rattle.calculus.specs.Typing.{of-unit, of-num, of-op, fig8-cell, fig8-exch, fig8-handle, NoOnce, no-once-nil, no-once-gone, no-once-many, Split, split-nil, split-both, split-left, split-right, only-here, d-const, d-var, d-many, d-once, d-app}
 use Rattle.calculus.specs.Reduction.{substitute, plug}
 use Rattle.calculus.specs.Names.{uses}
-use Rattle.calculus.specs.Step.{beside, place-app, place, when-done, step-call, step-exchange, step-meeting, step-place, step-component, step-of}
-use Rattle.calculus.specs.NewTypes.{function-in, function-of, function-at, result-type, future-and-handle, coming, new-types}
+use Rattle.calculus.specs.Step.{beside, place-app, place, when-done, step-call, step-exchange, step-meeting, step-place, step-of}
+use Rattle.calculus.specs.NewTypes.{function-at, result-type, future-and-handle, coming, new-types}
 use Rattle.calculus.specs.Reply.{reply-of}
 use Rattle.calculus.specs.Theory.ConfigRuns.{ConfigCall, config-reply, state-left, state-after, ConfigStep, config-steps}
 use Rattle.calculus.specs.Recipe.{loaded}
-use Rattle.calculus.specs.Image.{nodes, sum-in, sum-all, constant-test, expression-test, is-settled, is-awaited, handle-for, handles-for, component-test, each-test, limits-test, image-test}
+use Rattle.calculus.specs.Image.{nodes, constant-test, expression-test, is-settled, is-awaited, handle-for, handles-for, component-test, each-test, limits-test, image-test}
 use Rattle.calculus.specs.Table.{entry, Table, cell-reading, function-reading, read-entry, read-at, read-deep, type-at, test-entry}
 use Rattle.calculus.specs.Narrowing.{narrowed}
 use Rattle.calculus.specs.Verdict.{on-function, on-once-function, on-cell, is-many, scoped-const, scoped, is-cell-type, is-exch-type, is-thread-type, is-handle-type, annotated-const, annotated, const-number, on-number, result-number, applied-number, lambda-number, type-number, outside-many, linear-parameter, linear, every, verdict}
@@ -63,5 +63,5 @@ keeps-handle-runs :
     (map answered (config-steps (type-at T11) (loaded (keeps-handle ∷ []) (unit-type ∷ [])) (replicate 6 (call 1))) ≡ 4 ∷ 1 ∷ 1 ∷ 6 ∷ 7 ∷ 5 ∷ []) ×
     ((n : ConfigStep) × (at (config-steps (type-at T11) (loaded (keeps-handle ∷ []) (unit-type ∷ [])) (replicate 6 (call 1))) 4 ≡ some n) ×
     (at (n .before .config) 4 ≡ some (holds (name 3))) × (at (state-after (type-at T11) (n .before) (n .call) .config) 4 ≡ some (holds (lam 3 (const unit)))))
-unfolding loaded config-steps state-left config-reply reply-of image-test limits-test each-test component-test expression-test constant-test is-settled is-awaited handle-for handles-for nodes sum-in sum-all step-of step-component step-place step-meeting step-call step-exchange when-done place place-app beside substitute plug function-in function-of function-at result-type future-and-handle coming new-types type-at read-deep read-at read-entry cell-reading function-reading
+unfolding loaded config-steps state-left config-reply reply-of image-test limits-test each-test component-test expression-test constant-test is-settled is-awaited handle-for handles-for nodes sum-in sum-all step-of step-place step-meeting step-call step-exchange when-done place place-app beside substitute plug function-at result-type future-and-handle coming new-types type-at read-deep read-at read-entry cell-reading function-reading
 keeps-handle-runs = (refl, (_, refl, refl, refl))

@@ -3,16 +3,16 @@ use mathlib.Core.Path.{_≡_, refl}
 use mathlib.Core.List.{[], _∷_, map}
 use lib.ListN.{replicate}
 use Rattle.calculus.specs.Types.{unit-type}
-use Rattle.calculus.specs.Syntax.{unit, num, op, handle, Exp, var, name, const, lam, app, thread-of}
+use Rattle.calculus.specs.Syntax.{unit, num, op, handle, Exp, var, name, const, lam, app, thread-of, sum-in, sum-all}
 use Rattle.calculus.specs.Typing.{TypeNumbers}
 use Rattle.calculus.specs.Reduction.{substitute, plug, BETA, FUTURE-DEREF}
 use Rattle.calculus.specs.Names.{uses}
-use Rattle.calculus.specs.Step.{beside, place-app, place, rule, when-done, step-call, step-exchange, step-meeting, step-place, step-component, step-of}
-use Rattle.calculus.specs.NewTypes.{function-in, function-of, function-at, result-type, future-and-handle, coming, new-types}
+use Rattle.calculus.specs.Step.{beside, place-app, place, rule, when-done, step-call, step-exchange, step-meeting, step-place, step-of}
+use Rattle.calculus.specs.NewTypes.{function-at, result-type, future-and-handle, coming, new-types}
 use Rattle.calculus.specs.Reply.{reply-of}
 use Rattle.calculus.specs.Theory.ConfigRuns.{config-reply, state-left, config-steps}
 use Rattle.calculus.specs.Recipe.{loaded}
-use Rattle.calculus.specs.Image.{nodes, sum-in, sum-all, constant-test, expression-test, is-settled, is-awaited, handle-for, handles-for, component-test, each-test, limits-test, image-test}
+use Rattle.calculus.specs.Image.{nodes, constant-test, expression-test, is-settled, is-awaited, handle-for, handles-for, component-test, each-test, limits-test, image-test}
 use Rattle.calculus.specs.Table.{entry, Table, test-entry}
 use Rattle.calculus.specs.Narrowing.{narrowed}
 use Rattle.calculus.specs.Verdict.{on-function, on-once-function, on-cell, is-many, scoped-const, scoped, is-cell-type, is-exch-type, is-thread-type, is-handle-type, annotated-const, annotated, const-number, on-number, result-number, applied-number, lambda-number, type-number, outside-many, linear-parameter, linear, every, verdict}
@@ -48,15 +48,15 @@ both-refused = (refl, refl)
 both-go-wrong : (τ : TypeNumbers) →
     (map answered (config-steps τ (loaded (runs-twice ∷ []) (unit-type ∷ [])) (replicate 9 (call 1))) ≡ 4 ∷ 1 ∷ 1 ∷ 1 ∷ 1 ∷ 5 ∷ 1 ∷ 1 ∷ 16 ∷ []) ×
     (map answered (config-steps τ (loaded (used-twice ∷ []) (unit-type ∷ [])) (replicate 6 (call 1))) ≡ 4 ∷ 1 ∷ 1 ∷ 5 ∷ 1 ∷ 16 ∷ [])
-unfolding loaded config-steps state-left config-reply reply-of image-test limits-test each-test component-test expression-test constant-test is-settled is-awaited handle-for handles-for nodes sum-in sum-all step-of step-component step-place step-meeting step-call step-exchange when-done place place-app beside substitute plug function-in function-of function-at result-type future-and-handle coming new-types
+unfolding loaded config-steps state-left config-reply reply-of image-test limits-test each-test component-test expression-test constant-test is-settled is-awaited handle-for handles-for nodes sum-in sum-all step-of step-place step-meeting step-call step-exchange when-done place place-app beside substitute plug function-at result-type future-and-handle coming new-types
 both-go-wrong τ = (refl, refl)
 
 -- second, following a future "even in argument place": here rule 1 goes, with the name
 mistake-2 : step-of (thread-of (app (lam 0 (var 0)) (name 1)) ∷ thread-of (const unit) ∷ []) 0 ≡ rule BETA (thread-of (name 1) ∷ thread-of (const unit) ∷ [])
-unfolding step-of step-component step-place step-meeting place place-app beside substitute plug
+unfolding step-of step-place step-meeting place place-app beside substitute plug
 mistake-2 = refl
 
 -- third, a name bound to itself: "a step that needs it applies rule 3 for ever"
 mistake-3 : step-of (thread-of (app (name 1) (const unit)) ∷ thread-of (name 1) ∷ []) 0 ≡ rule FUTURE-DEREF (thread-of (app (name 1) (const unit)) ∷ thread-of (name 1) ∷ [])
-unfolding step-of step-component step-place step-meeting step-call when-done place place-app beside plug
+unfolding step-of step-place step-meeting step-call when-done place place-app beside plug
 mistake-3 = refl

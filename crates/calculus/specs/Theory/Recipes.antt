@@ -8,19 +8,18 @@ use native.Mathlib.Decide.{decLt}
 use native.Mathlib.Omega.{arith}
 use lib.ListN.{length, length-append, length-map, length-replicate, replicate}
 use Rattle.calculus.specs.Types.{many, LinType, num-type, ref, multiplicity}
-use Rattle.calculus.specs.Syntax.{unit, num, Exp, const, is-const, Component, thread-of, holds, open-for, used, at, Allowed, constants, Each, each-const, EachAll}
+use Rattle.calculus.specs.Syntax.{unit, num, Exp, const, is-const, Component, thread-of, holds, open-for, used, at, Allowed, constants, Each, each-const, EachAll, sum-in, sum-all}
 use Rattle.calculus.specs.Typing.{TypeNumbers, NameTypes, of-num, no-once-nil, Derivation, d-const}
 use Rattle.calculus.specs.Narrowing.{NarrowConst, Narrow}
 use Rattle.calculus.specs.Names.{OnceName}
-use Rattle.calculus.specs.Theory.Configurations.{nodes-append}
 use Rattle.calculus.specs.Theory.ConfigRuns.{ConfigCall, state-after, ConfigStep, config-steps, ConfigDemand}
 use Rattle.calculus.specs.Recipe.{setting-types, loaded}
 use Rattle.calculus.specs.Limits.{max-bays, max-recipe-nodes}
-use Rattle.calculus.specs.Image.{nodes, sum-in, sum-all, nodes-all, WithinLimits, ImageRule, Writable}
+use Rattle.calculus.specs.Image.{nodes, nodes-all, WithinLimits, ImageRule, Writable}
 use Rattle.calculus.specs.Theory.Tests.{clash}
 use Rattle.calculus.specs.Theory.Lists.{append-below, append-right, append-cases, at-replicate, replicate-at}
 use Rattle.calculus.specs.Theory.Expressions.{more-names}
-use Rattle.calculus.specs.Theory.Configurations.{types-more}
+use Rattle.calculus.specs.Theory.Configurations.{types-more, sum-append}
 use Rattle.calculus.specs.Theory.Sound.{Fits}
 use Rattle.calculus.specs.Theory.Runs.{SoundState, run-demand}
 use Rattle.calculus.specs.Theory.Each.{each-append, run-each}
@@ -71,7 +70,7 @@ start-within : (es : List Exp) (αs : List LinType) → length es ≤ max-bays �
 unfolding loaded
 start-within es αs p q = record {
   few-names = rw (length-append (replicate (length es) (holds (const (num 0)))) (map thread-of es), length-replicate, length-map) (omega arith);
-  few-nodes = rw (nodes-append (replicate (length es) (holds (const (num 0)))) (map thread-of es), nodes-settings (length es)) (omega arith);
+  few-nodes = rw (sum-append nodes (replicate (length es) (holds (const (num 0)))) (map thread-of es), nodes-settings (length es)) (omega arith);
 }
 
 -- what holds of every constant of the terms, of unit and of a setting's first value, holds of every constant all through a run

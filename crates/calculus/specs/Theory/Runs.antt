@@ -7,12 +7,13 @@ use Prim.Native.Nat.{_<_, suc, zero, ℕ}
 use native.Mathlib.Decide.{decLt, ℕ-discrete}
 use native.Mathlib.Omega.{arith}
 use lib.ListN.{set}
+use Rattle.calculus.specs.Theory.Configurations.{sum-part}
 use Rattle.calculus.specs.Types.{LinType}
-use Rattle.calculus.specs.Syntax.{Exp, name, is-name, Component, thread-of, holds, open-for, used, awaited, Config, at, constants, EachAll}
+use Rattle.calculus.specs.Syntax.{Exp, name, is-name, Component, thread-of, holds, open-for, used, awaited, Config, at, constants, EachAll, In, sum-in}
 use Rattle.calculus.specs.Typing.{TypeNumbers}
 use Rattle.calculus.specs.Narrowing.{NarrowConst}
 use Rattle.calculus.specs.Reduction.{plug, Rule, number, Reduces, beta, thread-new, future-deref, future-deref-exch, handle-new, handle-bind, cell-new, cell-exch}
-use Rattle.calculus.specs.Names.{count, count-in, Outside, OnceNamesOnce}
+use Rattle.calculus.specs.Names.{count, Outside, OnceNamesOnce}
 use Rattle.calculus.specs.Step.{step-of}
 use Rattle.calculus.specs.NewTypes.{function-at}
 use Rattle.calculus.specs.Image.{WithinLimits, ImageRule}
@@ -21,8 +22,7 @@ use Rattle.calculus.specs.Theory.ConfigRuns.{ConfigCall, state-grown, st
 use Rattle.calculus.specs.Theory.Tests.{clash}
 use Rattle.calculus.specs.Theory.Lists.{set-same, set-other, append-left}
 use Rattle.calculus.specs.Theory.Step.{function-meet}
-use Rattle.calculus.specs.Theory.Configurations.{count-all-part}
-use Rattle.calculus.specs.Theory.Sound.{OutsideIn, Sound}
+use Rattle.calculus.specs.Theory.Sound.{Sound}
 use Rattle.calculus.specs.Theory.Preservation.{preservation}
 use Rattle.calculus.specs.Theory.Progress.{Proper, progress}
 use Rattle.calculus.specs.Theory.Replies.{moved-means, after-keeps, run-keeps, only-causes, twelve-iff, fourteen-iff, goes}
@@ -32,9 +32,9 @@ SoundState τ s = Sound τ (s .names) (s .config)
 
 -- the names of a sound state have values of their types
 once-names-once : {τ : TypeNumbers} {S : List LinType} {C : Config} → Sound τ S C → (x : ℕ) (c : Component) (v : Exp) → at C x ≡ some c →
-    ((k : ℕ) → count-in k c ≡ count k v) → ((k : ℕ) → OutsideIn τ k c → Outside τ k v) → OnceNamesOnce τ S v
+    ((k : ℕ) → sum-in (count k) c ≡ count k v) → ((k : ℕ) → In (Outside τ k) c → Outside τ k v) → OnceNamesOnce τ S v
 once-names-once {C = C} s x c v h n o = record {
-  at-most-once = λ k q. omega (arith, n k, count-all-part k C x h, s .linear k q);
+  at-most-once = λ k q. omega (arith, n k, sum-part (count k) C x h, s .linear k q);
   outside = λ k q. o k (s .outside k q x c h);
 }
 
@@ -43,7 +43,7 @@ abbrev pub NarrowState : TypeNumbers → State → Type 0
 NarrowState τ s = EachAll (constants (NarrowConst τ)) (s .config)
 
 pub sound-typed : {τ : TypeNumbers} {s : State} → SoundState τ s → NarrowState τ s → ValuesTyped τ s
-unfolding count-in
+unfolding sum-in
 sound-typed {s} d w = record {
   cells = λ x v h. let f = d .fits x (holds v) h in
       (f .0, f .1, record { value = f .2; derivation = f .3; narrow = w x (holds v) h; names = once-names-once d x (holds v) v h (λ k. refl) (λ k o. o) });

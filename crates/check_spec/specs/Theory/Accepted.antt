@@ -27,7 +27,7 @@ use Rattle.calculus.specs.Theory.Lowest.{lowest-parts}
 use Rattle.calculus.specs.Theory.TableTest.{table-test-iff}
 use Rattle.calculus.specs.Theory.Verdict.{accepted-iff, verdict-iff, verdict-derived-iff}
 use Rattle.term.specs.Reader.{one-term, read-term}
-use Rattle.term.specs.Expressions.{bytes, FitsBytes, nesting}
+use Rattle.term.specs.Expressions.{bytes, nesting, FitsBytes}
 use Rattle.term.proofs.Expressions.{one-term-sound, one-term-complete, term-of-bytes}
 use Rattle.recipe_file.specs.File.{bays, first-term, table-bytes, term-bytes, cause-1, cause-2, cause-3}
 use Rattle.recipe_file.specs.FileRule.{FileRule}

@@ -4,27 +4,19 @@ use mathlib.Core.List.{List, [], _∷_}
 use Prim.Native.Nat.{_<_, _≤_, suc, zero, ℕ}
 use native.Mathlib.Omega.{arith}
 use lib.ListN.{length}
-use Rattle.calculus.specs.Syntax.{Component, thread-of, holds, open-for, used, awaited, EachIn}
-use Rattle.calculus.specs.Names.{count-in}
+use Rattle.calculus.specs.Names.{count}
+use Rattle.calculus.specs.Syntax.{Component, thread-of, holds, open-for, used, awaited, In, sum-in, Each}
 use Rattle.calculus.specs.Limits.{byte-values}
 use Rattle.calculus.specs.Image.{Writable}
-use Rattle.term.specs.Expressions.{bytes, FitsBytes, term-at}
+use Rattle.term.specs.Expressions.{bytes, term-at, FitsBytes}
 use Rattle.term.proofs.Expressions.{term-of-bytes}
 use Rattle.calculus.specs.Kinds.{open-handle-kind}
 use Rattle.image_layout.specs.Encoded.{Encoded}
 use Rattle.image_layout.specs.Layout.{HeadRule}
 use Rattle.image.specs.Configuration.{encode, components, decode}
 
--- the node forms can write a component's expression
-abbrev pub FitsIn : Component → Type 0
-FitsIn (thread-of e) = FitsBytes e
-FitsIn (holds e) = FitsBytes e
-FitsIn (open-for y) = Unit {0}
-FitsIn used = Unit {0}
-FitsIn awaited = Unit {0}
-
 -- what is written is read
-pub decode-encode : (c : Component) → FitsIn c → decode (encode c) ≡ c
+pub decode-encode : (c : Component) → In FitsBytes c → decode (encode c) ≡ c
 unfolding decode components encode
 decode-encode (thread-of e) f = ap thread-of (term-of-bytes e f)
 decode-encode (holds e) f = ap holds (term-of-bytes e f)
@@ -68,7 +60,7 @@ module _ (companion : ℕ) (expression : List ℕ) where
   written-again (suc (suc (suc (suc (suc zero))))) h s = λ i. record { kind = 5; companion = sym (h .companions (λ e. absurd (omega arith))) i; expression = sym (no-length expression (h .lengths (omega arith))) i }
   written-again (suc (suc (suc (suc (suc (suc k)))))) h s = absurd (omega (arith, h .kinds))
 
-  read-fits : (kind : ℕ) → Said (with-kind kind) → FitsIn (decode (with-kind kind))
+  read-fits : (kind : ℕ) → Said (with-kind kind) → In FitsBytes (decode (with-kind kind))
   unfolding decode components
   read-fits zero s = tt
   read-fits (suc zero) s = s (omega arith) .1
@@ -81,19 +73,19 @@ module _ (companion : ℕ) (expression : List ℕ) where
 pub encode-decode : (x : Encoded) → Rule x → Said x → encode (decode x) ≡ x
 encode-decode x = written-again (x .companion) (x .expression) (x .kind)
 
-pub decode-fits : (x : Encoded) → Said x → FitsIn (decode x)
+pub decode-fits : (x : Encoded) → Said x → In FitsBytes (decode x)
 decode-fits x = read-fits (x .companion) (x .expression) (x .kind)
 
 -- what one byte can say
-pub fits-writable : (c : Component) → FitsIn c → EachIn Writable c
+pub fits-writable : (c : Component) → In FitsBytes c → In (Each Writable) c
 fits-writable (thread-of e) f = f .writable
 fits-writable (holds e) f = f .writable
 fits-writable (open-for y) f = tt
 fits-writable used f = tt
 fits-writable awaited f = tt
 
-pub writable-fits : (c : Component) → EachIn Writable c → ((k : ℕ) → byte-values ≤ k → count-in k c ≡ 0) → FitsIn c
-unfolding count-in
+pub writable-fits : (c : Component) → In (Each Writable) c → ((k : ℕ) → byte-values ≤ k → sum-in (count k) c ≡ 0) → In FitsBytes c
+unfolding sum-in
 writable-fits (thread-of e) w n = record { writable = w; names = n }
 writable-fits (holds e) w n = record { writable = w; names = n }
 writable-fits (open-for y) w n = tt

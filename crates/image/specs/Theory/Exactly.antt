@@ -8,8 +8,9 @@ use Prim.Native.Nat.{suc, zero, ℕ}
 use native.Mathlib.Omega.{arith}
 use lib.Dec.{leb}
 use lib.ListN.{drop, length-map}
+use Rattle.term.specs.Expressions.{FitsBytes}
 use Rattle.calculus.specs.Bytes.{Bytes}
-use Rattle.calculus.specs.Syntax.{Component, thread-of, holds, open-for, used, awaited, Config, at, EachAll}
+use Rattle.calculus.specs.Syntax.{Component, thread-of, holds, open-for, used, awaited, Config, at, EachAll, In}
 use Rattle.calculus.specs.Image.{ImageRule, image-test, Writable}
 use Rattle.calculus.specs.Theory.Tests.{and-true, and-parts, leb-sound, clash}
 use Rattle.calculus.specs.Theory.Lists.{at-below}
@@ -28,7 +29,7 @@ use Rattle.image_layout.specs.Theory.Exactly.{exactly, image-stands as layout-s
 use Rattle.image.specs.Theory.Maps.{at-map}
 use Rattle.image.specs.Configuration.{encode, image-of, decode, config-of}
 use Rattle.image.specs.Stands.{terms-stand, image-stands}
-use Rattle.image.specs.Theory.Components.{FitsIn, decode-encode, encode-rule, Said, encode-decode, decode-fits, fits-writable, writable-fits}
+use Rattle.image.specs.Theory.Components.{decode-encode, encode-rule, Said, encode-decode, decode-fits, fits-writable, writable-fits}
 
 -- what stands in a list that is mapped
 map-at : {A B : Type 0} (f : A → B) (l : List A) (k : ℕ) {y : B} → at (map f l) k ≡ some y → (x : A) × (at l k ≡ some x) × (y ≡ f x)
@@ -80,12 +81,12 @@ module _ (s : List ℕ) (b : Bytes s) (stands : image-stands s ≡ true) where
   unfolding image-of
   is-image = sym (heads-read .1) ∙ ap image-bytes (sym written-back)
 
-  pub config-fits : (k : ℕ) (c : Component) → at (config-of s) k ≡ some c → FitsIn c
+  pub config-fits : (k : ℕ) (c : Component) → at (config-of s) k ≡ some c → In FitsBytes c
   unfolding config-of
   config-fits k c h = let (x, g, e) = map-at decode (encoded-all s) k h in rw e (decode-fits x (said k x g))
 
 -- a component that was written has one term, or none
-kind-and-term : (kind : ℕ) (expression : List ℕ) (c : Component) → FitsIn c → kind ≡ encode c .kind → expression ≡ encode c .expression →
+kind-and-term : (kind : ℕ) (expression : List ℕ) (c : Component) → In FitsBytes c → kind ≡ encode c .kind → expression ≡ encode c .expression →
     (leb open-handle-kind kind || one-term (read-term expression)) ≡ true
 unfolding encode
 kind-and-term kind expression (thread-of e) f p q = rw (p, q) (one-term-complete e f)
@@ -96,7 +97,7 @@ kind-and-term kind expression awaited f p q = rw p refl
 
 -- from the configuration to the slice
 module _ (C : Config) (rule : ImageRule C) (w : EachAll Writable C) where
-  pub each-fits : (k : ℕ) (c : Component) → at C k ≡ some c → FitsIn c
+  pub each-fits : (k : ℕ) (c : Component) → at C k ≡ some c → In FitsBytes c
   each-fits k c h = writable-fits c (w k c h) (λ n l. rule .names-below k c h n (omega (arith, rule .limits .few-names)))
 
   pub read-again : config-of (image-of C) ≡ C

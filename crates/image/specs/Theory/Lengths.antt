@@ -6,15 +6,17 @@ use Prim.Native.Nat.{_+_, _≤_, ℕ}
 use native.Mathlib.Omega.{arith}
 use lib.ListN.{length, length-append, length-map}
 use Rattle.calculus.specs.Bytes.{Bytes}
-use Rattle.calculus.specs.Syntax.{Component, thread-of, holds, open-for, used, awaited, Config}
+use Rattle.calculus.specs.Syntax.{Component, thread-of, holds, open-for, used, awaited, Config, sum-in, sum-all}
 use Rattle.calculus.specs.Limits.{max-image-length}
-use Rattle.calculus.specs.Image.{image-length, size, sum-all, sum-in, WithinLimits}
+use Rattle.calculus.specs.Image.{image-length, size, WithinLimits}
 use Rattle.calculus.specs.Theory.ImageTest.{image-test-iff}
 use Rattle.calculus.specs.Theory.Images.{image-fits}
+use Rattle.calculus.specs.Theory.Tabulate.{length-tabulate}
 use Rattle.term.proofs.Sizes.{length-bytes}
 use Rattle.image_layout.specs.Encoded.{expressions}
+use Rattle.image_layout.specs.Slice.{names, encoded-at, encoded-all}
 use Rattle.image_layout.specs.Theory.Components.{length-image}
-use Rattle.image.specs.Configuration.{config-of, encode, image-of}
+use Rattle.image.specs.Configuration.{config-of, decode, encode, image-of}
 use Rattle.image.specs.Stands.{image-stands}
 use Rattle.image.specs.Theory.Exactly.{image-tested, is-image}
 
@@ -30,6 +32,11 @@ length-all : (C : Config) → length (expressions (map encode C)) ≡ sum-all si
 unfolding expressions sum-all
 length-all [] = refl
 length-all (c ∷ C) = length-append (encode c .expression) (expressions (map encode C)) ∙ ap₂ _+_ (length-encoded c) (length-all C)
+
+-- a slice says as many components as names
+pub length-config : (s : List ℕ) → length (config-of s) ≡ names s
+unfolding config-of encoded-all
+length-config s = length-map (encoded-all s) decode ∙ length-tabulate (names s) (encoded-at s)
 
 pub length-image-of : (C : Config) → length (image-of C) ≡ image-length C
 unfolding image-of

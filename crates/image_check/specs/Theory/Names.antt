@@ -9,11 +9,12 @@ use native.Mathlib.Decide.{decLt}
 use native.Mathlib.Numerals.{add-one}
 use native.Mathlib.Omega.{arith}
 use lib.ListN.{getD, length}
-use Rattle.calculus.specs.Syntax.{Component, thread-of, holds, open-for, used, awaited, Config, at, Exp}
+use Rattle.image.specs.Theory.Lengths.{length-config}
+use Rattle.calculus.specs.Syntax.{Component, thread-of, holds, open-for, used, awaited, Config, at}
 use Rattle.calculus.specs.Lists.{tabulate, each-below, sum-below}
-use Rattle.calculus.specs.Image.{each-test, handle-for, handles-for, nodes, nodes-all, sum-all, sum-in}
+use Rattle.calculus.specs.Image.{each-test, handle-for, handles-for, nodes, nodes-all}
 use Rattle.calculus.specs.Theory.Lists.{at-past}
-use Rattle.calculus.specs.Theory.Tabulate.{length-tabulate, map-tabulate, tabulate-at, tabulate-parts}
+use Rattle.calculus.specs.Theory.Tabulate.{length-tabulate, map-tabulate, tabulate-at, tabulate-parts, sum-tabulated}
 use Rattle.term.specs.Expressions.{term-at}
 use Rattle.calculus.specs.Kinds.{thread-kind, cell-kind, open-handle-kind, used-handle-kind, future-kind}
 use Rattle.image_layout.specs.Slice.{names, kind-at, companion-at, expression-at, encoded-at, encoded-all}
@@ -21,16 +22,6 @@ use Rattle.image.specs.Configuration.{components, config-of, decode}
 use Rattle.image_check.specs.Parts.{component-of, handles-below, nodes-of}
 
 -- ---- sums and tests over a list by index
-
-sum-append : (measure : Exp → ℕ) (C : Config) (c : Component) → sum-all measure (C ++ (c ∷ [])) ≡ sum-all measure C + sum-in measure c
-unfolding sum-all
-sum-append measure [] c = omega arith
-sum-append measure (d ∷ C) c = omega (arith, sum-append measure C c)
-
-pub sum-tabulated : (measure : Exp → ℕ) (n : ℕ) (f : ℕ → Component) → sum-all measure (tabulate n f) ≡ sum-below n (λ k. sum-in measure (f k))
-unfolding tabulate sum-below sum-all
-sum-tabulated measure zero f = refl
-sum-tabulated measure (suc n) f = sum-append measure (tabulate n f) (f n) ∙ ap (λ (x : ℕ). x + sum-in measure (f n)) (sum-tabulated measure n f)
 
 handles-append : (y : ℕ) (C : Config) (c : Component) → handles-for y (C ++ (c ∷ [])) ≡ handles-for y C + handle-for y c
 unfolding handles-for
@@ -87,15 +78,12 @@ module _ (s : List ℕ) where
   unfolding config-of encoded-all component-of
   config-tabulated = map-tabulate decode (names s) (encoded-at s)
 
-  pub config-length : length (config-of s) ≡ names s
-  config-length = ap length config-tabulated ∙ length-tabulate (names s) (component-of s)
-
   -- each name below m has its component, and no other has one
   pub config-at : (k : ℕ) → k < names s → at (config-of s) k ≡ some (component-of s k)
   config-at k h = ap (λ (C : Config). at C k) config-tabulated ∙ tabulate-at (names s) (component-of s) k h
 
   pub config-past : (k : ℕ) → names s ≤ k → at (config-of s) k ≡ none
-  config-past k h = at-past (config-of s) k (omega (arith, config-length))
+  config-past k h = at-past (config-of s) k (omega (arith, length-config s))
 
   pub config-parts : (k : ℕ) {c : Component} → at (config-of s) k ≡ some c → (k < names s) × (c ≡ component-of s k)
   config-parts k h = tabulate-parts (names s) (component-of s) k (ap (λ (C : Config). at C k) (sym config-tabulated) ∙ h)

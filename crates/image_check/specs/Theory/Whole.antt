@@ -5,6 +5,7 @@ use mathlib.Core.List.{List}
 use Prim.Native.Nat.{_≤_, _<_, ℕ}
 use native.Mathlib.Omega.{arith}
 use lib.ListN.{length}
+use Rattle.image.specs.Theory.Lengths.{length-config}
 use Rattle.calculus.specs.Syntax.{Component, thread-of, holds, open-for, used, awaited, Config}
 use Rattle.calculus.specs.Lists.{sum-below}
 use Rattle.calculus.specs.Limits.{max-names, max-nodes}
@@ -18,7 +19,7 @@ use Rattle.image_layout.specs.Layout.{heads-stand}
 use Rattle.image.specs.Configuration.{config-of}
 use Rattle.image.specs.Stands.{terms-stand, image-stands}
 use Rattle.image_check.specs.Parts.{component-of, expression-keeps, expression-stands, nodes-of, pair-stands, pair-keeps, term-stands}
-use Rattle.image_check.specs.Theory.Names.{config-length, config-nodes, config-tests}
+use Rattle.image_check.specs.Theory.Names.{config-nodes, config-tests}
 
 -- what is asked of a component is asked of its expression or of its pair
 component-keeps : (C : Config) (k : ℕ) (c : Component) → component-test C k c ≡ (expression-keeps (length C) c && pair-keeps C k c)
@@ -43,7 +44,7 @@ module _ (s : List ℕ) where
   unfolding pair-stands
   named-keeps k =
       component-keeps (config-of s) k (component-of s k)
-      ∙ ap (λ (m : ℕ). expression-keeps m (component-of s k) && pair-keeps (config-of s) k (component-of s k)) (config-length s)
+      ∙ ap (λ (m : ℕ). expression-keeps m (component-of s k) && pair-keeps (config-of s) k (component-of s k)) (length-config s)
 
   pub whole-sound : image-stands s ≡ true → Whole
   unfolding image-stands image-test terms-stand term-stands expression-stands
@@ -57,7 +58,7 @@ module _ (s : List ℕ) where
       (sym (named-keeps k) ∙ each-below-sound (names s) (λ k. component-test (config-of s) k (component-of s k)) (sym (config-tests s (component-test (config-of s))) ∙ each) k l) in
       record {
         heads = heads;
-        few-names = omega (arith, within .few-names, config-length s);
+        few-names = omega (arith, within .few-names, length-config s);
         expressions = λ k l. and-true (each-below-sound (names s) (term-stands s) terms k l) (kept k l .0);
         few-nodes = omega (arith, within .few-nodes, config-nodes s);
         pairs = λ k l. kept k l .1;
@@ -74,4 +75,4 @@ module _ (s : List ℕ) where
       (config-tests s (component-test (config-of s))
       ∙ each-below-complete (names s) (λ k. component-test (config-of s) k (component-of s k)) (λ k l. named-keeps k ∙ and-true (parts k l .1) (w .pairs k l)))
       (limits-test-iff (config-of s) .1
-      record { few-names = omega (arith, w .few-names, config-length s); few-nodes = omega (arith, w .few-nodes, config-nodes s) })))
+      record { few-names = omega (arith, w .few-names, length-config s); few-nodes = omega (arith, w .few-nodes, config-nodes s) })))

@@ -1,8 +1,9 @@
 -- A step on the image of a configuration is the calculus's step of that configuration.
 use mathlib.Core.Path.{_∙_, _≡_, ap, refl}
 use mathlib.Core.Logic.{_↔_}
+use mathlib.Core.List.{_++_}
 use Prim.Native.Nat.{ℕ}
-use lib.ListN.{drop, length}
+use lib.ListN.{drop, length, take}
 use lib.Seq.{take-append-seam}
 use Rattle.calculus.specs.Syntax.{Config, EachAll}
 use Rattle.calculus.specs.Typing.{TypeNumbers}
@@ -18,7 +19,7 @@ use Rattle.image.specs.Configuration.{image-of, config-of}
 use Rattle.image.specs.Theory.Exactly.{read-again, image-written}
 use Rattle.step_spec.specs.declared.Outcome.the-variants.{Rule, Refused}
 use Rattle.step_spec.specs.Stepping.{step-reply, outcome-of-reply, out-after-reply, outcome-of, out-after-step}
-use Rattle.runs.specs.Run.{Call, Step, answer, image-left, left, types-by, types-left, Goes}
+use Rattle.runs.specs.Run.{Call, Step, answer, left, types-left, Goes, renewed}
 
 -- the calculus's call: a buffer's length is all that counts
 abbrev pub call-of : Call → calculus.ConfigCall
@@ -63,10 +64,10 @@ module _ (τ : TypeNumbers) (s : State) (keeps : ImageRule (s .config)) (writabl
 
   -- it leaves the image of what the calculus's step leaves
   pub leaves-image : left handed ≡ image-of (calculus.state-after τ s (call-of c) .config)
-  unfolding outcome-of out-after-step image-left outcome-of-reply out-after-reply state-left
-  leaves-image = ap (λ (q : Reply). image-left (outcome-of-reply q) (out-after-reply q (c .out)) (image-of (s .config))) replies ∙ go (config-reply (s .config) (call-of c))
+  unfolding outcome-of out-after-step renewed outcome-of-reply out-after-reply state-left
+  leaves-image = ap (λ (q : Reply). renewed (outcome-of-reply q) (λ size. take size (out-after-reply q (c .out))) (image-of (s .config))) replies ∙ go (config-reply (s .config) (call-of c))
     where
-      go : (q : Reply) → image-left (outcome-of-reply q) (out-after-reply q (c .out)) (image-of (s .config)) ≡ image-of (state-left τ s (c .thread) q .config)
+      go : (q : Reply) → renewed (outcome-of-reply q) (λ size. take size (out-after-reply q (c .out))) (image-of (s .config)) ≡ image-of (state-left τ s (c .thread) q .config)
       go (moved rule C′) = take-append-seam (image-of C′) (drop (length (image-of C′)) (c .out))
       go (waits y) = refl
       go finished = refl
@@ -74,13 +75,13 @@ module _ (τ : TypeNumbers) (s : State) (keeps : ImageRule (s .config)) (writabl
 
   -- and its names have the types that the calculus gives them
   pub leaves-types : types-left τ handed ≡ calculus.state-after τ s (call-of c) .names
-  unfolding outcome-of types-by outcome-of-reply state-left
+  unfolding outcome-of renewed outcome-of-reply state-left
   leaves-types =
-      ap (λ (q : Reply). types-by (outcome-of-reply q) (new-types τ (config-of (image-of (s .config))) (c .thread)) (s .names)) replies
-      ∙ ap (λ (C : Config). types-by (outcome-of-reply (config-reply (s .config) (call-of c))) (new-types τ C (c .thread)) (s .names)) reads
+      ap (λ (q : Reply). renewed (outcome-of-reply q) (λ size. s .names ++ new-types τ (config-of (image-of (s .config))) (c .thread)) (s .names)) replies
+      ∙ ap (λ (C : Config). renewed (outcome-of-reply (config-reply (s .config) (call-of c))) (λ size. s .names ++ new-types τ C (c .thread)) (s .names)) reads
       ∙ go (config-reply (s .config) (call-of c))
     where
-      go : (q : Reply) → types-by (outcome-of-reply q) (new-types τ (s .config) (c .thread)) (s .names) ≡ state-left τ s (c .thread) q .names
+      go : (q : Reply) → renewed (outcome-of-reply q) (λ size. s .names ++ new-types τ (s .config) (c .thread)) (s .names) ≡ state-left τ s (c .thread) q .names
       go (moved rule C′) = refl
       go (waits y) = refl
       go finished = refl

@@ -1,16 +1,13 @@
--- A configuration with one component changed or one more, as a table of components in bytes; its nodes.
+-- A configuration with one component changed or one more, as a table of components in bytes.
 use mathlib.Core.Path.{_∙_, _≡_, ap, refl, sym}
 use mathlib.Core.Bool.{Bool, cond, false, true}
-use mathlib.Core.Option.{some}
 use mathlib.Core.List.{List, [], _++_, _∷_, map}
-use Prim.Native.Nat.{ℕ, _+_, _≤_, suc, zero}
-use native.Mathlib.Omega.{arith}
+use Prim.Native.Nat.{ℕ, _+_, suc, zero}
 use lib.Dec.{eqb}
 use lib.ListN.{length, length-map, set}
 use Rattle.calculus.specs.Lists.{tabulate}
-use Rattle.calculus.specs.Syntax.{Component, Config, at}
-use Rattle.calculus.specs.Image.{nodes, sum-in, sum-all, nodes-all}
-use Rattle.calculus.specs.Theory.Tests.{clash, eqb-sound}
+use Rattle.calculus.specs.Syntax.{Component, Config}
+use Rattle.calculus.specs.Theory.Tests.{eqb-sound}
 use Rattle.calculus.specs.Theory.Tabulate.{length-tabulate, set-tabulate, tabulate-more}
 use Rattle.image_layout.specs.Encoded.{Encoded}
 use Rattle.image.specs.Configuration.{encode}
@@ -45,17 +42,3 @@ swap {A} k x y a b c n = go (eqb k x) (eqb k y) (λ p q. n (sym (eqb-sound k x p
     go true false h = refl
     go false true h = refl
     go false false h = refl
-
--- nodes
-pub nodes-set : (C : Config) (x : ℕ) (c : Component) {d : Component} → at C x ≡ some d → nodes-all (set C x c) + sum-in nodes d ≡ nodes-all C + sum-in nodes c
-unfolding sum-all
-nodes-set [] x c h = absurd (clash (cc))
-nodes-set (a ∷ C) zero c {d} h = let e : a ≡ d = cc in rw e (omega arith)
-nodes-set (a ∷ C) (suc x) c h = omega (arith, nodes-set C x c h)
-
--- a component has no more nodes than all
-pub nodes-part : (C : Config) (x : ℕ) {c : Component} → at C x ≡ some c → sum-in nodes c ≤ nodes-all C
-unfolding sum-all
-nodes-part [] x h = absurd (clash (cc))
-nodes-part (a ∷ C) zero {c} h = let e : a ≡ c = cc in rw (← e) (omega arith)
-nodes-part (a ∷ C) (suc x) h = omega (arith, nodes-part C x h)

@@ -6,11 +6,12 @@ use mathlib.Core.List.{List}
 use Prim.Native.Nat.{ℕ, _<_, _≤_}
 use native.Mathlib.Decide.{decLt}
 use native.Mathlib.Omega.{arith}
+use Rattle.image.specs.Theory.Lengths.{length-config}
 use Rattle.calculus.specs.Bytes.{Bytes}
-use Rattle.calculus.specs.Syntax.{Exp, app, Value, at, thread-of}
+use Rattle.calculus.specs.Syntax.{Exp, app, Value, at, thread-of, sum-in, on-thread}
 use Rattle.calculus.specs.Reduction.{Context, plug}
-use Rattle.calculus.specs.Names.{count, count-in}
-use Rattle.calculus.specs.Step.{done, step-of, step-component, step-place, place}
+use Rattle.calculus.specs.Names.{count}
+use Rattle.calculus.specs.Step.{done, step-of, step-place, place, no-thread}
 use Rattle.calculus.specs.Image.{size}
 use Rattle.calculus.specs.Theory.Expressions.{count-plug}
 use Rattle.term.specs.Expressions.{term-at}
@@ -23,7 +24,7 @@ use Rattle.term_redex.specs.declared.Place.the-variants.{Done}
 use Rattle.term_redex.specs.Places.{place-of, Searchable}
 use Rattle.term_redex.proofs.Meetings.{MeetingAt, done-value, meet-met, meeting-stands}
 use Rattle.step_rules.specs.Meets.{Deciding, MeetsAt}
-use Rattle.step_rules.specs.Theory.Reading.{rules, length-config, thread-stands}
+use Rattle.step_rules.specs.Theory.Reading.{rules, thread-stands}
 
 -- the two values and their context
 pub record FoundMeeting (s : List ℕ) (x : ℕ) (m : Meeting) : Type 0 where
@@ -34,7 +35,7 @@ pub record FoundMeeting (s : List ℕ) (x : ℕ) (m : Meeting) : Type 0 where
   pub meets : MeetsAt s x m context function-value argument
 
 pub found-meets : {s : List ℕ} {x : ℕ} {m : Meeting} → Bytes s → Deciding s x m → FoundMeeting s x m
-unfolding step-of step-component step-place
+unfolding step-of step-place
 found-meets {s} {x} {m} b d =
     let e = d .expression in
     let q = thread-stands s b (d .stands) x e (d .thread) in
@@ -52,7 +53,7 @@ found-meets {s} {x} {m} b d =
         stands = d .stands;
         thread = d .thread ∙ ap (λ h. some (thread-of h)) (p .whole);
         value = met .argument-value;
-        steps = ap (step-component (config-of s) x) (d .thread) ∙ ap (step-place (config-of s) x) (met .place-is);
+        steps = ap (λ c. on-thread c no-thread (λ e. step-place (config-of s) x (place e))) (d .thread) ∙ ap (step-place (config-of s) x) (met .place-is);
         placed = subst (λ h. MeetingAt s (offset-at s x) h m F (met .function) (met .argument)) (p .whole) p;
         long = q .long ∙ ap size (p .whole);
       };
@@ -60,12 +61,12 @@ found-meets {s} {x} {m} b d =
 
 -- a name that stands in the application is a name of the image
 pub name-there : {s : List ℕ} {x : ℕ} {m : Meeting} {F : Context} {f : Exp} {w : Value f} {v : Exp} → MeetsAt s x m F w v → (y : ℕ) → 1 ≤ count y f → y < names s
-unfolding count count-in
+unfolding count sum-in
 name-there {s} {x} {m} {F} {f} {w} {v} M y l = elim (decLt y (names s)) [
   | yes p ↦ p
   | no p ↦ absurd (omega (
     arith,
-    rules s (M .in-bytes) (M .stands) .names-below x (thread-of (plug F (app f v))) (M .thread) y (omega (arith, length-config s (M .in-bytes) (M .stands))),
+    rules s (M .in-bytes) (M .stands) .names-below x (thread-of (plug F (app f v))) (M .thread) y (omega (arith, length-config s)),
     count-plug y F (app f v),
   ))
 ]
@@ -80,7 +81,7 @@ module _ (s : List ℕ) (b : Bytes s) (stands : image-stands s ≡ true) (x : �
       record { good = thread-found .good; closed = rw (thread-found .term) (rules s b stands .bound x (thread-of e) h) }
 
   pub found-done : place-of (offset-at s x) (place (term-at s (offset-at s x))) ≡ Done → step-of (config-of s) x ≡ done
-  unfolding step-of step-component step-place
+  unfolding step-of step-place
   found-done d =
       let (w, p) = done-value (offset-at s x) e (rules s b stands .bound x (thread-of e) h) (sym (ap (λ g. place-of (offset-at s x) (place g)) (thread-found .term)) ∙ d) in
-      ap (step-component (config-of s) x) h ∙ ap (step-place (config-of s) x) p
+      ap (λ c. on-thread c no-thread (λ e. step-place (config-of s) x (place e))) h ∙ ap (step-place (config-of s) x) p

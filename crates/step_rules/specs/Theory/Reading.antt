@@ -5,19 +5,20 @@ use mathlib.Core.Option.{some}
 use mathlib.Core.List.{List}
 use Prim.Native.Nat.{ℕ, _+_, _≤_, _<_}
 use native.Mathlib.Omega.{arith}
-use lib.ListN.{drop, length, length-map, take, take-append-drop}
+use lib.ListN.{drop, length, take, take-append-drop}
 use lib.Seq.{drop-drop}
+use Rattle.image.specs.Theory.Lengths.{length-config}
 use Rattle.calculus.specs.Bytes.{Bytes}
 use Rattle.calculus.specs.Syntax.{Exp, Component, thread-of, holds, at}
 use Rattle.calculus.specs.Image.{ImageRule, size}
 use Rattle.calculus.specs.Theory.Tests.{and-parts}
 use Rattle.calculus.specs.Theory.Lists.{at-bound}
 use Rattle.calculus.specs.Theory.ImageTest.{image-test-iff}
-use Rattle.term.specs.Expressions.{bytes, FitsBytes, TermAt}
+use Rattle.term.specs.Expressions.{bytes, TermAt, FitsBytes}
 use Rattle.term.proofs.Sizes.{length-bytes}
 use Rattle.image_layout.specs.Encoded.{Encoded}
 use Rattle.image_layout.specs.Slice.{names, offset-at, length-at, expression-at, encoded-at}
-use Rattle.image_layout.specs.Theory.Slice.{length-encoded, encoded-there, encoded-expression}
+use Rattle.image_layout.specs.Theory.Slice.{encoded-there, encoded-expression}
 use Rattle.image_layout.specs.Layout.{heads-stand}
 use Rattle.image_layout.specs.Theory.Reading.{has-expression, expression-length}
 use Rattle.image.specs.Configuration.{encode, config-of}
@@ -39,12 +40,9 @@ module _ (s : List ℕ) (b : Bytes s) (stands : image-stands s ≡ true) where
   unfolding image-stands
   heads-do = and-parts (heads-stand s) _ stands .0
 
-  pub length-config : length (config-of s) ≡ names s
-  length-config = sym (length-map (config-of s) encode) ∙ ap length (written-back s b stands) ∙ length-encoded s
-
   module _ (k : ℕ) {c : Component} (h : at (config-of s) k ≡ some c) where
     pub below : k < names s
-    below = omega (arith, at-bound (config-of s) k h, length-config)
+    below = omega (arith, at-bound (config-of s) k h, length-config s)
 
     pub encoded-is : encode c ≡ encoded-at s k
     encoded-is =

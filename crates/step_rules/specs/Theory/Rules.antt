@@ -7,11 +7,13 @@ use Prim.Native.Nat.{ℕ, _+_, _-_, _≤_, _<_}
 use native.Mathlib.Omega.{arith}
 use lib.Dec.{eqb}
 use lib.ListN.{length, set}
-use Rattle.calculus.specs.Syntax.{Op, unit, op, cell, exch, thread, handle, Exp, name, const, app, Value, is-name, is-const, is-lam, is-exch, Component, thread-of, holds, open-for, used, awaited, Config, at}
+use Rattle.image.specs.Theory.Lengths.{length-config}
+use Rattle.calculus.specs.Theory.Configurations.{sum-append, sum-set, sum-part}
+use Rattle.calculus.specs.Syntax.{Op, unit, op, cell, exch, thread, handle, Exp, name, const, app, Value, is-name, is-const, is-lam, is-exch, Component, thread-of, holds, open-for, used, awaited, Config, at, sum-in, sum-all}
 use Rattle.calculus.specs.Reduction.{substitute, Context, plug, put, Rule, BETA, THREAD-NEW, FUTURE-DEREF, HANDLE-NEW, HANDLE-BIND, CELL-NEW, CELL-EXCH, number}
 use Rattle.calculus.specs.Names.{count}
 use Rattle.calculus.specs.Step.{rule, step-meeting, step-call, step-exchange, when-done}
-use Rattle.calculus.specs.Image.{nodes, nodes-all, sum-all, sum-in, size, const-size}
+use Rattle.calculus.specs.Image.{nodes, nodes-all, size, const-size}
 use Rattle.calculus.specs.Theory.Tests.{clash}
 use Rattle.calculus.specs.Theory.Lists.{set-other}
 use Rattle.calculus.specs.Theory.Places.{place-value}
@@ -27,9 +29,8 @@ use Rattle.step_rules.specs.Positions.{name-length, to-body}
 use Rattle.step_rules.specs.Moves.{bytes-between, thread-holding, cell-holding, argument-bytes, copied-bytes, name-bytes, redexes, redex-after, others, other-after, new-names, names-after, image-after, node-counts, nodes-after}
 use Rattle.step_rules.specs.Stepped.{Movable, Stepped}
 use Rattle.step_rules.specs.Meets.{move-of, MeetsAt}
-use Rattle.step_rules.specs.Theory.Reading.{rules, below, length-config, Stands, thread-stands, cell-stands}
-use Rattle.calculus.specs.Theory.Configurations.{nodes-append}
-use Rattle.step_rules.specs.Theory.Changes.{Table, table-length, table-set, table-more, swap, nodes-set, nodes-part}
+use Rattle.step_rules.specs.Theory.Reading.{rules, below, Stands, thread-stands, cell-stands}
+use Rattle.step_rules.specs.Theory.Changes.{Table, table-length, table-set, table-more, swap}
 use Rattle.step_rules.specs.Theory.Meeting.{between-front, between-term, body-stands, table-start, argument-is, components-are}
 use Rattle.step_rules.specs.Theory.Writers.{counted, thread-below, few, few-all, movable}
 
@@ -61,7 +62,7 @@ module _ {s : List ℕ} {x : ℕ} {m : Meeting} {F : Context} {f : Exp} {w : Val
   -- the nodes of a configuration whose thread x has e in the place of the application
   nodes-put : (e : Exp) → nodes-all (put (config-of s) x F e) + nodes (app f v) ≡ nodes-all (config-of s) + nodes e
   unfolding sum-in
-  nodes-put e = omega (arith, nodes-set (config-of s) x (thread-of (plug F e)) (M .thread), plug-nodes F e, plug-nodes F (app f v))
+  nodes-put e = omega (arith, sum-set nodes (config-of s) x (thread-of (plug F e)) (M .thread), plug-nodes F e, plug-nodes F (app f v))
 
   -- the thread's component after a step
   abbrev thread-after : Exp → Encoded
@@ -71,7 +72,7 @@ module _ {s : List ℕ} {x : ℕ} {m : Meeting} {F : Context} {f : Exp} {w : Val
   table-put e = table-set x (thread-of (plug F e)) (table-start M)
 
   new-name : length (config-of s) ≡ names s
-  new-name = length-config s (M .in-bytes) (M .stands)
+  new-name = length-config s
 
 -- rule 1
 pub beta-moves : {s : List ℕ} {x t : ℕ} {m : Meeting} {F : Context} {e v : Exp} → MeetsAt s x m F (is-lam {t = t} {e = e}) v → Stepped s x (move-of (number BETA) x m 0 0 0 0)
@@ -113,7 +114,7 @@ thread-moves {s} {x} {t} {m} {F} {v} M =
     (table-more new (table-put M e)) (omega arith)
     (λ k. swap k x (names s) (thread-after M e) (encode new) (encoded-at s k) (not-new M (names s) (omega arith))
     ∙ ap (λ d. cond (eqb k x) (thread-after M e) (cond (eqb k (names s)) d (encoded-at s k))) c)
-    (omega (arith, nodes-append (put C x F e) (new ∷ []), nodes-put M e))
+    (omega (arith, sum-append nodes (put C x F e) (new ∷ []), nodes-put M e))
     (plainly M (number THREAD-NEW) (omega arith) (omega arith))
 
 -- rule 4
@@ -134,7 +135,7 @@ handle-moves {s} {x} {t} {m} {F} {v} M =
     ∙ ap (λ r. cond (eqb k (names s)) (encode awaited) r) (swap k x (names s + 1) (thread-after M e) h old (not-new M (names s + 1) (omega arith)))
     ∙ swap k x (names s) (thread-after M e) (encode awaited) (cond (eqb k (names s + 1)) h old) (not-new M (names s) (omega arith))
     ∙ ap (λ j. cond (eqb k x) (thread-after M e) (cond (eqb k (names s)) (encode awaited) (cond (eqb k (names s + 1)) (encode (open-for j)) old))) z)
-    (omega (arith, nodes-append C₁ (open-for (length C) ∷ []), nodes-append (put C x F e) (awaited ∷ []), nodes-put M e))
+    (omega (arith, sum-append nodes C₁ (open-for (length C) ∷ []), sum-append nodes (put C x F e) (awaited ∷ []), nodes-put M e))
     (plainly M (number HANDLE-NEW) (omega arith) (omega arith))
 
 -- rule 6
@@ -150,7 +151,7 @@ cell-moves {s} {x} {t} {m} {F} {v} M =
     (table-more (holds v) (table-put M e)) (omega arith)
     (λ k. swap k x (names s) (thread-after M e) (encode (holds v)) (encoded-at s k) (not-new M (names s) (omega arith))
     ∙ ap (λ p. cond (eqb k x) (thread-after M e) (cond (eqb k (names s)) (cell-holding p) (encoded-at s k))) (sym a))
-    (omega (arith, nodes-append (put C x F e) (holds v ∷ []), nodes-put M e))
+    (omega (arith, sum-append nodes (put C x F e) (holds v ∷ []), nodes-put M e))
     (plainly M (number CELL-NEW) (omega arith) (omega arith))
 
 -- rules 3, 5 and 7: the name at the place is a name of the image
@@ -172,7 +173,7 @@ module _ {s : List ℕ} {x : ℕ} {m : Meeting} {F : Context} {f : Exp} {w : Val
   value-moves n y e h p =
       let q = thread-stands s (M .in-bytes) (M .stands) y e h in
       movable M n y _ _ 0 (name-below y h) (omega (arith, thread-below M)) (omega arith) (q .inside) (λ z. absurd (p z))
-      (λ z. counted (q .term) (omega (arith, nodes-part (config-of s) y h, few-all M)))
+      (λ z. counted (q .term) (omega (arith, sum-part nodes (config-of s) y h, few-all M)))
 
 -- rule 3, at the function of an application
 pub deref-moves : {s : List ℕ} {x y : ℕ} {m : Meeting} {F : Context} {v : Exp} → MeetsAt s x m F (is-name {k = y}) v → (e : Exp) → at (config-of s) y ≡ some (thread-of e) → Value e
@@ -232,7 +233,7 @@ bind-moves {s} {x} {z} {m} {F} {v} M y h =
     ap (λ r. cond (eqb k z) u r) (swap k x y (thread-after M e) b old xy)
     ∙ swap k x z (thread-after M e) u (cond (eqb k y) b old) xz
     ∙ ap (λ p. cond (eqb k x) (thread-after M e) (cond (eqb k z) u (cond (eqb k y) (thread-holding p) old))) (sym a))
-    (omega (arith, nodes-set C₂ z used h₂, nodes-set C₁ y (thread-of v) g₁, nodes-put M e))
+    (omega (arith, sum-set nodes C₂ z used h₂, sum-set nodes C₁ y (thread-of v) g₁, nodes-put M e))
     (movable M (number HANDLE-BIND) z 0 0 y (name-below M z h) (name-below M y g) (omega arith) (omega arith) (λ i. absurd (omega arith)) (λ i. absurd (omega arith)))
 
 -- rule 7
@@ -251,5 +252,5 @@ exchange-moves {s} {x} {y} {t} {m} {F} {v} M e h =
     (table-set y (holds v) (table-put M e)) (omega arith)
     (λ k. swap k x y (thread-after M e) (encode (holds v)) (encoded-at s k) xy
     ∙ ap (λ p. cond (eqb k x) (thread-after M e) (cond (eqb k y) (cell-holding p) (encoded-at s k))) (sym a))
-    (omega (arith, nodes-set (put C x F e) y (holds v) h₁, nodes-put M e))
+    (omega (arith, sum-set nodes (put C x F e) y (holds v) h₁, nodes-put M e))
     (movable M (number CELL-EXCH) y _ _ 0 (name-below M y h) (omega (arith, thread-below M)) (omega arith) (q .inside) (λ i. absurd (omega arith)) (λ i. absurd (omega arith)))

@@ -4,9 +4,10 @@ use mathlib.Core.List.{List}
 use Prim.Native.Nat.{ℕ, _+_, _≤_, _<_}
 use native.Mathlib.Omega.{arith}
 use lib.ListN.{length}
-use Rattle.calculus.specs.Syntax.{Const, unit, num, op, Exp, var, name, const, lam, app, Value, at}
+use Rattle.calculus.specs.Theory.Configurations.{sum-part}
+use Rattle.calculus.specs.Syntax.{Const, unit, num, op, Exp, var, name, const, lam, app, Value, at, sum-in}
 use Rattle.calculus.specs.Reduction.{Context, plug, BETA, FUTURE-DEREF, number}
-use Rattle.calculus.specs.Image.{const-size, nodes, nodes-all, size, sum-in}
+use Rattle.calculus.specs.Image.{const-size, nodes, nodes-all, size}
 use Rattle.calculus.specs.Limits.{max-nodes}
 use Rattle.term.specs.Expressions.{TermAt}
 use Rattle.term.proofs.Expressions.{found-at}
@@ -18,7 +19,6 @@ use Rattle.step_rules.specs.Positions.{to-body}
 use Rattle.step_rules.specs.Stepped.{Counted, Movable}
 use Rattle.step_rules.specs.Meets.{move-of, MeetsAt}
 use Rattle.step_rules.specs.Theory.Reading.{rules, below, thread-stands}
-use Rattle.step_rules.specs.Theory.Changes.{nodes-part}
 
 pub size-positive : (e : Exp) → 1 ≤ size e
 unfolding size const-size
@@ -45,7 +45,7 @@ module _ {s : List ℕ} {x : ℕ} {m : Meeting} {F : Context} {f : Exp} {w : Val
 
   pub few : nodes (app f v) ≤ max-nodes
   unfolding sum-in
-  few = omega (arith, nodes-part (config-of s) x (M .thread), plug-nodes F (app f v), few-all)
+  few = omega (arith, sum-part nodes (config-of s) x (M .thread), plug-nodes F (app f v), few-all)
 
   pub movable : (rule named from to future : ℕ) → named < names s → future < names s → from ≤ to → to ≤ length s
       → (rule ≡ number BETA → Counted s (m .at + to-body)) → (rule ≡ number FUTURE-DEREF → Counted s from) → Movable s (move-of rule x m named from to future)
