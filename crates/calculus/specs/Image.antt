@@ -48,11 +48,11 @@ size (lam t e) = 2 + size e
 size (app f a) = suc (size f + size a)
 
 abbrev pub nodes-all : Config → ℕ
-nodes-all C = sum-all nodes C
+nodes-all C = sum-all (sum-in nodes) C
 
 -- document 01, "a two-byte m", "m heads of six bytes", "then the expressions": the length of the image that holds C
 abbrev pub image-length : Config → ℕ
-image-length C = first-head + head-length * length C + sum-all size C
+image-length C = first-head + head-length * length C + sum-all (sum-in size) C
 
 -- document 01, "At most 256 names and 4,096 nodes in all"
 pub record WithinLimits (C : Config) : Type 0 where
@@ -103,7 +103,7 @@ is-awaited (some (open-for y)) = false
 is-awaited (some used) = false
 is-awaited none = false
 
--- how many open handles have the companion y
+-- whether a component is an open handle for y, in numbers
 unfoldable pub handle-for : ℕ → Component → ℕ
 handle-for y (open-for z) = cond (eqb z y) 1 0
 handle-for y (thread-of e) = 0
@@ -111,17 +111,13 @@ handle-for y (holds e) = 0
 handle-for y used = 0
 handle-for y awaited = 0
 
-unfoldable pub handles-for : ℕ → Config → ℕ
-handles-for y [] = 0
-handles-for y (c ∷ C) = handle-for y c + handles-for y C
-
 -- the component of name k of C keeps its rules
 unfoldable pub component-test : Config → ℕ → Component → Bool
 component-test C k (thread-of e) = expression-test (length C) 0 e
 component-test C k (holds v) = expression-test (length C) 0 v && is-settled (place v)
 component-test C k (open-for y) = is-awaited (at C y)
 component-test C k used = true
-component-test C k awaited = eqb (handles-for k C) 1
+component-test C k awaited = eqb (sum-all (handle-for k) C) 1
 
 -- each component passes, the first having name k
 unfoldable pub each-test : (ℕ → Component → Bool) → ℕ → Config → Bool

@@ -6,11 +6,11 @@ use mathlib.Core.List.{List}
 use Prim.Native.Nat.{_<_, ℕ}
 use lib.Dec.{eqb, leb}
 use lib.ListN.{getD, length}
-use Rattle.calculus.specs.Syntax.{Component, thread-of, holds, open-for, used, awaited, Config, at, sum-in}
+use Rattle.calculus.specs.Syntax.{Component, thread-of, holds, open-for, used, awaited, Config, at, sum-in, sum-all}
 use Rattle.calculus.specs.Lists.{each-below, sum-below}
 use Rattle.calculus.specs.Limits.{max-names, max-nodes}
 use Rattle.calculus.specs.Step.{place}
-use Rattle.calculus.specs.Image.{expression-test, handle-for, handles-for, is-awaited, is-settled, nodes}
+use Rattle.calculus.specs.Image.{expression-test, handle-for, is-awaited, is-settled, nodes}
 use Rattle.term.specs.Reader.{one-term, read-term}
 use Rattle.term.specs.Expressions.{term-at}
 use Rattle.term_scan.specs.declared.Part.{Part}
@@ -47,7 +47,7 @@ pair-keeps C k (thread-of e) = true
 pair-keeps C k (holds v) = true
 pair-keeps C k (open-for y) = is-awaited (at C y)
 pair-keeps C k used = true
-pair-keeps C k awaited = eqb (handles-for k C) 1
+pair-keeps C k awaited = eqb (sum-all (handle-for k) C) 1
 
 unfoldable pub nodes-of : List ℕ → ℕ → ℕ
 nodes-of s k = sum-in nodes (component-of s k)
@@ -86,10 +86,10 @@ handles-below s k y = sum-below k (λ i. handle-for y (component-of s i))
 -- a count for each name that an image may have
 pub record Tally (s : List ℕ) (counts : List ℕ) : Type 0 where
   pub long : length counts ≡ max-names
-  pub each : (y : ℕ) → y < max-names → getD counts y 0 ≡ handles-for y (config-of s)
+  pub each : (y : ℕ) → y < max-names → getD counts y 0 ≡ sum-all (handle-for y) (config-of s)
 
 -- name k is one of m names, and `count` open handles have it as companion
 pub record HandlesCounted (s : List ℕ) (m k count : ℕ) : Type 0 where
   pub named : Named s k
   pub all : m ≡ names s
-  pub handles : count ≡ handles-for k (config-of s)
+  pub handles : count ≡ sum-all (handle-for k) (config-of s)

@@ -9,11 +9,11 @@ use native.Mathlib.Decide.{decLt}
 use native.Mathlib.Omega.{arith}
 use lib.Dec.{eqb, ltb}
 use lib.ListN.{length}
-use Rattle.calculus.specs.Syntax.{Const, unit, num, op, Exp, var, name, const, lam, app, Value, Component, thread-of, holds, open-for, used, awaited, Config, at, constants, Each, each-var, each-name, each-const, each-lam, each-app, In, sum-in}
+use Rattle.calculus.specs.Syntax.{Const, unit, num, op, Exp, var, name, const, lam, app, Value, Component, thread-of, holds, open-for, used, awaited, Config, at, constants, Each, each-var, each-name, each-const, each-lam, each-app, In, sum-in, sum-all}
 use Rattle.calculus.specs.Names.{count}
 use Rattle.calculus.specs.Step.{Place, settled, meet, loose, place}
 use Rattle.calculus.specs.Limits.{max-num, max-names, max-nodes}
-use Rattle.calculus.specs.Image.{Closed, closed-var, closed-name, closed-const, closed-lam, closed-app, NumSmall, nodes-all, WithinLimits, ImageRule, constant-test, expression-test, is-settled, is-awaited, handle-for, handles-for, component-test, each-test, limits-test, image-test}
+use Rattle.calculus.specs.Image.{Closed, closed-var, closed-name, closed-const, closed-lam, closed-app, NumSmall, nodes-all, WithinLimits, ImageRule, constant-test, expression-test, is-settled, is-awaited, handle-for, component-test, each-test, limits-test, image-test}
 use Rattle.calculus.specs.Theory.Tests.{clash, and-true, and-parts, eqb-sound, eqb-complete, eqb-differ, ltb-sound, ltb-complete}
 use Rattle.calculus.specs.Theory.Expressions.{count-same}
 use Rattle.calculus.specs.Theory.Places.{place-sound, place-value, Placed}
@@ -103,14 +103,14 @@ handle-is y awaited = inl refl
 head-one : (y : ℕ) (c : Component) → c ≡ open-for y → handle-for y c ≡ 1
 head-one y c e = rw e (handle-self y)
 
-handles-none : (y : ℕ) (C : Config) → handles-for y C ≡ 0 → (z : ℕ) → ¬ (at C z ≡ some (open-for y))
-unfolding handles-for
+handles-none : (y : ℕ) (C : Config) → sum-all (handle-for y) C ≡ 0 → (z : ℕ) → ¬ (at C z ≡ some (open-for y))
+unfolding sum-all
 handles-none y [] h z p = clash (cc)
 handles-none y (c ∷ C) h zero p = let q : c ≡ open-for y = cc in omega (arith, head-one y c q)
 handles-none y (c ∷ C) h (suc z) p = handles-none y C (omega arith) z p
 
-none-handles : (y : ℕ) (C : Config) → ((z : ℕ) → ¬ (at C z ≡ some (open-for y))) → handles-for y C ≡ 0
-unfolding handles-for
+none-handles : (y : ℕ) (C : Config) → ((z : ℕ) → ¬ (at C z ≡ some (open-for y))) → sum-all (handle-for y) C ≡ 0
+unfolding sum-all
 none-handles y [] n = refl
 none-handles y (c ∷ C) n = elim (handle-is y c) [
   | inl p ↦ omega (arith, p, none-handles y C (λ z. n (suc z)))
@@ -120,8 +120,8 @@ none-handles y (c ∷ C) n = elim (handle-is y c) [
 abbrev OneFor : ℕ → Config → Type 0
 OneFor y C = (z : ℕ) × (at C z ≡ some (open-for y)) × ((z′ : ℕ) → at C z′ ≡ some (open-for y) → z′ ≡ z)
 
-handles-one : (y : ℕ) (C : Config) → handles-for y C ≡ 1 → OneFor y C
-unfolding handles-for
+handles-one : (y : ℕ) (C : Config) → sum-all (handle-for y) C ≡ 1 → OneFor y C
+unfolding sum-all
 handles-one y [] h = absurd (omega arith)
 handles-one y (c ∷ C) h = elim (handle-is y c) [
   | inl p ↦ let (z, q, u) = handles-one y C (omega (arith, p)) in (suc z, q, later p z u)
@@ -132,12 +132,12 @@ handles-one y (c ∷ C) h = elim (handle-is y c) [
     later p z u zero g = let q : c ≡ open-for y = cc in absurd (omega (arith, p, head-one y c q))
     later p z u (suc z′) g = ap suc (u z′ g)
 
-    first : handles-for y C ≡ 0 → (z′ : ℕ) → at (c ∷ C) z′ ≡ some (open-for y) → z′ ≡ zero
+    first : sum-all (handle-for y) C ≡ 0 → (z′ : ℕ) → at (c ∷ C) z′ ≡ some (open-for y) → z′ ≡ zero
     first p zero g = refl
     first p (suc z′) g = absurd (handles-none y C p z′ g)
 
-one-handles : (y : ℕ) (C : Config) (z : ℕ) → at C z ≡ some (open-for y) → ((z′ : ℕ) → at C z′ ≡ some (open-for y) → z′ ≡ z) → handles-for y C ≡ 1
-unfolding handles-for
+one-handles : (y : ℕ) (C : Config) (z : ℕ) → at C z ≡ some (open-for y) → ((z′ : ℕ) → at C z′ ≡ some (open-for y) → z′ ≡ z) → sum-all (handle-for y) C ≡ 1
+unfolding sum-all
 one-handles y [] z p u = absurd (clash (cc))
 one-handles y (c ∷ C) zero p u =
     let q : c ≡ open-for y = cc in
@@ -184,7 +184,7 @@ image-test-iff C = (there, back)
       small = λ x c p. small x c (at-test x c p);
       cells = λ x v p. settled-value v (and-parts (expression-test (length C) 0 v) (is-settled (place v)) (at-test x (holds v) p) .1);
       companions = λ z y p. awaited-sound (at C y) (at-test z (open-for y) p);
-      futures = λ y p. handles-one y C (eqb-sound (handles-for y C) 1 (at-test y awaited p));
+      futures = λ y p. handles-one y C (eqb-sound (sum-all (handle-for y) C) 1 (at-test y awaited p));
       limits = limits-test-iff C .0 (parts .1);
     }
       where
@@ -226,4 +226,4 @@ image-test-iff C = (there, back)
         one x (holds v) p = and-true (expression-complete (length C) 0 (w .bound x (holds v) p) (w .names-below x (holds v) p) (w .small x (holds v) p)) (value-complete (w .cells x v p))
         one x (open-for y) p = rw (w .companions x y p) refl
         one x used p = refl
-        one x awaited p = let (z, q, u) = w .futures x p in eqb-complete (handles-for x C) 1 (one-handles x C z q u)
+        one x awaited p = let (z, q, u) = w .futures x p in eqb-complete (sum-all (handle-for x) C) 1 (one-handles x C z q u)

@@ -103,7 +103,7 @@ sum-in-bound (open-for y) = omega arith
 sum-in-bound used = omega arith
 sum-in-bound awaited = omega arith
 
-sum-bound : (C : Config) → sum-all size C ≤ 3 * sum-all nodes C
+sum-bound : (C : Config) → sum-all (sum-in size) C ≤ 3 * sum-all (sum-in nodes) C
 unfolding sum-all
 sum-bound [] = omega arith
 sum-bound (c ∷ C) = omega (arith, sum-in-bound c, sum-bound C)

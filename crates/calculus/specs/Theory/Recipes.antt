@@ -70,7 +70,7 @@ start-within : (es : List Exp) (αs : List LinType) → length es ≤ max-bays �
 unfolding loaded
 start-within es αs p q = record {
   few-names = rw (length-append (replicate (length es) (holds (const (num 0)))) (map thread-of es), length-replicate, length-map) (omega arith);
-  few-nodes = rw (sum-append nodes (replicate (length es) (holds (const (num 0)))) (map thread-of es), nodes-settings (length es)) (omega arith);
+  few-nodes = rw (sum-append (sum-in nodes) (replicate (length es) (holds (const (num 0)))) (map thread-of es), nodes-settings (length es)) (omega arith);
 }
 
 -- what holds of every constant of the terms, of unit and of a setting's first value, holds of every constant all through a run

@@ -34,7 +34,7 @@ SoundState τ s = Sound τ (s .names) (s .config)
 once-names-once : {τ : TypeNumbers} {S : List LinType} {C : Config} → Sound τ S C → (x : ℕ) (c : Component) (v : Exp) → at C x ≡ some c →
     ((k : ℕ) → sum-in (count k) c ≡ count k v) → ((k : ℕ) → In (Outside τ k) c → Outside τ k v) → OnceNamesOnce τ S v
 once-names-once {C = C} s x c v h n o = record {
-  at-most-once = λ k q. omega (arith, n k, sum-part (count k) C x h, s .linear k q);
+  at-most-once = λ k q. omega (arith, n k, sum-part (sum-in (count k)) C x h, s .linear k q);
   outside = λ k q. o k (s .outside k q x c h);
 }
 

@@ -28,7 +28,7 @@ length-encoded (open-for y) = refl
 length-encoded used = refl
 length-encoded awaited = refl
 
-length-all : (C : Config) → length (expressions (map encode C)) ≡ sum-all size C
+length-all : (C : Config) → length (expressions (map encode C)) ≡ sum-all (sum-in size) C
 unfolding expressions sum-all
 length-all [] = refl
 length-all (c ∷ C) = length-append (encode c .expression) (expressions (map encode C)) ∙ ap₂ _+_ (length-encoded c) (length-all C)

@@ -10,9 +10,9 @@ use native.Mathlib.Numerals.{add-one}
 use native.Mathlib.Omega.{arith}
 use lib.ListN.{getD, length}
 use Rattle.image.specs.Theory.Lengths.{length-config}
-use Rattle.calculus.specs.Syntax.{Component, thread-of, holds, open-for, used, awaited, Config, at}
+use Rattle.calculus.specs.Syntax.{Component, thread-of, holds, open-for, used, awaited, Config, at, sum-all, sum-in}
 use Rattle.calculus.specs.Lists.{tabulate, each-below, sum-below}
-use Rattle.calculus.specs.Image.{each-test, handle-for, handles-for, nodes, nodes-all}
+use Rattle.calculus.specs.Image.{each-test, handle-for, nodes, nodes-all}
 use Rattle.calculus.specs.Theory.Lists.{at-past}
 use Rattle.calculus.specs.Theory.Tabulate.{length-tabulate, map-tabulate, tabulate-at, tabulate-parts, sum-tabulated}
 use Rattle.term.specs.Expressions.{term-at}
@@ -22,16 +22,6 @@ use Rattle.image.specs.Configuration.{components, config-of, decode}
 use Rattle.image_check.specs.Parts.{component-of, handles-below, nodes-of}
 
 -- ---- sums and tests over a list by index
-
-handles-append : (y : ℕ) (C : Config) (c : Component) → handles-for y (C ++ (c ∷ [])) ≡ handles-for y C + handle-for y c
-unfolding handles-for
-handles-append y [] c = omega arith
-handles-append y (d ∷ C) c = omega (arith, handles-append y C c)
-
-pub handles-tabulated : (y n : ℕ) (f : ℕ → Component) → handles-for y (tabulate n f) ≡ sum-below n (λ k. handle-for y (f k))
-unfolding tabulate sum-below handles-for
-handles-tabulated y zero f = refl
-handles-tabulated y (suc n) f = handles-append y (tabulate n f) (f n) ∙ ap (λ (x : ℕ). x + handle-for y (f n)) (handles-tabulated y n f)
 
 module _ (test : ℕ → Component → Bool) where
   tests-append : (k : ℕ) (C : Config) (c : Component) → each-test test k (C ++ (c ∷ [])) ≡ (each-test test k C && test (k + length C) c)
@@ -90,11 +80,11 @@ module _ (s : List ℕ) where
 
   pub config-nodes : nodes-all (config-of s) ≡ sum-below (names s) (nodes-of s)
   unfolding nodes-of
-  config-nodes = ap nodes-all config-tabulated ∙ sum-tabulated nodes (names s) (component-of s)
+  config-nodes = ap nodes-all config-tabulated ∙ sum-tabulated (sum-in nodes) (names s) (component-of s)
 
-  pub config-handles : (y : ℕ) → handles-for y (config-of s) ≡ handles-below s (names s) y
+  pub config-handles : (y : ℕ) → sum-all (handle-for y) (config-of s) ≡ handles-below s (names s) y
   unfolding handles-below
-  config-handles y = ap (handles-for y) config-tabulated ∙ handles-tabulated y (names s) (component-of s)
+  config-handles y = ap (sum-all (handle-for y)) config-tabulated ∙ sum-tabulated (handle-for y) (names s) (component-of s)
 
   pub config-tests : (test : ℕ → Component → Bool) → each-test test 0 (config-of s) ≡ each-below (names s) (λ k. test k (component-of s k))
   config-tests test = ap (each-test test 0) config-tabulated ∙ tests-tabulated test (names s) (component-of s)

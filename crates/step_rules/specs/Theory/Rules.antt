@@ -62,7 +62,7 @@ module _ {s : List ℕ} {x : ℕ} {m : Meeting} {F : Context} {f : Exp} {w : Val
   -- the nodes of a configuration whose thread x has e in the place of the application
   nodes-put : (e : Exp) → nodes-all (put (config-of s) x F e) + nodes (app f v) ≡ nodes-all (config-of s) + nodes e
   unfolding sum-in
-  nodes-put e = omega (arith, sum-set nodes (config-of s) x (thread-of (plug F e)) (M .thread), plug-nodes F e, plug-nodes F (app f v))
+  nodes-put e = omega (arith, sum-set (sum-in nodes) (config-of s) x (thread-of (plug F e)) (M .thread), plug-nodes F e, plug-nodes F (app f v))
 
   -- the thread's component after a step
   abbrev thread-after : Exp → Encoded
@@ -114,7 +114,7 @@ thread-moves {s} {x} {t} {m} {F} {v} M =
     (table-more new (table-put M e)) (omega arith)
     (λ k. swap k x (names s) (thread-after M e) (encode new) (encoded-at s k) (not-new M (names s) (omega arith))
     ∙ ap (λ d. cond (eqb k x) (thread-after M e) (cond (eqb k (names s)) d (encoded-at s k))) c)
-    (omega (arith, sum-append nodes (put C x F e) (new ∷ []), nodes-put M e))
+    (omega (arith, sum-append (sum-in nodes) (put C x F e) (new ∷ []), nodes-put M e))
     (plainly M (number THREAD-NEW) (omega arith) (omega arith))
 
 -- rule 4
@@ -135,7 +135,7 @@ handle-moves {s} {x} {t} {m} {F} {v} M =
     ∙ ap (λ r. cond (eqb k (names s)) (encode awaited) r) (swap k x (names s + 1) (thread-after M e) h old (not-new M (names s + 1) (omega arith)))
     ∙ swap k x (names s) (thread-after M e) (encode awaited) (cond (eqb k (names s + 1)) h old) (not-new M (names s) (omega arith))
     ∙ ap (λ j. cond (eqb k x) (thread-after M e) (cond (eqb k (names s)) (encode awaited) (cond (eqb k (names s + 1)) (encode (open-for j)) old))) z)
-    (omega (arith, sum-append nodes C₁ (open-for (length C) ∷ []), sum-append nodes (put C x F e) (awaited ∷ []), nodes-put M e))
+    (omega (arith, sum-append (sum-in nodes) C₁ (open-for (length C) ∷ []), sum-append (sum-in nodes) (put C x F e) (awaited ∷ []), nodes-put M e))
     (plainly M (number HANDLE-NEW) (omega arith) (omega arith))
 
 -- rule 6
@@ -151,7 +151,7 @@ cell-moves {s} {x} {t} {m} {F} {v} M =
     (table-more (holds v) (table-put M e)) (omega arith)
     (λ k. swap k x (names s) (thread-after M e) (encode (holds v)) (encoded-at s k) (not-new M (names s) (omega arith))
     ∙ ap (λ p. cond (eqb k x) (thread-after M e) (cond (eqb k (names s)) (cell-holding p) (encoded-at s k))) (sym a))
-    (omega (arith, sum-append nodes (put C x F e) (holds v ∷ []), nodes-put M e))
+    (omega (arith, sum-append (sum-in nodes) (put C x F e) (holds v ∷ []), nodes-put M e))
     (plainly M (number CELL-NEW) (omega arith) (omega arith))
 
 -- rules 3, 5 and 7: the name at the place is a name of the image
@@ -173,7 +173,7 @@ module _ {s : List ℕ} {x : ℕ} {m : Meeting} {F : Context} {f : Exp} {w : Val
   value-moves n y e h p =
       let q = thread-stands s (M .in-bytes) (M .stands) y e h in
       movable M n y _ _ 0 (name-below y h) (omega (arith, thread-below M)) (omega arith) (q .inside) (λ z. absurd (p z))
-      (λ z. counted (q .term) (omega (arith, sum-part nodes (config-of s) y h, few-all M)))
+      (λ z. counted (q .term) (omega (arith, sum-part (sum-in nodes) (config-of s) y h, few-all M)))
 
 -- rule 3, at the function of an application
 pub deref-moves : {s : List ℕ} {x y : ℕ} {m : Meeting} {F : Context} {v : Exp} → MeetsAt s x m F (is-name {k = y}) v → (e : Exp) → at (config-of s) y ≡ some (thread-of e) → Value e
@@ -233,7 +233,7 @@ bind-moves {s} {x} {z} {m} {F} {v} M y h =
     ap (λ r. cond (eqb k z) u r) (swap k x y (thread-after M e) b old xy)
     ∙ swap k x z (thread-after M e) u (cond (eqb k y) b old) xz
     ∙ ap (λ p. cond (eqb k x) (thread-after M e) (cond (eqb k z) u (cond (eqb k y) (thread-holding p) old))) (sym a))
-    (omega (arith, sum-set nodes C₂ z used h₂, sum-set nodes C₁ y (thread-of v) g₁, nodes-put M e))
+    (omega (arith, sum-set (sum-in nodes) C₂ z used h₂, sum-set (sum-in nodes) C₁ y (thread-of v) g₁, nodes-put M e))
     (movable M (number HANDLE-BIND) z 0 0 y (name-below M z h) (name-below M y g) (omega arith) (omega arith) (λ i. absurd (omega arith)) (λ i. absurd (omega arith)))
 
 -- rule 7
@@ -252,5 +252,5 @@ exchange-moves {s} {x} {y} {t} {m} {F} {v} M e h =
     (table-set y (holds v) (table-put M e)) (omega arith)
     (λ k. swap k x y (thread-after M e) (encode (holds v)) (encoded-at s k) xy
     ∙ ap (λ p. cond (eqb k x) (thread-after M e) (cond (eqb k y) (cell-holding p) (encoded-at s k))) (sym a))
-    (omega (arith, sum-set nodes (put C x F e) y (holds v) h₁, nodes-put M e))
+    (omega (arith, sum-set (sum-in nodes) (put C x F e) y (holds v) h₁, nodes-put M e))
     (movable M (number CELL-EXCH) y _ _ 0 (name-below M y h) (omega (arith, thread-below M)) (omega arith) (q .inside) (λ i. absurd (omega arith)) (λ i. absurd (omega arith)))

@@ -45,7 +45,7 @@ module _ {s : List ℕ} {x : ℕ} {m : Meeting} {F : Context} {f : Exp} {w : Val
 
   pub few : nodes (app f v) ≤ max-nodes
   unfolding sum-in
-  few = omega (arith, sum-part nodes (config-of s) x (M .thread), plug-nodes F (app f v), few-all)
+  few = omega (arith, sum-part (sum-in nodes) (config-of s) x (M .thread), plug-nodes F (app f v), few-all)
 
   pub movable : (rule named from to future : ℕ) → named < names s → future < names s → from ≤ to → to ≤ length s
       → (rule ≡ number BETA → Counted s (m .at + to-body)) → (rule ≡ number FUTURE-DEREF → Counted s from) → Movable s (move-of rule x m named from to future)
