@@ -11,7 +11,7 @@ use Rattle.calculus.specs.Image.{ImageRule, Writable}
 use Rattle.calculus.specs.Theory.ConfigRuns.{ConfigCall, state-after, ConfigStep, config-steps, ConfigDemand}
 use Rattle.calculus.specs.Table.{Table, TableRule, type-at}
 use Rattle.calculus.specs.Verdict.{type-number, verdict}
-use Rattle.calculus.specs.Recipe.{type-found, with-type, bay-types, start, Admitted}
+use Rattle.calculus.specs.Recipe.{with-type, bay-types, start, Admitted}
 use Rattle.calculus.specs.Theory.Recipes.{Bays, no-bay, bay, BaysTyped, recipe-loaded, recipe-images, recipe-demand}
 use Rattle.calculus.specs.Theory.Verdict.{accepted-iff, verdict-iff, verdict-derived-iff}
 
@@ -19,7 +19,7 @@ use Rattle.calculus.specs.Theory.Verdict.{accepted-iff, verdict-iff, ver
 found-typed : (T : Table) {Σ : NameTypes} (es : List Exp) →
     ((i : ℕ) (e : Exp) → at es i ≡ some e → (n : ℕ) × (α : LinType) × (type-number T [] e ≡ some n) × (type-at T n ≡ some α) × Derivation (type-at T) Σ [] e α × (multiplicity α ≡ many)) →
     Bays (type-at T) Σ es (bay-types T es)
-unfolding bay-types type-found with-type
+unfolding bay-types with-type
 found-typed T [] h = no-bay
 found-typed T (e ∷ es) h = let (n, α, p, q, d, m) = h 0 e refl in rw (p, q) (bay d m (found-typed T es (λ i. h (suc i))))
 
