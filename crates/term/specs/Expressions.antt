@@ -48,18 +48,8 @@ nesting (app f a) = suc (max (nesting f) (nesting a))
 
 -- the leaf that each tag says, in the order of the tags, where arg is after the tag; lambda and application have no leaf
 unfoldable pub leaf-forms : ℕ → List Exp
-leaf-forms arg =
-    var arg
-    ∷ const unit
-    ∷ const unit
-    ∷ const unit
-    ∷ const (num arg)
-    ∷ const (op cell arg)
-    ∷ const (op exch arg)
-    ∷ const (op thread arg)
-    ∷ const (op handle arg)
-    ∷ name arg
-    ∷ []
+leaf-forms arg = var arg ∷ const unit ∷ const unit ∷ const unit ∷ const (num arg)
+    ∷ const (op cell arg) ∷ const (op exch arg) ∷ const (op thread arg) ∷ const (op handle arg) ∷ name arg ∷ []
 
 -- the leaf of a tag
 unfoldable pub leaf-exp : ℕ → ℕ → Exp
