@@ -12,8 +12,8 @@ use Rattle.calculus.specs.Limits.{max-nodes}
 use Rattle.calculus.specs.Verdict.{scoped}
 use Rattle.term.specs.declared.Front.the-variants.{Bad, Is}
 use Rattle.term.specs.declared.Node.{Node}
-use Rattle.term.specs.Reader.{GoodAt, node-at, tree-at}
-use Rattle.term.specs.Expressions.{leaf-exp, term-at}
+use Rattle.term.specs.Reader.{first-tree, GoodAt, node-at, tree-at}
+use Rattle.term.specs.Expressions.{leaf-exp, term-at, term-of}
 use Rattle.term.proofs.Views.{NodeAt}
 use Rattle.term_scan.specs.declared.Extent.{Extent}
 use Rattle.term_scan.specs.declared.Extent.the-variants.{Ends, Refused}
@@ -38,7 +38,7 @@ module _ (types names budget : ℕ) (l : List ℕ) (at : ℕ) where
 
   -- of a term the levels say the scope
   scope-of : GoodAt l at → scoped types names 0 (term-at l at) ≡ levels types names [] 1 (drop at l)
-  unfolding term-at tree-at
+  unfolding term-of first-tree tree-at
   scope-of g = sym (levels-start types names (drop at l) (g .good))
 
   module _ (inside : at ≤ length l) where
