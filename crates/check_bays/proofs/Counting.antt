@@ -9,8 +9,8 @@ use lib.ListN.{length, length-drop, length-take}
 use Rattle.calculus.specs.Lists.{sum-below}
 use Rattle.calculus.specs.Limits.{max-file-length}
 use Rattle.calculus.specs.Theory.Tests.{clash}
-use Rattle.term.specs.Reader.{Got, got, none, one-term, read-term, tree-at}
-use Rattle.term.specs.Expressions.{term-at}
+use Rattle.term.specs.Reader.{first-tree, Got, got, none, one-term, read-term, tree-at}
+use Rattle.term.specs.Expressions.{term-of}
 use Rattle.term.proofs.Sizes.{nodes-exp}
 use Rattle.term.proofs.Views.{end-inside, nodes-inside}
 use Rattle.recipe_file.specs.File.{bays, part, term-bytes}
@@ -38,7 +38,7 @@ short s bay = simp (length-take, length-drop) (omega arith)
 
 -- a part that is one term has no more nodes than the file has bytes
 part-nodes : (s : List ℕ) (bay n : ℕ) → FileRule s → Single (term-bytes s bay) n → n ≤ max-file-length
-unfolding term-at
+unfolding term-of tree-at first-tree
 part-nodes s bay n l h =
     let p = term-bytes s bay in
     omega (arith, h .count, nodes-exp (tree-at p 0), nodes-inside p 0, end-inside (h .good), short s bay, l .size .high)

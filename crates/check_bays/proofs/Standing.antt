@@ -11,8 +11,8 @@ use Rattle.calculus.specs.Limits.{max-nesting, max-recipe-nodes}
 use Rattle.calculus.specs.Verdict.{annotated, scoped}
 use Rattle.calculus.specs.Theory.Tests.{clash}
 use Rattle.term.specs.Tree.{tree-nodes}
-use Rattle.term.specs.Reader.{first-tree, Got, got, none, one-term, read-term, tree-at, tree-in}
-use Rattle.term.specs.Expressions.{exp-of, nesting, term-at}
+use Rattle.term.specs.Reader.{Got, got, none, one-term, read-term, tree-in}
+use Rattle.term.specs.Expressions.{exp-of, nesting, term-at, term-of}
 use Rattle.recipe_file.specs.File.{bays, table-bytes, term-bytes}
 use Rattle.recipe_file.specs.FileRule.{FileRule}
 use Rattle.term_scan.specs.declared.Part.the-variants.{Nodes, NoTerm}
@@ -33,7 +33,7 @@ is-term-cond false n = refl
 
 -- a part that is a term is the bay's
 whole-term : (l : List ℕ) {g : Got} → read-term l ≡ g → term-at l 0 ≡ exp-of (tree-in g)
-unfolding term-at tree-at first-tree
+unfolding term-of
 whole-term l e = ap (λ (x : Got). exp-of (tree-in x)) e
 
 -- the tests of one bay

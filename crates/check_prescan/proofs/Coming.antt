@@ -16,9 +16,9 @@ use Rattle.calculus.specs.Theory.Tests.{and-parts, leb-complete, leb-sound, ltb
 use Rattle.term.specs.declared.Front.the-variants.{Bad, Is}
 use Rattle.term.specs.declared.Node.{Node}
 use Rattle.term.specs.Tree.{Tree, tree-nodes}
-use Rattle.term.specs.Reader.{close-one, close-two, Got, got, node-of, none, read-term, then-second}
+use Rattle.term.specs.Reader.{Got, got, node-of, none, read-term}
 use Rattle.term.specs.Expressions.{exp-of, leaf-exp, nesting}
-use Rattle.term.proofs.Reading.{step, step-node}
+use Rattle.term.proofs.Reading.{close-one, close-two, step, step-node, then-second}
 use Rattle.term_scan.specs.declared.Part.{Part}
 use Rattle.term_scan.specs.declared.Part.the-variants.{Nodes, NoTerm}
 use Rattle.check_prescan.specs.Stands.{ended, exactly, glance, leaf-stands, stands}

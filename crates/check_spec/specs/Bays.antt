@@ -10,12 +10,12 @@ use Rattle.calculus.specs.Syntax.{Exp}
 use Rattle.calculus.specs.Limits.{max-nesting, max-recipe-nodes}
 use Rattle.calculus.specs.Image.{nodes}
 use Rattle.term.specs.Reader.{one-term, read-term}
-use Rattle.term.specs.Expressions.{nesting, term-at}
+use Rattle.term.specs.Expressions.{nesting, term-of}
 use Rattle.recipe_file.specs.File.{bays, term-bytes}
 
 -- the expression that a bay's part says
 unfoldable pub bay-term : List ℕ → ℕ → Exp
-bay-term s bay = term-at (term-bytes s bay) 0
+bay-term s bay = term-of (term-bytes s bay)
 
 -- the terms of all bays
 unfoldable pub bay-terms : List ℕ → List Exp

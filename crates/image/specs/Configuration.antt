@@ -3,7 +3,7 @@ use mathlib.Core.List.{List, [], _∷_, map}
 use Prim.Native.Nat.{ℕ}
 use lib.ListN.{getD}
 use Rattle.calculus.specs.Syntax.{Component, thread-of, holds, open-for, used, awaited, Config}
-use Rattle.term.specs.Expressions.{bytes, term-at}
+use Rattle.term.specs.Expressions.{bytes, term-of}
 use Rattle.calculus.specs.Kinds.{thread-kind, cell-kind, open-handle-kind, used-handle-kind, future-kind}
 use Rattle.image_layout.specs.Encoded.{Encoded, image-bytes}
 use Rattle.image_layout.specs.Slice.{encoded-all}
@@ -22,7 +22,7 @@ image-of C = image-bytes (map encode C)
 
 -- the component that each kind says; there is no kind 0, and none above 5
 unfoldable pub components : Encoded → List Component
-components x = used ∷ thread-of (term-at (x .expression) 0) ∷ holds (term-at (x .expression) 0) ∷ open-for (x .companion) ∷ used ∷ awaited ∷ []
+components x = used ∷ thread-of (term-of (x .expression)) ∷ holds (term-of (x .expression)) ∷ open-for (x .companion) ∷ used ∷ awaited ∷ []
 
 unfoldable pub decode : Encoded → Component
 decode x = getD (components x) (x .kind) used

@@ -8,8 +8,8 @@ use Rattle.calculus.specs.Bytes.{two-bytes, word}
 use Rattle.calculus.specs.Syntax.{num, op, exch, handle, app, const, Exp, lam, name, var}
 use Rattle.term.specs.Numbers.{value-of}
 use Rattle.term.specs.Forms.{form-of, forms}
-use Rattle.term.specs.Reader.{first-tree, node-of, one-term, read, read-term, tree-at}
-use Rattle.term.specs.Expressions.{bytes, const-bytes, exp-of, leaf-exp, leaf-forms, op-tag, term-at}
+use Rattle.term.specs.Reader.{one-term, read, read-term}
+use Rattle.term.specs.Expressions.{bytes, const-bytes, exp-of, leaf-exp, leaf-forms, op-tag, term-at, term-of}
 
 -- case B: exch applied to the setting and to 250
 abbrev term-B : Exp
@@ -23,7 +23,7 @@ unfolding bytes const-bytes op-tag two-bytes
 case-B = refl
 
 case-B-back : term-at bytes-B 0 ≡ term-B
-unfolding term-at tree-at first-tree read-term read node-of form-of forms value-of word exp-of leaf-exp leaf-forms
+unfolding term-of read-term read form-of forms value-of word exp-of leaf-exp leaf-forms
 case-B-back = refl
 
 -- case C: handle applied to a function that binds its future to itself
@@ -38,7 +38,7 @@ unfolding bytes const-bytes op-tag two-bytes
 case-C = refl
 
 case-C-back : term-at bytes-C 0 ≡ term-C
-unfolding term-at tree-at first-tree read-term read node-of form-of forms value-of word exp-of leaf-exp leaf-forms
+unfolding term-of read-term read form-of forms value-of word exp-of leaf-exp leaf-forms
 case-C-back = refl
 
 -- cause 5: exactly one term, or not
@@ -67,9 +67,9 @@ damaged =
     ∷ []
 
 are-terms : T (every-is true terms)
-unfolding one-term read-term read node-of form-of forms value-of word
+unfolding one-term read-term read form-of forms value-of word
 are-terms = tt
 
 are-damaged : T (every-is false damaged)
-unfolding one-term read-term read node-of form-of forms value-of word
+unfolding one-term read-term read form-of forms value-of word
 are-damaged = tt

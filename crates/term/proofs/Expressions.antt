@@ -11,7 +11,7 @@ use Rattle.calculus.specs.Syntax.{Exp}
 use Rattle.calculus.specs.Image.{size}
 use Rattle.term.specs.Tree.{Tree, tree-size}
 use Rattle.term.specs.Reader.{end-at, first-rest, first-tree, Got, none, got, GoodAt, one-term, read-term, tree-at}
-use Rattle.term.specs.Expressions.{bytes, exp-of, term-at, TermAt, tree-of, FitsBytes}
+use Rattle.term.specs.Expressions.{bytes, exp-of, term-at, TermAt, tree-of, FitsBytes, term-of}
 use Rattle.term.proofs.Trees.{bytes-tree, exp-bytes, exp-fits, exp-size, exp-tree, tree-well-formed}
 use Rattle.term.proofs.Reading.{past-term}
 use Rattle.term.proofs.Fronts.{is-good, is-tree}
@@ -44,7 +44,7 @@ one-term-parts (got t []) e = (t, refl)
 one-term-parts (got t (x ∷ rest)) e = absurd (false≢true e)
 
 pub one-term-sound : (l : List ℕ) → Bytes l → one-term (read-term l) ≡ true → (l ≡ bytes (term-at l 0)) × FitsBytes (term-at l 0)
-unfolding term-at tree-at first-tree
+unfolding term-of
 one-term-sound l b e = let (t, g) = one-term-parts (read-term l) e in rw g (one-term-is l t b g)
 
 -- the bytes of an expression are one term, that expression
@@ -56,14 +56,14 @@ unfolding one-term
 one-term-complete e f = rw (read-alone e f) refl
 
 pub term-of-bytes : (e : Exp) → FitsBytes e → term-at (bytes e) 0 ≡ e
-unfolding term-at tree-at first-tree
+unfolding term-of
 term-of-bytes e f = rw (read-alone e f) (exp-tree e)
 
 -- At a position
 
 -- there stand the bytes of the expression that is read
 pub term-stands : {l : List ℕ} {at : ℕ} → Bytes l → GoodAt l at → TermAt l at (term-at l at) × (end-at l at ≡ at + size (term-at l at))
-unfolding term-at end-at tree-at
+unfolding term-of first-tree end-at tree-at
 term-stands {l} {at} b g =
     let t = first-tree (drop at l) in
     let (p, w) = read-stands (drop at l) t (first-rest (drop at l)) (bytes-drop at l b) (g .good) in
@@ -79,7 +79,7 @@ pub record Found (l : List ℕ) (at : ℕ) (e : Exp) : Type 0 where
   pub ends : end-at l at ≡ at + size e
 
 pub found-at : {l : List ℕ} {at : ℕ} {e : Exp} → TermAt l at e → Found l at e
-unfolding term-at end-at tree-at
+unfolding term-of first-tree end-at tree-at
 found-at {l} {at} {e} s =
     let p = ap read-term (s .stands) ∙ read-written e (drop (at + size e) l) (s .fits) in
     let t = is-tree (drop at l) (tree-of e) (drop (at + size e) l) p in

@@ -9,9 +9,9 @@ use lib.Seq.{drop-drop}
 use Rattle.term.specs.declared.Front.the-variants.{Is, Bad}
 use Rattle.term.specs.declared.Node.{Node}
 use Rattle.term.specs.Tree.{Tree, leaf, one, tree-size, two}
-use Rattle.term.specs.Reader.{node-of, Got, none, got, then-second, read-term, tree-in, first-tree, first-rest, Good}
+use Rattle.term.specs.Reader.{node-of, Got, none, got, read-term, tree-in, first-tree, first-rest, Good}
 use Rattle.term.proofs.Nodes.{head-is, subterms-at-most}
-use Rattle.term.proofs.Reading.{past-term, step, step-node, none-got, closed-one, closed-two}
+use Rattle.term.proofs.Reading.{closed-one, closed-two, none-got, past-term, step, step-node, then-second}
 
 -- what is read there is the tree
 module _ (l : List ℕ) (t : Tree) (r : List ℕ) (e : read-term l ≡ got t r) where

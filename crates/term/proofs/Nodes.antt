@@ -1,6 +1,6 @@
 -- The node at the front of a list: what `node-of` answers stands there, and what the table allows is read back. Nothing here goes tag by tag.
 use mathlib.Core.Path.{_≡_, refl, ap, subst}
-use mathlib.Core.Bool.{Bool, _&&_, false, true}
+use mathlib.Core.Bool.{Bool, _&&_, cond, false, true}
 use mathlib.Core.List.{List, [], _∷_, _++_}
 use Prim.Native.Nat.{ℕ, suc, _+_, _<_, _≤_}
 use native.Mathlib.Numerals.{one-add}
@@ -17,7 +17,7 @@ use Rattle.term.specs.declared.Node.{Node}
 use Rattle.term.specs.Numbers.{little-endian, value-of}
 use Rattle.term.specs.Forms.{form, form-of, forms, in-range, num-tag, operand-of, subterms-of, tags}
 use Rattle.term.specs.Tree.{node-bytes, InTable}
-use Rattle.term.specs.Reader.{node-of, node-stands, pick-node, front-operand, front-node}
+use Rattle.term.specs.Reader.{front-node, front-operand, front-size, front-tag, node-of, node-stands}
 use Rattle.term.proofs.Table.{every-at}
 use Rattle.term.proofs.Numbers.{length-little-endian, value-bytes, value-fits, bytes-value}
 
@@ -43,22 +43,22 @@ pub record Heads (l : List ℕ) (h : Node) : Type 0 where
   pub whole : h .size ≤ length l
   pub low : in-range (h .tag) (h .arg) ≡ true
 
-all-true : (a b c d : Bool) → (a && (b && (c && d))) ≡ true → (b ≡ true) × (c ≡ true) × (d ≡ true)
+all-true : (a b c d : Bool) → (a && b && c && d) ≡ true → (b ≡ true) × (c ≡ true) × (d ≡ true)
 all-true true true true d e = (refl, refl, e)
 all-true true true false d e = (refl, e, cc)
 all-true true false c d e = (e, cc, cc)
 all-true false b c d e = (cc, cc, cc)
 
-picked : (b : Bool) (h k : Node) → pick-node b (Is h) ≡ Is k → (b ≡ true) × (h ≡ k)
+picked : (b : Bool) (h k : Node) → cond b (Is h) Bad ≡ Is k → (b ≡ true) × (h ≡ k)
 picked true h k e = (refl, cc)
 picked false h k e = (cc, cc)
 
 -- the tests of `node-stands` that passed
 stood : (l : List ℕ) → node-stands l ≡ true
-    → (getD l 0 0 < tags) × (1 + operand-of (getD l 0 0) ≤ length l) × (in-range (getD l 0 0) (front-operand l) ≡ true)
+    → (front-tag l < tags) × (front-size l ≤ length l) × (in-range (front-tag l) (front-operand l) ≡ true)
 stood l e =
-    let a = all-true (ltb 0 (length l)) (ltb (getD l 0 0) tags) (leb (1 + operand-of (getD l 0 0)) (length l)) (in-range (getD l 0 0) (front-operand l)) e in
-    (ltb-true (getD l 0 0) tags (a .0), leb-true (1 + operand-of (getD l 0 0)) (length l) (a .1), a .2)
+    let a = all-true (ltb 0 (length l)) (ltb (front-tag l) tags) (leb (front-size l) (length l)) (in-range (front-tag l) (front-operand l)) e in
+    (ltb-true (front-tag l) tags (a .0), leb-true (front-size l) (length l) (a .1), a .2)
 
 pub head-is : (l : List ℕ) (h : Node) → node-of l ≡ Is h → Heads l h
 unfolding node-of
@@ -75,25 +75,25 @@ module _ (l : List ℕ) where
   head-none h = simp (le-ltb 0 (length l) (omega arith))
 
   module _ (some : 0 < length l) where
-    pub head-unknown : tags ≤ getD l 0 0 → Bad ≡ node-of l
+    pub head-unknown : tags ≤ front-tag l → Bad ≡ node-of l
     unfolding node-of
-    head-unknown h = simp (lt-ltb 0 (length l) some, le-ltb (getD l 0 0) tags h)
+    head-unknown h = simp (lt-ltb 0 (length l) some, le-ltb (front-tag l) tags h)
 
-    module _ (known : getD l 0 0 < tags) where
-      pub head-cut : length l < 1 + operand-of (getD l 0 0) → Bad ≡ node-of l
+    module _ (known : front-tag l < tags) where
+      pub head-cut : length l < front-size l → Bad ≡ node-of l
       unfolding node-of
-      head-cut h = simp (lt-ltb 0 (length l) some, lt-ltb (getD l 0 0) tags known, lt-leb (1 + operand-of (getD l 0 0)) (length l) h)
+      head-cut h = simp (lt-ltb 0 (length l) some, lt-ltb (front-tag l) tags known, lt-leb (front-size l) (length l) h)
 
-      module _ (whole : 1 + operand-of (getD l 0 0) ≤ length l) where
-        pub head-over : max-num < front-operand l → getD l 0 0 ≡ num-tag → Bad ≡ node-of l
+      module _ (whole : front-size l ≤ length l) where
+        pub head-over : max-num < front-operand l → front-tag l ≡ num-tag → Bad ≡ node-of l
         unfolding node-of
         head-over h e =
-            simp (lt-ltb 0 (length l) some, lt-ltb (getD l 0 0) tags known, le-leb (1 + operand-of (getD l 0 0)) (length l) whole, lt-leb (front-operand l) max-num h, eq-eqb (getD l 0 0) num-tag e)
+            simp (lt-ltb 0 (length l) some, lt-ltb (front-tag l) tags known, le-leb (front-size l) (length l) whole, lt-leb (front-operand l) max-num h, eq-eqb (front-tag l) num-tag e)
 
-        pub head-node : in-range (getD l 0 0) (front-operand l) ≡ true → Is (front-node l) ≡ node-of l
+        pub head-node : in-range (front-tag l) (front-operand l) ≡ true → Is (front-node l) ≡ node-of l
         unfolding node-of
         head-node h =
-            simp (lt-ltb 0 (length l) some, lt-ltb (getD l 0 0) tags known, le-leb (1 + operand-of (getD l 0 0)) (length l) whole, h)
+            simp (lt-ltb 0 (length l) some, lt-ltb (front-tag l) tags known, le-leb (front-size l) (length l) whole, h)
 
 -- a node that the table allows
 abbrev pub table-node : ℕ → ℕ → ℕ → Node

@@ -2,6 +2,7 @@
 -- and so has each proof below. The reader finds t and rest exactly where the relation holds, whatever the fuel, so that `read-term` is the
 -- reader whose subterms are read by `read-term` itself (`step`).
 use mathlib.Core.Path.{_≡_, refl, ap, sym, subst, subst₂, _∙_}
+use mathlib.Core.Bool.{Bool, cond, false, true}
 use mathlib.Core.List.{List}
 use Prim.Native.Nat.{ℕ, zero, suc, _+_, _≤_}
 use native.Mathlib.Nat.{not-suc-le-zero, le-refl}
@@ -12,13 +13,44 @@ use Rattle.term.specs.declared.Front.{Front}
 use Rattle.term.specs.declared.Front.the-variants.{Is, Bad}
 use Rattle.term.specs.declared.Node.{Node}
 use Rattle.term.specs.Tree.{Tree, leaf, one, tree-depth, tree-nodes, tree-size, two}
-use Rattle.term.specs.Reader.{node-of, Got, none, got, close-one, close-two, then-second, read-subterms, read-node, read-with, read, read-term}
+use Rattle.term.specs.Reader.{front-node, Got, got, node-of, node-stands, none, onward, read, read-subterms, read-term, read-with}
 use Rattle.term.proofs.Nodes.{head-is, subterms-at-most}
 
 pub data Reads : List ℕ → Tree → List ℕ → Type 0 where
   leaf-reads : {l : List ℕ} {h : Node} → node-of l ≡ Is h → h .subterms ≡ 0 → Reads l (leaf (h .tag) (h .arg)) (drop (h .size) l)
   one-reads : {l r : List ℕ} {h : Node} {t : Tree} → node-of l ≡ Is h → h .subterms ≡ 1 → Reads (drop (h .size) l) t r → Reads l (one (h .tag) (h .arg) t) r
   two-reads : {l r q : List ℕ} {h : Node} {t u : Tree} → node-of l ≡ Is h → h .subterms ≡ 2 → Reads (drop (h .size) l) t r → Reads r u q → Reads l (two (h .tag) (h .arg) t u) q
+
+-- The reader, through the node at the front
+
+-- a node over its one subterm
+abbrev pub close-one : Node → Got → Got
+close-one h g = onward g λ t rest. got (one (h .tag) (h .arg) t) rest
+
+-- a node over its two subterms, the first being t
+abbrev pub close-two : Node → Tree → Got → Got
+close-two h t g = onward g λ u rest. got (two (h .tag) (h .arg) t u) rest
+
+-- the second subterm is read where the first ends
+abbrev pub then-second : (List ℕ → Got) → Node → Got → Got
+then-second rd h g = onward g λ t after. close-two h t (rd after)
+
+-- the subterms of a node
+abbrev pub read-below : (List ℕ → Got) → Node → ℕ → List ℕ → Got
+read-below rd h k l = read-subterms rd (h .tag) (h .arg) k (drop (h .size) l)
+
+-- a node's subterms, where there is a node
+abbrev pub read-node : (List ℕ → Got) → Front → List ℕ → Got
+read-node rd Bad l = none
+read-node rd (Is h) l = read-below rd h (h .subterms) l
+
+through-node : (rd : List ℕ → Got) (l : List ℕ) → read-with rd l ≡ read-node rd (node-of l) l
+unfolding node-of
+through-node rd l = by (node-stands l)
+  where
+    by : (b : Bool) → cond b (read-node rd (Is (front-node l)) l) none ≡ read-node rd (cond b (Is (front-node l)) Bad) l
+    by true = refl
+    by false = refl
 
 -- What the reader finds, the relation has
 
@@ -40,7 +72,7 @@ module _ (rd : List ℕ → Got) (reads-rd : (l : List ℕ) (t : Tree) (r : List
       let u = closed-two h a (rd q) t r e in
       subst (λ (x : Tree). Reads l x r) (u .2) (two-reads is k (reads-rd (drop (h .size) l) a q eg) (reads-rd q (u .0) r (u .1)))
 
-  subterms-reads : (k : ℕ) → h .subterms ≡ k → (t : Tree) (r : List ℕ) → read-subterms rd h k (drop (h .size) l) ≡ got t r → Reads l t r
+  subterms-reads : (k : ℕ) → h .subterms ≡ k → (t : Tree) (r : List ℕ) → read-below rd h k l ≡ got t r → Reads l t r
   subterms-reads zero k t r e = subst₂ (λ (x : Tree) (y : List ℕ). Reads l x y) (cc) (cc) (leaf-reads is k)
   subterms-reads (suc zero) k t r e =
       let u = closed-one h (rd (drop (h .size) l)) t r e in
@@ -56,18 +88,18 @@ node-reads rd reads-rd l (Is h) is t r e = subterms-reads rd reads-rd l h is (h 
 pub reads : (n : ℕ) (l : List ℕ) (t : Tree) (r : List ℕ) → read n l ≡ got t r → Reads l t r
 unfolding read
 reads zero l t r e = absurd (none-got t r e)
-reads (suc n) l t r e = node-reads (read n) (reads n) l (node-of l) refl t r e
+reads (suc n) l t r e = node-reads (read n) (reads n) l (node-of l) refl t r (sym (through-node (read n) l) ∙ e)
 
 -- What the relation has, the reader finds
 
 pub found : {l : List ℕ} {t : Tree} {r : List ℕ} → Reads l t r → (n : ℕ) → tree-depth t ≤ n → read n l ≡ got t r
 unfolding read tree-depth
 found (leaf-reads h k) zero le = absurd (not-suc-le-zero le)
-found (leaf-reads h k) (suc n) le = rw (h, k)
+found (leaf-reads {l} h k) (suc n) le = rw (through-node (read n) l, h, k)
 found (one-reads h k a) zero le = absurd (omega arith)
-found (one-reads h k a) (suc n) le = rw (h, k, found a n (omega arith))
+found (one-reads {l} h k a) (suc n) le = rw (through-node (read n) l, h, k, found a n (omega arith))
 found (two-reads h k a b) zero le = absurd (omega arith)
-found (two-reads h k a b) (suc n) le = rw (h, k, found a n (omega arith), found b n (omega arith))
+found (two-reads {l} h k a b) (suc n) le = rw (through-node (read n) l, h, k, found a n (omega arith), found b n (omega arith))
 
 -- What stands after a term: the term's size is gone
 
@@ -137,7 +169,7 @@ then-full n h l le (got t r) e =
     let p = past (reads (length l) l t r e) in
     ap (close-two h t) (full n r (omega (arith, ap (length {A = ℕ}) (p .rest), length-drop (tree-size t) l)))
 
-subterms-full : (n : ℕ) (h : Node) (k : ℕ) (l : List ℕ) → length l ≤ n → read-subterms (read n) h k l ≡ read-subterms read-term h k l
+subterms-full : (n : ℕ) (h : Node) (k : ℕ) (l : List ℕ) → length l ≤ n → read-subterms (read n) (h .tag) (h .arg) k l ≡ read-subterms read-term (h .tag) (h .arg) k l
 subterms-full n h zero l le = refl
 subterms-full n h (suc zero) l le = ap (close-one h) (full n l le)
 subterms-full n h (suc (suc j)) l le = ap (then-second (read n) h) (full n l le) ∙ then-full n h l le (read-term l) refl
@@ -147,14 +179,15 @@ node-full n l le Bad = refl
 node-full n l le (Is h) = subterms-full n h (h .subterms) (drop (h .size) l) (omega (arith, length-drop (h .size) l))
 
 -- the reader's equation
-pub step : (l : List ℕ) → read-term l ≡ read-with read-term l
+pub step : (l : List ℕ) → read-term l ≡ read-node read-term (node-of l) l
 unfolding read
-step l = sym (full (suc (length l)) l (omega arith)) ∙ node-full (length l) l (le-refl (length l)) (node-of l)
+step l =
+    sym (full (suc (length l)) l (omega arith)) ∙ through-node (read (length l)) l ∙ node-full (length l) l (le-refl (length l)) (node-of l)
 
 -- and at a node with k subterms
-pub step-node : (l : List ℕ) (h : Node) → node-of l ≡ Is h → (k : ℕ) → h .subterms ≡ k → read-term l ≡ read-subterms read-term h k (drop (h .size) l)
+pub step-node : (l : List ℕ) (h : Node) → node-of l ≡ Is h → (k : ℕ) → h .subterms ≡ k → read-term l ≡ read-below read-term h k l
 step-node l h is k e =
-    step l ∙ ap (λ (x : Front). read-node read-term x l) is ∙ ap (λ (x : ℕ). read-subterms read-term h x (drop (h .size) l)) e
+    step l ∙ ap (λ (x : Front). read-node read-term x l) is ∙ ap (λ (x : ℕ). read-below read-term h x l) e
 
 pub past-term : (l : List ℕ) (t : Tree) (r : List ℕ) → read-term l ≡ got t r → Past l t r
 unfolding read-term

@@ -11,7 +11,7 @@ use Rattle.term.specs.declared.Front.the-variants.{Bad, Is}
 use Rattle.term.specs.declared.Node.{Node}
 use Rattle.term.specs.Tree.{leaf, one, tree-nodes, tree-size, two}
 use Rattle.term.specs.Reader.{end-at, first-tree, Good, GoodAt, node-at, tree-at}
-use Rattle.term.specs.Expressions.{exp-of, leaf-exp, term-at}
+use Rattle.term.specs.Expressions.{exp-of, leaf-exp, term-at, term-of}
 use Rattle.term.proofs.Nodes.{head-is, subterms-at-most}
 use Rattle.term.proofs.Reading.{nodes-size, size-some}
 use Rattle.term.proofs.Fronts.{after, front-not-bad, good-fits, leaf-front, one-front, two-front}
@@ -80,7 +80,7 @@ pub is-two : {l : List ℕ} {at : ℕ} {h : Node} → NodeAt l at h → (h .subt
 is-two n not-0 not-1 = omega (arith, n .few)
 
 pub leaf-from : {l : List ℕ} {at : ℕ} {h : Node} → node-at l at ≡ Is h → GoodAt l at → h .subterms ≡ 0 → LeafAt l at h
-unfolding node-at tree-at term-at end-at exp-of tree-size
+unfolding node-at tree-at term-of first-tree end-at exp-of tree-size
 leaf-from {l} {at} {h} is g k =
     let t = leaf-front (drop at l) h is (g .good) k in
     record {
@@ -90,7 +90,7 @@ leaf-from {l} {at} {h} is g k =
     }
 
 pub one-from : {l : List ℕ} {at : ℕ} {h : Node} → node-at l at ≡ Is h → GoodAt l at → h .subterms ≡ 1 → OneAt l at h
-unfolding node-at tree-at term-at end-at exp-of tree-size
+unfolding node-at tree-at term-of first-tree end-at exp-of tree-size
 one-from {l} {at} {h} is g k =
     let o = one-front (drop at l) h is (g .good) k in
     let d = drop-drop (h .size) at l in
@@ -104,7 +104,7 @@ one-from {l} {at} {h} is g k =
     }
 
 pub two-from : {l : List ℕ} {at : ℕ} {h : Node} → node-at l at ≡ Is h → GoodAt l at → h .subterms ≡ 2 → TwoAt l at h
-unfolding node-at tree-at term-at end-at exp-of tree-size
+unfolding node-at tree-at term-of first-tree end-at exp-of tree-size
 two-from {l} {at} {h} is g k =
     let o = two-front (drop at l) h is (g .good) k in
     let d = drop-drop (h .size) at l in

@@ -10,7 +10,7 @@ use Rattle.calculus.specs.Limits.{byte-values}
 use Rattle.calculus.specs.Image.{size, Writable}
 use Rattle.term.specs.Forms.{variable-tag, lambda-tag, application-tag, unit-tag, num-tag, cell-tag, exch-tag, thread-tag, handle-tag, name-tag}
 use Rattle.term.specs.Tree.{Tree, leaf, one, two}
-use Rattle.term.specs.Reader.{tree-at}
+use Rattle.term.specs.Reader.{read-term, tree-in}
 
 -- document 01, the table of node forms: "cell, exch, thread, handle"
 unfoldable pub op-tag : Op → ℕ
@@ -48,18 +48,8 @@ nesting (app f a) = suc (max (nesting f) (nesting a))
 
 -- the leaf that each tag says, in the order of the tags, where arg is after the tag; lambda and application have no leaf
 unfoldable pub leaf-forms : ℕ → List Exp
-leaf-forms arg =
-    var arg
-    ∷ const unit
-    ∷ const unit
-    ∷ const unit
-    ∷ const (num arg)
-    ∷ const (op cell arg)
-    ∷ const (op exch arg)
-    ∷ const (op thread arg)
-    ∷ const (op handle arg)
-    ∷ name arg
-    ∷ []
+leaf-forms arg = var arg ∷ const unit ∷ const unit ∷ const unit ∷ const (num arg)
+    ∷ const (op cell arg) ∷ const (op exch arg) ∷ const (op thread arg) ∷ const (op handle arg) ∷ name arg ∷ []
 
 -- the leaf of a tag
 unfoldable pub leaf-exp : ℕ → ℕ → Exp
@@ -85,9 +75,13 @@ tree-of (app f a) = two application-tag 0 (tree-of f) (tree-of a)
 tree-of (const c) = const-tree c
 tree-of (name k) = leaf name-tag k
 
--- the expression whose bytes begin at a position; anything, where there is none
-unfoldable pub term-at : List ℕ → ℕ → Exp
-term-at l at = exp-of (tree-at l at)
+-- the expression at the front of some bytes; anything, where there is none
+unfoldable pub term-of : List ℕ → Exp
+term-of l = exp-of (tree-in (read-term l))
+
+-- the expression at a position
+abbrev pub term-at : List ℕ → ℕ → Exp
+term-at l at = term-of (drop at l)
 
 -- the bytes of an expression stand at a position
 pub record TermAt (l : List ℕ) (at : ℕ) (e : Exp) : Type 0 where

@@ -1,6 +1,6 @@
 -- The reader: what term stands at the front of a list of bytes, if one does. It is defined for every list, a damaged one too.
 use mathlib.Core.Path.{_≡_}
-use mathlib.Core.Bool.{Bool, _&&_, false, true}
+use mathlib.Core.Bool.{Bool, _&&_, cond, false, true}
 use mathlib.Core.List.{List, [], _∷_}
 use Prim.Native.Nat.{_+_, _≤_, suc, zero, ℕ}
 use lib.Dec.{leb, ltb}
@@ -12,74 +12,42 @@ use Rattle.term.specs.Numbers.{value-of}
 use Rattle.term.specs.Forms.{in-range, operand-of, subterms-of, tags, unit-tag}
 use Rattle.term.specs.Tree.{Tree, leaf, one, tree-size, two}
 
--- a node where a test holds, and otherwise none
-abbrev pub pick-node : Bool → Front → Front
-pick-node true h = h
-pick-node false h = Bad
+-- the tag at the front
+abbrev pub front-tag : List ℕ → ℕ
+front-tag l = getD l 0 0
 
--- the operand of the node at the front
+-- the bytes of the node at the front, without its subterms
+abbrev pub front-size : List ℕ → ℕ
+front-size l = 1 + operand-of (front-tag l)
+
+-- its operand
 abbrev pub front-operand : List ℕ → ℕ
-front-operand l = value-of (operand-of (getD l 0 0)) (drop 1 l)
+front-operand l = value-of (operand-of (front-tag l)) (drop 1 l)
 
 -- document 01, cause 5: "unknown tag, cut, .. num above 1000". There is a tag, it is known, what is after it is whole, and a num is in range.
 abbrev pub node-stands : List ℕ → Bool
-node-stands l =
-    ltb 0 (length l)
-    && (ltb (getD l 0 0) tags
-    && (leb (1 + operand-of (getD l 0 0)) (length l) && in-range (getD l 0 0) (front-operand l)))
-
--- the node at the front, without its subterms
-abbrev pub front-node : List ℕ → Node
-front-node l =
-    record {
-      tag = getD l 0 0;
-      arg = front-operand l;
-      size = 1 + operand-of (getD l 0 0);
-      subterms = subterms-of (getD l 0 0);
-    }
-
--- the same where it stands, and otherwise that there is none
-unfoldable pub node-of : List ℕ → Front
-node-of l = pick-node (node-stands l) (Is (front-node l))
-
--- the node at a position of a list
-unfoldable pub node-at : List ℕ → ℕ → Front
-node-at l at = node-of (drop at l)
+node-stands l = ltb 0 (length l) && ltb (front-tag l) tags && leb (front-size l) (length l) && in-range (front-tag l) (front-operand l)
 
 -- nothing that is a term, or a term and what stands after it
 pub data Got : Type 0 where
   none : Got
   got : Tree → List ℕ → Got
 
--- a node over its one subterm
-abbrev pub close-one : Node → Got → Got
-close-one h none = none
-close-one h (got t rest) = got (one (h .tag) (h .arg) t) rest
+-- what `more` makes of the term read and of what stands after it
+abbrev pub onward : Got → (Tree → List ℕ → Got) → Got
+onward none more = none
+onward (got t rest) more = more t rest
 
--- a node over its two subterms, the first being t
-abbrev pub close-two : Node → Tree → Got → Got
-close-two h t none = none
-close-two h t (got u rest) = got (two (h .tag) (h .arg) t u) rest
-
--- the second subterm is read where the first ends
-abbrev pub then-second : (List ℕ → Got) → Node → Got → Got
-then-second rd h none = none
-then-second rd h (got t rest) = close-two h t (rd rest)
-
--- a node's k subterms, one after the other, each read by rd
-abbrev pub read-subterms : (List ℕ → Got) → Node → ℕ → List ℕ → Got
-read-subterms rd h zero l = got (leaf (h .tag) (h .arg)) l
-read-subterms rd h (suc zero) l = close-one h (rd l)
-read-subterms rd h (suc (suc k)) l = then-second rd h (rd l)
-
--- a node's subterms, where there is a node
-abbrev pub read-node : (List ℕ → Got) → Front → List ℕ → Got
-read-node rd Bad l = none
-read-node rd (Is h) l = read-subterms rd h (h .subterms) (drop (h .size) l)
+-- the k subterms of a node, one after the other, each read by rd
+abbrev pub read-subterms : (List ℕ → Got) → ℕ → ℕ → ℕ → List ℕ → Got
+read-subterms rd tag arg zero l = got (leaf tag arg) l
+read-subterms rd tag arg (suc zero) l = onward (rd l) λ t rest. got (one tag arg t) rest
+read-subterms rd tag arg (suc (suc k)) l = onward (rd l) λ t after. onward (rd after) λ u rest. got (two tag arg t u) rest
 
 -- a term's root, and its subterms read by rd
 abbrev pub read-with : (List ℕ → Got) → List ℕ → Got
-read-with rd l = read-node rd (node-of l) l
+read-with rd l =
+    cond (node-stands l) (read-subterms rd (front-tag l) (front-operand l) (subterms-of (front-tag l)) (drop (front-size l) l)) none
 
 -- a term that is at most n deep
 unfoldable pub read : ℕ → List ℕ → Got
@@ -130,3 +98,15 @@ end-at l at = at + tree-size (tree-at l at)
 pub record GoodAt (l : List ℕ) (at : ℕ) : Type 0 where
   pub inside : at ≤ length l
   pub good : Good (drop at l)
+
+-- the node at the front, without its subterms
+abbrev pub front-node : List ℕ → Node
+front-node l = record { tag = front-tag l; arg = front-operand l; size = front-size l; subterms = subterms-of (front-tag l) }
+
+-- the same where it stands, and otherwise that there is none
+unfoldable pub node-of : List ℕ → Front
+node-of l = cond (node-stands l) (Is (front-node l)) Bad
+
+-- the node at a position of a list
+unfoldable pub node-at : List ℕ → ℕ → Front
+node-at l at = node-of (drop at l)

@@ -14,7 +14,7 @@ use Rattle.calculus.specs.Image.{nodes}
 use Rattle.calculus.specs.Theory.Tests.{clash}
 use Rattle.term.specs.Tree.{Tree, tree-nodes, tree-size}
 use Rattle.term.specs.Reader.{end-at, first-tree, GoodAt, Got, got, none, read-term, tree-at}
-use Rattle.term.specs.Expressions.{bytes, FitsBytes, term-at, tree-of}
+use Rattle.term.specs.Expressions.{bytes, FitsBytes, term-at, term-of, tree-of}
 use Rattle.term.proofs.Reading.{past-term}
 use Rattle.term.proofs.Views.{end-inside, nodes-inside}
 use Rattle.term.proofs.Fronts.{is-good, is-tree}
@@ -34,7 +34,7 @@ pub record Stands (l : List ℕ) (at e n : ℕ) : Type 0 where
   pub count : nodes (term-at l at) ≡ n
 
 nodes-at : (l : List ℕ) (at : ℕ) → tree-nodes (tree-at l at) ≡ nodes (term-at l at)
-unfolding term-at
+unfolding term-of tree-at first-tree
 nodes-at l at = nodes-exp (tree-at l at)
 
 -- what the scan answers of a term
@@ -141,7 +141,7 @@ pub record Single (l : List ℕ) (n : ℕ) : Type 0 where
   pub count : nodes (term-at l 0) ≡ n
 
 pub part-single : (l : List ℕ) (n : ℕ) → Nodes n ≡ part-of l → Single l n
-unfolding part-of tree-at term-at
+unfolding part-of tree-at term-of first-tree
 part-single l n q = is (read-term l) refl q
   where
     is : (g : Got) → read-term l ≡ g → Nodes n ≡ exactly g → Single l n
@@ -158,7 +158,7 @@ part-single l n q = is (read-term l) refl q
 
 -- is an expression's bytes
 pub part-bytes : (l : List ℕ) (n : ℕ) → Bytes l → Nodes n ≡ part-of l → (l ≡ bytes (term-at l 0)) × FitsBytes (term-at l 0) × (nodes (term-at l 0) ≡ n)
-unfolding term-at
+unfolding term-of tree-at first-tree
 part-bytes l n b q =
     let s = part-single l n q in
     let (p, f) = one-term-is l (tree-at l 0) b (s .reads) in

@@ -10,9 +10,9 @@ use Rattle.calculus.specs.Verdict.{scoped}
 use Rattle.term.specs.declared.Front.the-variants.{Is}
 use Rattle.term.specs.declared.Node.{Node}
 use Rattle.term.specs.Tree.{Tree}
-use Rattle.term.specs.Reader.{close-one, close-two, first-tree, Good, Got, got, node-of, none, read-term, then-second}
+use Rattle.term.specs.Reader.{first-tree, Good, Got, got, node-of, none, read-term}
 use Rattle.term.specs.Expressions.{exp-of, leaf-exp}
-use Rattle.term.proofs.Reading.{step-node}
+use Rattle.term.proofs.Reading.{close-one, close-two, step-node, then-second}
 
 module _ (types names : ℕ) where
   abbrev pub and-then : ℕ → (List ℕ → Bool) → Got → Bool

@@ -10,6 +10,8 @@ pub mod Depths
 pub mod Stack
 -- terms on levels of lambdas: the law of the loop with a stack
 mod Levels
+-- the next node of that loop
+mod Next
 -- what that loop knows
 mod Scanning
 -- scope of leaves, and scope as an image asks it

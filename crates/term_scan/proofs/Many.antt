@@ -10,9 +10,9 @@ use Rattle.calculus.specs.Theory.Tests.{clash}
 use Rattle.term.specs.declared.Front.the-variants.{Bad, Is}
 use Rattle.term.specs.declared.Node.{Node}
 use Rattle.term.specs.Tree.{leaf, one, Tree, tree-nodes, tree-size, two}
-use Rattle.term.specs.Reader.{close-one, close-two, Got, got, node-at, node-of, none, read-subterms, read-term, then-second}
+use Rattle.term.specs.Reader.{Got, got, node-at, node-of, none, read-term}
 use Rattle.term.proofs.Nodes.{head-is, subterms-at-most}
-use Rattle.term.proofs.Reading.{step, step-node}
+use Rattle.term.proofs.Reading.{close-one, close-two, read-below, step, step-node, then-second}
 use Rattle.term.proofs.Views.{node-there, NodeAt}
 use Rattle.term_scan.specs.declared.Extent.{Extent}
 use Rattle.term_scan.specs.declared.Extent.the-variants.{Ends, Refused}
@@ -60,7 +60,7 @@ module _ (k p n : ℕ) (l : List ℕ) (h : Node) (is : node-of l ≡ Is h) where
   then-two (got t r) = after-two t (read-term r)
 
   -- by the number of subterms
-  by : (j : ℕ) → j ≤ 2 → (m : ℕ) → j + k ≡ m → onward (many k) p n (read-subterms read-term h j (drop (h .size) l)) ≡ many m (p + h .size) (n + 1) (drop (h .size) l)
+  by : (j : ℕ) → j ≤ 2 → (m : ℕ) → j + k ≡ m → onward (many k) p n (read-below read-term h j l) ≡ many m (p + h .size) (n + 1) (drop (h .size) l)
   unfolding many tree-size tree-nodes
   by zero le m e =
       let k-is : k ≡ m = omega arith in

@@ -1,26 +1,29 @@
 -- What the loop of `scan_scoped` knows, and what each of its turns keeps.
 use mathlib.Core.Path.{_≡_, ap, ap₂, refl, sym, _∙_}
-use mathlib.Core.Bool.{Bool, _&&_, false, true}
+use mathlib.Core.Bool.{Bool, _&&_, false, false≢true, true}
 use mathlib.Core.List.{List, [], _∷_}
-use Prim.Native.Nat.{_+_, _-_, _<_, _≤_, suc, zero-le, ℕ}
+use Prim.Native.Nat.{_+_, _-_, _<_, _≤_, suc, zero, zero-le, ℕ}
 use native.Mathlib.Omega.{arith}
-use borrow.Author.Tests.{le-ltb, lt-ltb}
+use borrow.Author.Tests.{ltb-false, ltb-true}
 use lib.Dec.{ltb}
 use lib.ListN.{drop, getD, length, length-set, set}
 use lib.Seq.{drop-drop}
 use Rattle.calculus.specs.Limits.{max-nodes}
 use Rattle.calculus.specs.Verdict.{scoped}
+use Rattle.term.specs.declared.Front.{Front}
 use Rattle.term.specs.declared.Front.the-variants.{Bad, Is}
 use Rattle.term.specs.declared.Node.{Node}
-use Rattle.term.specs.Reader.{GoodAt, node-at, tree-at}
-use Rattle.term.specs.Expressions.{leaf-exp, term-at}
-use Rattle.term.proofs.Views.{NodeAt}
+use Rattle.term.specs.Reader.{first-tree, GoodAt, node-at, tree-at}
+use Rattle.term.specs.Expressions.{leaf-exp, term-at, term-of}
+use Rattle.term.proofs.Views.{is-two, NodeAt}
 use Rattle.term_scan.specs.declared.Extent.{Extent}
 use Rattle.term_scan.specs.declared.Extent.the-variants.{Ends, Refused}
 use Rattle.term_scan.specs.Extents.{extent-at, in-scope, small}
+use Rattle.term_scan.specs.Scopes.{next-scoped, node-scoped}
 use Rattle.term_scan.proofs.Many.{More, Seen, seen-bad, seen-node, seen-start, small-end, small-over}
 use Rattle.term_scan.proofs.Answers.{small-stands}
 use Rattle.term_scan.proofs.Stack.{length-stack, pop, push, stack-of, sum}
+use Rattle.term_scan.proofs.Next.{not-passed, Passed, passed, scoped-application, scoped-lambda, scoped-leaf}
 use Rattle.term_scan.proofs.Levels.{levels, levels-done, levels-lambda, levels-leaf, levels-pop, levels-start, levels-two}
 
 module _ (types names budget : ℕ) (l : List ℕ) (at : ℕ) where
@@ -38,7 +41,7 @@ module _ (types names budget : ℕ) (l : List ℕ) (at : ℕ) where
 
   -- of a term the levels say the scope
   scope-of : GoodAt l at → scoped types names 0 (term-at l at) ≡ levels types names [] 1 (drop at l)
-  unfolding term-at tree-at
+  unfolding term-of first-tree tree-at
   scope-of g = sym (levels-start types names (drop at l) (g .good))
 
   module _ (inside : at ≤ length l) where
@@ -114,10 +117,10 @@ module _ {types names budget : ℕ} {l : List ℕ} {at here r k n : ℕ} {a : Li
       }
 
   module _ (some : k ≡ 0 → ⊥) where
-    pub scanning-over : budget ≤ r → Refused ≡ answer types names budget l at
+    scanning-over : budget ≤ r → Refused ≡ answer types names budget l at
     scanning-over h = no-term types names budget l at (small-over budget (w .seen) (omega arith) h)
 
-    pub scanning-bad : node-at l here ≡ Bad → Refused ≡ answer types names budget l at
+    scanning-bad : node-at l here ≡ Bad → Refused ≡ answer types names budget l at
     scanning-bad is = no-term types names budget l at (ap (small budget) (seen-bad (w .seen) (omega arith) is))
 
     -- one term is next
@@ -127,9 +130,6 @@ module _ {types names budget : ℕ} {l : List ℕ} {at here r k n : ℕ} {a : Li
     module _ {h : Node} (is : node-at l here ≡ Is h) where
       more : More l at here r (k + sum (stack-of n a)) h
       more = seen-node (w .seen) (omega arith) is
-
-      pub scanning-node : NodeAt l here h
-      scanning-node = more .node
 
       -- what is to come after the node: j terms
       come : (j : ℕ) → k + sum (stack-of n a) - 1 + h .subterms ≡ j → Seen l at (here + h .size) (r + 1) j
@@ -146,7 +146,7 @@ module _ {types names budget : ℕ} {l : List ℕ} {at here r k n : ℕ} {a : Li
           ∙ levels-leaf types names (stack-of n a) (k - 1) (drop here l) h is e
           ∙ ap₂ (λ x y. scoped types names x (leaf-exp (h .tag) (h .arg)) && levels types names (stack-of n a) (k - 1) y) (length-stack n a) past
 
-      pub scanning-loose : h .subterms ≡ 0 → scoped types names n (leaf-exp (h .tag) (h .arg)) ≡ false → Refused ≡ answer types names budget l at
+      scanning-loose : h .subterms ≡ 0 → scoped types names n (leaf-exp (h .tag) (h .arg)) ≡ false → Refused ≡ answer types names budget l at
       scanning-loose e f = out-of-scope types names budget l at (w .begun) (rw f at (after-leaf e))
 
       after-lambda : h .subterms ≡ 1 →
@@ -157,15 +157,23 @@ module _ {types names budget : ℕ} {l : List ℕ} {at here r k n : ℕ} {a : Li
           ∙ levels-lambda types names (stack-of n a) (k - 1) (drop here l) h is e
           ∙ ap (λ y. ltb (h .arg) types && levels types names ((k - 1) ∷ stack-of n a) 1 y) past
 
-      pub scanning-no-type : h .subterms ≡ 1 → types ≤ h .arg → Refused ≡ answer types names budget l at
-      scanning-no-type e f = out-of-scope types names budget l at (w .begun) (rw (le-ltb (h .arg) types f) at (after-lambda e))
+      scanning-no-type : h .subterms ≡ 1 → ltb (h .arg) types ≡ false → Refused ≡ answer types names budget l at
+      scanning-no-type e f = out-of-scope types names budget l at (w .begun) (rw f at (after-lambda e))
+
+      unscoped : node-scoped types names n h ≡ false → Refused ≡ answer types names budget l at
+      unscoped f = by (h .subterms) refl
+        where
+          by : (j : ℕ) → h .subterms ≡ j → Refused ≡ answer types names budget l at
+          by zero e = scanning-loose e (scoped-leaf types names n h e ∙ f)
+          by (suc zero) e = scanning-no-type e (scoped-lambda types names n h (omega (arith, e)) e ∙ f)
+          by (suc (suc j)) e = absurd (false≢true (sym (scoped-application types names n h (omega (arith, e)) (omega (arith, e)) ∙ f)))
 
       module _ (left : r < budget) where
         -- another lambda has room
-        pub scanning-room : n < max-nodes
+        scanning-room : n < max-nodes
         scanning-room = omega (arith, w .deep, w .limited)
 
-        pub scanning-leaf : h .subterms ≡ 0 → scoped types names n (leaf-exp (h .tag) (h .arg)) ≡ true →
+        scanning-leaf : h .subterms ≡ 0 → scoped types names n (leaf-exp (h .tag) (h .arg)) ≡ true →
             Scanning types names budget l at (here + h .size) (r + 1) (k - 1) n a
         scanning-leaf e b =
             record {
@@ -178,7 +186,7 @@ module _ {types names budget : ℕ} {l : List ℕ} {at here r k n : ℕ} {a : Li
               same = rw b at (after-leaf e);
             }
 
-        pub scanning-lambda : h .subterms ≡ 1 → h .arg < types → Scanning types names budget l at (here + h .size) (r + 1) 1 (n + 1) (set a n (k - 1))
+        scanning-lambda : h .subterms ≡ 1 → ltb (h .arg) types ≡ true → Scanning types names budget l at (here + h .size) (r + 1) 1 (n + 1) (set a n (k - 1))
         unfolding sum
         scanning-lambda e f =
             let p = push n a (k - 1) (omega (arith, scanning-room, w .room)) in
@@ -189,10 +197,10 @@ module _ {types names budget : ℕ} {l : List ℕ} {at here r k n : ℕ} {a : Li
               within = omega arith;
               deep = omega (arith, w .deep);
               room = length-set a n (k - 1) ∙ w .room;
-              same = rw (lt-ltb (h .arg) types f) at (after-lambda e) ∙ ap (λ x. levels types names x 1 (drop (here + h .size) l)) (sym p);
+              same = rw f at (after-lambda e) ∙ ap (λ x. levels types names x 1 (drop (here + h .size) l)) (sym p);
             }
 
-        pub scanning-two : h .subterms ≡ 2 → Scanning types names budget l at (here + h .size) (r + 1) (k + 1) n a
+        scanning-two : h .subterms ≡ 2 → Scanning types names budget l at (here + h .size) (r + 1) (k + 1) n a
         unfolding node-at
         scanning-two e =
             let s : suc (suc (k - 1)) ≡ k + 1 = omega arith in
@@ -208,3 +216,44 @@ module _ {types names budget : ℕ} {l : List ℕ} {at here r k n : ℕ} {a : Li
                   ∙ levels-two types names (stack-of n a) (k - 1) (drop here l) h is e
                   ∙ ap₂ (λ x y. levels types names (stack-of n a) x y) s past;
             }
+
+    pub scanning-refused : next-scoped budget types names r n (node-at l here) ≡ Bad → Refused ≡ answer types names budget l at
+    scanning-refused e = by (node-at l here) refl
+      where
+        left : {h : Node} → node-at l here ≡ Is h → (b : Bool) → ltb r budget ≡ b → Refused ≡ answer types names budget l at
+        left is true t = unscoped is (not-passed budget types names r n (node-at l here) e is (ltb-true r budget t))
+        left is false t = scanning-over (ltb-false r budget t)
+
+        by : (f : Front) → node-at l here ≡ f → Refused ≡ answer types names budget l at
+        by Bad is = scanning-bad is
+        by (Is h) is = left is (ltb r budget) refl
+
+    -- a node that passed its tests
+    module _ {h : Node} (next-is : next-scoped budget types names r n (node-at l here) ≡ Is h) where
+      on : Passed budget types names r n (node-at l here) h
+      on = passed budget types names r n (node-at l here) h next-is
+
+      pub turn-left : r < budget
+      turn-left = on .left
+
+      pub turn-node : NodeAt l here h
+      turn-node = more (on .is) .node
+
+      pub turn-room : n < max-nodes
+      turn-room = scanning-room (on .is) turn-left
+
+      pub turn-lambda : h .subterms ≡ 1 → Scanning types names budget l at (here + h .size) (r + 1) 1 (n + 1) (set a n (k - 1))
+      turn-lambda e = scanning-lambda (on .is) turn-left e (scoped-lambda types names n h (omega (arith, e)) e ∙ on .fits)
+
+      pub turn-other : (h .subterms ≡ 1 → ⊥) → Scanning types names budget l at (here + h .size) (r + 1) (k - 1 + h .subterms) n a
+      turn-other other = by (h .subterms) refl
+        where
+          by : (j : ℕ) → h .subterms ≡ j → Scanning types names budget l at (here + h .size) (r + 1) (k - 1 + h .subterms) n a
+          by zero e =
+              let s : k - 1 ≡ k - 1 + h .subterms = omega (arith, e) in
+              rw s at (scanning-leaf (on .is) turn-left e (scoped-leaf types names n h e ∙ on .fits))
+          by (suc zero) e = absurd (other e)
+          by (suc (suc j)) e =
+              let two : h .subterms ≡ 2 = is-two turn-node (omega (arith, e)) other in
+              let s : k + 1 ≡ k - 1 + h .subterms = omega (arith, two) in
+              rw s at (scanning-two (on .is) turn-left two)

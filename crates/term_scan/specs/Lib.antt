@@ -4,3 +4,5 @@
 pub mod Extents
 -- where a term ends that nests no deeper than a limit
 pub mod Depths
+-- the next node of a scan that asks scope
+pub mod Scopes

@@ -10,10 +10,11 @@ ghost use lib.ListN.{length};
 ghost use Rattle.calculus.specs.Limits.{max-nodes};
 ghost use Rattle.calculus.specs.Image.{nodes};
 ghost use Rattle.calculus.specs.Verdict.{scoped};
-ghost use Rattle.term.specs.Reader.{GoodAt};
+ghost use Rattle.term.specs.Reader.{GoodAt, node-at};
 ghost use Rattle.term.specs.Expressions.{leaf-exp, nesting, term-at};
 ghost use Rattle.term_scan.specs.Extents.{extent-at, in-scope, part-of, small};
 ghost use Rattle.term_scan.specs.Depths.{reach};
+ghost use Rattle.term_scan.specs.Scopes.{next-scoped, node-scoped};
 
 // Where a term ends and how many nodes it has, or that there is none.
 pub enum Extent {
@@ -126,6 +127,46 @@ fn leaf_scoped(tag: u8, arg: usize, types: usize, names: usize, lambdas: usize) 
     }
 }
 
+// The test of a node with so many lambdas around, its subterms apart.
+fn node_scoped(node: Node, types: usize, names: usize, lambdas: usize) -> bool
+    ensures { λ r. ⌜ r ≡ node-scoped types names lambdas node ⌝ }
+{
+    let arg = node.arg;
+    let subterms = node.subterms;
+    if subterms == 0 {
+        return leaf_scoped(node.tag, arg, types, names, lambdas);
+    }
+    if subterms == 1 {
+        return arg < types;
+    }
+    true
+}
+
+// The node at `here`, where fewer than `limit` are behind and it passes that test.
+fn next_scoped(
+    s: &[u8],
+    here: usize,
+    limit: usize,
+    types: usize,
+    names: usize,
+    nodes: usize,
+    lambdas: usize,
+) -> Front
+    requires { ⌜ here ≤ length (now s) ⌝ }
+    ensures { λ r. ⌜ r ≡ next-scoped limit types names nodes lambdas (node-at (now (s .entry)) here) ⌝ }
+{
+    if limit <= nodes {
+        return Front::Bad;
+    }
+    let Front::Is(node) = term::node_at(s, here) else {
+        return Front::Bad;
+    };
+    if !node_scoped(node, types, names, lambdas) {
+        return Front::Bad;
+    }
+    Front::Is(node)
+}
+
 // Where a term ends that has at most `limit` nodes and names only what is there: each index has its lambda, each name is below `names` and each type
 // number below `types`. `pending` counts the terms still to come inside the innermost lambda, and `outer` those inside each lambda around it, outermost
 // first; it is lent, and what it holds before does not matter.
@@ -153,35 +194,18 @@ pub fn scan_scoped(
             pending = outer[lambdas];
             continue;
         }
-        if limit <= nodes {
-            return Extent::Refused;
-        }
-        let Front::Is(node) = term::node_at(s, here) else {
+        let Front::Is(node) = next_scoped(s, here, limit, types, names, nodes, lambdas) else {
             return Extent::Refused;
         };
-        let tag = node.tag;
-        let arg = node.arg;
-        let size = node.size;
-        let subterms = node.subterms;
-        here += size;
+        here += node.size;
         nodes += 1;
-        if subterms == 0 {
-            if !leaf_scoped(tag, arg, types, names, lambdas) {
-                return Extent::Refused;
-            }
-            pending -= 1;
-            continue;
-        }
-        if subterms == 1 {
-            if types <= arg {
-                return Extent::Refused;
-            }
+        if node.subterms == 1 {
             outer[lambdas] = pending - 1;
             lambdas += 1;
             pending = 1;
             continue;
         }
-        pending += 1;
+        pending = pending - 1 + (node.subterms as u16);
     }
 }
 

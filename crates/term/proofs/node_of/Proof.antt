@@ -1,4 +1,4 @@
--- `term::node_of` meets its contract: at each `return` the tests that led there say which case of `node-of` holds (proofs/Heads.antt).
+-- `term::node_of` meets its contract: at each `return` the tests that led there say which case of `node-of` holds (proofs/Nodes.antt).
 use mathlib.Core.Path.{_≡_, ap}
 use mathlib.Core.Bool.{true}
 use Prim.Native.Nat.{_<_}

@@ -1,17 +1,16 @@
 -- `term_scan::scan_scoped` meets its contract. The loop's invariant: the terms still to come, on the levels that the stack has, give the answer
 -- (proofs/Scanning.antt). The measure: a node takes a byte, and adds at most one lambda.
 use mathlib.Core.Path.{_≡_, sym, _∙_}
-use mathlib.Core.List.{List}
-use Prim.Native.Nat.{_*_, _+_, _-_, _<_, ℕ}
+use Prim.Native.Nat.{_*_, _+_, _-_}
 use native.Mathlib.Omega.{arith}
 use borrow.Author.Needs.{needs}
-use borrow.Author.Tests.{not-false, not-true}
 use lib.ListN.{length}
 use Rattle.term.specs.declared.Front.the-variants.{Is}
 use Rattle.term.specs.declared.Node.{Node}
 use Rattle.term.specs.Reader.{node-at}
-use Rattle.term.proofs.Views.{is-two, NodeAt}
-use Rattle.term_scan.proofs.Scanning.{Scanning, scanning-bad, scanning-done, scanning-few, scanning-lambda, scanning-leaf, scanning-loose, scanning-low, scanning-node, scanning-no-type, scanning-over, scanning-pop, scanning-room, scanning-start, scanning-two}
+use Rattle.term.proofs.Views.{NodeAt}
+use Rattle.term_scan.specs.Scopes.{next-scoped}
+use Rattle.term_scan.proofs.Scanning.{Scanning, scanning-done, scanning-few, scanning-low, scanning-pop, scanning-refused, scanning-start, turn-lambda, turn-left, turn-node, turn-other, turn-room}
 use Rattle.term_scan.proofs.scan_scoped.Statement.{statement}
 use Rattle.term_scan.proofs.scan_scoped.Tie as tie
 
@@ -24,34 +23,32 @@ abbrev μ-loop : tie.MeasureT-loop
 abbrev AtLoop : Type 0
 AtLoop = tie.At-loop Inv-loop μ-loop
 
--- where the head is a node
+-- where the next node passed its tests
 abbrev AtNode : Type 0
 AtNode = tie.After-known-told Inv-loop μ-loop
 
 abbrev loop : AtNode → AtLoop
-loop c = c .before .before .before .before .before .before
+loop c = c .before .before .before .before .before
 
-abbrev all : AtLoop → List ℕ
-all p = p .before .before .before .args .s .now
+abbrev start : AtLoop → tie.Start Inv-loop μ-loop
+start p = p .before .before .before
 
 abbrev head : AtNode → Node
 head c = c .before .node .given .0 .0
 
 some : (c : AtNode) → loop c .loop .pending ≡ 0 → ⊥
-some c = c .before .before .before .before .before .if1 .left
+some c = c .before .before .before .before .if1 .left
 
-left : (c : AtNode) → loop c .loop .nodes < loop c .before .before .before .args .limit
-left c = c .before .before .before .before .if3 .left
+next-is : (c : AtNode) → next-scoped (start (loop c) .args .limit) (start (loop c) .args .types) (start (loop c) .args .names) (loop c .loop .nodes) (loop c .loop .lambdas)
+    (node-at (start (loop c) .args .s .now) (loop c .loop .here)) ≡ Is (head c)
+next-is c = sym (c .before .before .before .next-scoped .ensures) ∙ c .before .node .given .1
 
-is-head : (c : AtNode) → node-at (all (loop c)) (loop c .loop .here) ≡ Is (head c)
-is-head c = sym (c .before .before .before .node-at .ensures) ∙ c .before .node .given .1
-
-node : (c : AtNode) → NodeAt (all (loop c)) (loop c .loop .here) (head c)
-node c = scanning-node (loop c .loop .inv) (some c) (is-head c)
+node : (c : AtNode) → NodeAt (start (loop c) .args .s .now) (loop c .loop .here) (head c)
+node c = turn-node (loop c .loop .inv) (some c) (next-is c)
 
 -- the stack keeps its length
-kept : (p : AtLoop) → length (p .loop .outer) ≡ length (p .before .before .before .args .outer .now)
-kept p = p .loop .inv .room ∙ sym (p .before .before .before .pre .1 .1)
+kept : (p : AtLoop) → length (p .loop .outer) ≡ length (start p .args .outer .now)
+kept p = p .loop .inv .room ∙ sym (start p .pre .1 .1)
 
 loop-holds : tie.Need-loop-holds Inv-loop μ-loop
 loop-holds c = let s = c .before .before in scanning-start _ _ _ _ _ _ (s .pre .0) (s .pre .1 .0) (s .pre .1 .1)
@@ -77,14 +74,8 @@ loop-less c = omega arith
 loop-again : tie.Need-loop-again Inv-loop μ-loop
 loop-again c = scanning-pop (c .before .before .before .loop .inv) (c .before .before .if1 .taken) (c .before .if2 .left)
 
-same-length-2 : tie.Need-same-length-2 Inv-loop μ-loop
-same-length-2 c = kept (c .before .before)
-
-returns-2 : tie.Need-returns-2 Inv-loop μ-loop
-returns-2 c = scanning-over (c .before .before .loop .inv) (c .before .if1 .left) (c .if3 .taken)
-
-node-at-requires : tie.Need-node-at-requires Inv-loop μ-loop
-node-at-requires c κs = c .before .before .loop .inv .seen .inside
+next-scoped-requires : tie.Need-next-scoped-requires Inv-loop μ-loop
+next-scoped-requires c κs = c .before .loop .inv .seen .inside
 
 enum-known-node : tie.Need-enum-known-node Inv-loop μ-loop
 enum-known-node c = search needs
@@ -92,50 +83,19 @@ enum-known-node c = search needs
 enum-told : tie.Need-enum-told Inv-loop μ-loop
 enum-told c = search needs
 
-same-length-3 : tie.Need-same-length-3 Inv-loop μ-loop
-same-length-3 c = kept (c .before .before .before .before .before)
+same-length-2 : tie.Need-same-length-2 Inv-loop μ-loop
+same-length-2 c = kept (c .before .before .before .before)
 
-returns-3 : tie.Need-returns-3 Inv-loop μ-loop
-returns-3 c =
-    scanning-bad (c .before .before .before .before .before .loop .inv) (c .before .before .before .before .if1 .left)
-    (sym (c .before .before .node-at .ensures) ∙ c .enum-told .given .1)
+returns-2 : tie.Need-returns-2 Inv-loop μ-loop
+returns-2 c =
+    scanning-refused (c .before .before .before .before .loop .inv) (c .before .before .before .if1 .left)
+    (sym (c .before .before .next-scoped .ensures) ∙ c .enum-told .given .1)
 
 add-here : tie.Need-add-here Inv-loop μ-loop
-add-here c = omega (arith, node c .inside)
+add-here c = omega (arith, node (c .before) .inside)
 
 add-nodes : tie.Need-add-nodes Inv-loop μ-loop
-add-nodes c = omega (arith, left c)
-
-leaf-scoped-requires : tie.Need-leaf-scoped-requires Inv-loop μ-loop
-leaf-scoped-requires c κs = search needs
-
-same-length-4 : tie.Need-same-length-4 Inv-loop μ-loop
-same-length-4 c = kept (loop (c .before .before .before))
-
-returns-4 : tie.Need-returns-4 Inv-loop μ-loop
-returns-4 c =
-    let n = c .before .before .before in
-    scanning-loose (loop n .loop .inv) (some n) (is-head n) (c .before .before .if4 .taken) (sym (c .before .leaf-scoped .ensures) ∙ not-true _ (c .if5 .taken))
-
-sub-pending : tie.Need-sub-pending Inv-loop μ-loop
-sub-pending c = omega (arith, some (c .before .before .before))
-
-loop-less-2 : tie.Need-loop-less-2 Inv-loop μ-loop
-loop-less-2 c = let n = c .before .before .before in omega (arith, node n .inside, node n .onward)
-
-loop-again-2 : tie.Need-loop-again-2 Inv-loop μ-loop
-loop-again-2 c =
-    let n = c .before .before .before in
-    scanning-leaf (loop n .loop .inv) (some n) (is-head n) (left n) (c .before .before .if4 .taken)
-    (sym (c .before .leaf-scoped .ensures) ∙ not-false _ (c .if5 .left))
-
-same-length-5 : tie.Need-same-length-5 Inv-loop μ-loop
-same-length-5 c = kept (loop (c .before .before .before))
-
-returns-5 : tie.Need-returns-5 Inv-loop μ-loop
-returns-5 c =
-    let n = c .before .before .before in
-    scanning-no-type (loop n .loop .inv) (some n) (is-head n) (c .before .if6 .taken) (omega arith)
+add-nodes c = let n = c .before in omega (arith, turn-left (loop n .loop .inv) (some n) (next-is n))
 
 sub-outer : tie.Need-sub-outer Inv-loop μ-loop
 sub-outer c = omega (arith, some (c .before .before .before))
@@ -144,29 +104,31 @@ mul-outer : tie.Need-mul-outer Inv-loop μ-loop
 mul-outer c = let h = scanning-low (loop (c .before .before .before) .loop .inv) in search needs
 
 slice-write-outer : tie.Need-slice-write-outer Inv-loop μ-loop
-slice-write-outer c = let n = c .before .before .before in omega (arith, scanning-room (loop n .loop .inv) (some n) (is-head n) (left n), loop n .loop .inv .room)
+slice-write-outer c = let n = c .before .before .before in omega (arith, turn-room (loop n .loop .inv) (some n) (next-is n), loop n .loop .inv .room)
 
 add-lambdas : tie.Need-add-lambdas Inv-loop μ-loop
 add-lambdas c = omega (arith, scanning-low (loop (c .before .before .before) .loop .inv))
 
-loop-less-3 : tie.Need-loop-less-3 Inv-loop μ-loop
-loop-less-3 c = let n = c .before .before .before in omega (arith, node n .inside, node n .onward)
+loop-less-2 : tie.Need-loop-less-2 Inv-loop μ-loop
+loop-less-2 c = let n = c .before .before .before in omega (arith, node n .inside, node n .onward)
 
-loop-again-3 : tie.Need-loop-again-3 Inv-loop μ-loop
-loop-again-3 c =
-    let n = c .before .before .before in
-    scanning-lambda (loop n .loop .inv) (some n) (is-head n) (left n) (c .before .if6 .taken) (omega arith)
+loop-again-2 : tie.Need-loop-again-2 Inv-loop μ-loop
+loop-again-2 c = let n = c .before .before .before in turn-lambda (loop n .loop .inv) (some n) (next-is n) (c .if3 .taken)
+
+sub-pending : tie.Need-sub-pending Inv-loop μ-loop
+sub-pending c = omega (arith, some (c .before .before .before))
+
+cast-pending : tie.Need-cast-pending Inv-loop μ-loop
+cast-pending c = search needs
 
 add-pending : tie.Need-add-pending Inv-loop μ-loop
-add-pending c = omega (arith, scanning-few (loop (c .before .before) .loop .inv))
+add-pending c = let n = c .before .before .before .before in omega (arith, scanning-few (loop n .loop .inv), node n .few)
 
-loop-less-4 : tie.Need-loop-less-4 Inv-loop μ-loop
-loop-less-4 c = let n = c .before .before in omega (arith, node n .inside, node n .onward)
+loop-less-3 : tie.Need-loop-less-3 Inv-loop μ-loop
+loop-less-3 c = let n = c .before .before .before .before in omega (arith, node n .inside, node n .onward)
 
-loop-again-4 : tie.Need-loop-again-4 Inv-loop μ-loop
-loop-again-4 c =
-    let n = c .before .before in
-    scanning-two (loop n .loop .inv) (some n) (is-head n) (left n) (is-two (node n) (c .before .if4 .left) (c .if6 .left))
+loop-again-3 : tie.Need-loop-again-3 Inv-loop μ-loop
+loop-again-3 c = let n = c .before .before .before .before in turn-other (loop n .loop .inv) (some n) (next-is n) (c .before .if3 .left)
 
 pub scan-scoped-spec : {M : Type 1} → statement M
 scan-scoped-spec =
@@ -182,29 +144,21 @@ scan-scoped-spec =
     slice-read-pending
     loop-less
     loop-again
-    same-length-2
-    returns-2
-    node-at-requires
+    next-scoped-requires
     enum-known-node
     enum-told
-    same-length-3
-    returns-3
+    same-length-2
+    returns-2
     add-here
     add-nodes
-    leaf-scoped-requires
-    same-length-4
-    returns-4
-    sub-pending
-    loop-less-2
-    loop-again-2
-    same-length-5
-    returns-5
     sub-outer
     mul-outer
     slice-write-outer
     add-lambdas
-    loop-less-3
-    loop-again-3
+    loop-less-2
+    loop-again-2
+    sub-pending
+    cast-pending
     add-pending
-    loop-less-4
-    loop-again-4)
+    loop-less-3
+    loop-again-3)
