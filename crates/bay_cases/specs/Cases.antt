@@ -10,8 +10,7 @@ use Rattle.calculus.specs.Bytes.{two-bytes, word}
 use Rattle.calculus.specs.Names.{uses}
 use Rattle.calculus.specs.Image.{nodes, constant-test, expression-test, is-settled, is-awaited, handle-for, component-test, each-test, limits-test, image-test}
 use Rattle.calculus.specs.Table.{test-entry, entry-test, entries-test, same-entry, new-to, distinct-test, entry-is, table-test, type-at}
-use Rattle.calculus.specs.Narrowing.{narrowed}
-use Rattle.calculus.specs.Verdict.{on-function, on-once-function, on-cell, is-many, scoped-const, scoped, is-cell-type, is-exch-type, is-thread-type, is-handle-type, annotated-const, annotated, const-number, on-number, result-number, applied-number, lambda-number, type-number, outside-many, linear-parameter, linear, every, verdict}
+use Rattle.calculus.specs.Verdict.{on-function, on-once-function, on-cell, is-many, scoped-const, scoped, annotated-const, annotated, const-number, on-number, result-number, applied-number, lambda-number, type-number, outside-many, linear-parameter, linear, every, verdict}
 use Rattle.term.specs.Numbers.{value-of, little-endian}
 use Rattle.term.specs.Forms.{form-of, forms}
 use Rattle.term.specs.Reader.{one-term, read, read-term}
@@ -537,7 +536,7 @@ unfolding file-of pairs-of joined two-bytes
 case-A = refl
 
 cases : map computed rows ≡ rows
-unfolding computed verdict-of refusal bay-type-numbers bay-type-number number-in bay-terms bay-term cause-5 cause-6 cause-4 table-of type-table file-of joined pairs-of two-bytes word bays parts offset-of length-of part table-bytes term-bytes outside cause-1 opens edition-known cause-2 pairs-test table-length-test cause-3 exp-of leaf-exp leaf-forms nesting one-term read read-term form-of forms value-of tabulate each-below sum-below uses nodes test-entry entry-test entries-test same-entry new-to distinct-test entry-is table-test narrowed on-function on-once-function on-cell is-many scoped-const scoped is-cell-type is-exch-type is-thread-type is-handle-type annotated-const annotated const-number on-number result-number applied-number lambda-number type-number outside-many linear-parameter linear every verdict starting-image renewed outcome-of out-after-step step-reply outcome-of-reply out-after-reply config-of decode components image-of encode terms-stand image-stands kind-test companion-test length-test head-agrees head-stands stand-from heads-stand names kind-at companion-at offset-in length-at expression-at encoded-at encoded-all head heads expressions image-bytes bytes const-bytes op-tag little-endian loaded bay-types with-type reply-of sum-in sum-all constant-test expression-test is-settled is-awaited handle-for component-test each-test limits-test image-test beside place-app place when-done step-call step-exchange step-meeting step-place step-of substitute plug run-of lambdas identities steps loaded-of load-refusal out-after-load term-of
+unfolding computed verdict-of refusal bay-type-numbers bay-type-number number-in bay-terms bay-term cause-5 cause-6 cause-4 table-of type-table file-of joined pairs-of two-bytes word bays parts offset-of length-of part table-bytes term-bytes outside cause-1 opens edition-known cause-2 pairs-test table-length-test cause-3 exp-of leaf-exp leaf-forms nesting one-term read read-term form-of forms value-of tabulate each-below sum-below uses nodes test-entry entry-test entries-test same-entry new-to distinct-test entry-is table-test on-function on-once-function on-cell is-many scoped-const scoped annotated-const annotated const-number on-number result-number applied-number lambda-number type-number outside-many linear-parameter linear every verdict starting-image renewed outcome-of out-after-step step-reply outcome-of-reply out-after-reply config-of decode components image-of encode terms-stand image-stands kind-test companion-test length-test head-agrees head-stands stand-from heads-stand names kind-at companion-at offset-in length-at expression-at encoded-at encoded-all head heads expressions image-bytes bytes const-bytes op-tag little-endian loaded bay-types with-type reply-of sum-in sum-all constant-test expression-test is-settled is-awaited handle-for component-test each-test limits-test image-test beside place-app place when-done step-call step-exchange step-meeting step-place step-of substitute plug run-of lambdas identities steps loaded-of load-refusal out-after-load term-of
 cases = refl
 
 -- the step of case C by rule 5: its image is the one that the third step leaves
@@ -550,5 +549,5 @@ fourth-of-C = record {
 
 -- it applies handle 3, and binds future 2
 case-C-binds : Binds fourth-of-C 2
-unfolding function-at verdict-of refusal bay-type-numbers bay-type-number number-in bay-terms bay-term cause-5 cause-6 cause-4 table-of type-table file-of joined pairs-of two-bytes word bays parts offset-of length-of part table-bytes term-bytes outside cause-1 opens edition-known cause-2 pairs-test table-length-test cause-3 exp-of leaf-exp leaf-forms nesting one-term read read-term form-of forms value-of tabulate each-below sum-below uses nodes test-entry entry-test entries-test same-entry new-to distinct-test entry-is table-test narrowed on-function on-once-function on-cell is-many scoped-const scoped is-cell-type is-exch-type is-thread-type is-handle-type annotated-const annotated const-number on-number result-number applied-number lambda-number type-number outside-many linear-parameter linear every verdict starting-image renewed outcome-of out-after-step step-reply outcome-of-reply out-after-reply config-of decode components image-of encode terms-stand image-stands kind-test companion-test length-test head-agrees head-stands stand-from heads-stand names kind-at companion-at offset-in length-at expression-at encoded-at encoded-all head heads expressions image-bytes bytes const-bytes op-tag little-endian loaded bay-types with-type reply-of sum-in sum-all constant-test expression-test is-settled is-awaited handle-for component-test each-test limits-test image-test beside place-app place when-done step-call step-exchange step-meeting step-place step-of substitute plug steps loaded-of load-refusal out-after-load term-of
+unfolding function-at verdict-of refusal bay-type-numbers bay-type-number number-in bay-terms bay-term cause-5 cause-6 cause-4 table-of type-table file-of joined pairs-of two-bytes word bays parts offset-of length-of part table-bytes term-bytes outside cause-1 opens edition-known cause-2 pairs-test table-length-test cause-3 exp-of leaf-exp leaf-forms nesting one-term read read-term form-of forms value-of tabulate each-below sum-below uses nodes test-entry entry-test entries-test same-entry new-to distinct-test entry-is table-test on-function on-once-function on-cell is-many scoped-const scoped annotated-const annotated const-number on-number result-number applied-number lambda-number type-number outside-many linear-parameter linear every verdict starting-image renewed outcome-of out-after-step step-reply outcome-of-reply out-after-reply config-of decode components image-of encode terms-stand image-stands kind-test companion-test length-test head-agrees head-stands stand-from heads-stand names kind-at companion-at offset-in length-at expression-at encoded-at encoded-all head heads expressions image-bytes bytes const-bytes op-tag little-endian loaded bay-types with-type reply-of sum-in sum-all constant-test expression-test is-settled is-awaited handle-for component-test each-test limits-test image-test beside place-app place when-done step-call step-exchange step-meeting step-place step-of substitute plug steps loaded-of load-refusal out-after-load term-of
 case-C-binds = (3, (32, refl, refl), refl)

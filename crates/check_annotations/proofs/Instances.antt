@@ -1,11 +1,10 @@
 -- The types of constants, on the entries that their numbers name.
-use mathlib.Core.Path.{_≡_, ap, refl}
+use mathlib.Core.Path.{_≡_, refl}
 use mathlib.Core.Bool.{_&&_, and-assoc, Bool, false, true}
 use mathlib.Core.List.{List, [], _∷_}
 use Prim.Native.Nat.{ℕ}
 use lib.Dec.{eqb}
 use Rattle.calculus.specs.Kinds.{cell-type-kind, once-type-kind, unit-entry}
-use Rattle.calculus.specs.Narrowing.{narrowed}
 use Rattle.calculus.specs.Table.{Table}
 use Rattle.calculus.specs.Verdict.{cell-parts, exch-parts, handle-parts, is-function-kind, is-many, on-function, on-once-function, thread-parts}
 use Rattle.recipe_table.specs.declared.Entry.{Entry}
@@ -17,11 +16,6 @@ use Rattle.check_annotations.proofs.Tests.{all, Asks}
 
 by : {d : Bool} {l : List Bool} → d ≡ all l → Asks d l
 by e = record { same = e }
-
--- the narrowing is tested as multiplicity many is
-pub narrowed-many : (T : Table) (a : ℕ) → is-many T a ≡ narrowed T a
-unfolding is-many narrowed
-narrowed-many T a = refl
 
 maps-and : (x : Entry) (p q : ℕ) (d : Bool) → (is-function-kind (x .kind) && (eqb (x .p) p && (eqb (x .q) q && d))) ≡ (maps x p q && d)
 unfolding maps
@@ -42,10 +36,10 @@ handle-tests x a = record { same = refl }
 
 -- the tests of the type of a constant, a function from p to q; the entries are those that it names
 abbrev pub cell-list : Table → ℕ → Entry → List Bool
-cell-list T p x = eqb (x .kind) cell-type-kind ∷ eqb (x .p) p ∷ narrowed T p ∷ []
+cell-list T p x = eqb (x .kind) cell-type-kind ∷ eqb (x .p) p ∷ is-many T p ∷ []
 
 abbrev pub exch-list : Table → Entry → Entry → List Bool
-exch-list T x y = eqb (x .kind) cell-type-kind ∷ maps y (x .p) (x .p) ∷ narrowed T (x .p) ∷ []
+exch-list T x y = eqb (x .kind) cell-type-kind ∷ maps y (x .p) (x .p) ∷ is-many T (x .p) ∷ []
 
 abbrev pub thread-list : Table → ℕ → Entry → List Bool
 thread-list T q x = maps x q q ∷ is-many T q ∷ []
@@ -56,17 +50,17 @@ handle-list T q o i h = is-function-kind (o .kind) ∷ is-function-kind (i .kind
 module _ (T : Table) (p q : ℕ) where
   pub cell-tests : (x : Entry) → as-entry x ≡ entry-of T q → Asks (cell-parts T p q) (cell-list T p x)
   unfolding all
-  cell-tests x result = by (rw (on-cell-is T q (λ a′. eqb a′ p), ← result) (and-assoc (eqb (x .kind) cell-type-kind) (eqb (x .p) p) (narrowed T p)))
+  cell-tests x result = by (rw (on-cell-is T q (λ a′. eqb a′ p), ← result) (and-assoc (eqb (x .kind) cell-type-kind) (eqb (x .p) p) (is-many T p)))
 
   pub exch-tests : (x y : Entry) → as-entry x ≡ entry-of T p → as-entry y ≡ entry-of T q → Asks (exch-parts T p q) (exch-list T x y)
   unfolding all
   exch-tests x y parameter result =
       by (rw (
-        on-cell-is T p (λ a. on-function T q λ a′ a″. eqb a′ a && (eqb a″ a && narrowed T a)),
+        on-cell-is T p (λ a. on-function T q λ a′ a″. eqb a′ a && (eqb a″ a && is-many T a)),
         ← parameter,
-        on-function-is T q (λ a′ a″. eqb a′ (x .p) && (eqb a″ (x .p) && narrowed T (x .p))),
+        on-function-is T q (λ a′ a″. eqb a′ (x .p) && (eqb a″ (x .p) && is-many T (x .p))),
         ← result,
-        maps-and y (x .p) (x .p) (narrowed T (x .p)),
+        maps-and y (x .p) (x .p) (is-many T (x .p)),
       ) refl)
 
   pub thread-tests : (x : Entry) → as-entry x ≡ entry-of T p → Asks (thread-parts T p q) (thread-list T q x)

@@ -4,7 +4,7 @@ use mathlib.Core.Bool.{false, true}
 use Prim.Native.Nat.{_≤_, suc, zero, ℕ}
 use Rattle.calculus.specs.Syntax.{const, Op, op, cell, exch, thread, handle}
 use Rattle.calculus.specs.Table.{Table}
-use Rattle.calculus.specs.Verdict.{annotated, annotated-const, cell-parts, exch-parts, handle-parts, is-cell-type, is-exch-type, is-function-kind, is-handle-type, is-thread-type, thread-parts}
+use Rattle.calculus.specs.Verdict.{annotated, annotated-const, cell-parts, exch-parts, handle-parts, is-function-kind, thread-parts}
 use Rattle.term.specs.Forms.{cell-tag, exch-tag, thread-tag, handle-tag}
 use Rattle.term.specs.Expressions.{leaf-exp, leaf-forms}
 use Rattle.term.proofs.Leaves.{leaf-op}
@@ -17,32 +17,32 @@ use Rattle.check_types.proofs.Entries.{on-function-is}
 module _ (T : Table) (tag arg : ℕ) (w : Entry) (whole : as-entry w ≡ entry-of T arg) where
   -- that is no function
   pub no-function : cell-tag ≤ tag → tag ≤ handle-tag → is-function-kind (w .kind) ≡ false → false ≡ annotated T (leaf-exp tag arg)
-  unfolding annotated annotated-const is-cell-type is-exch-type is-thread-type is-handle-type
+  unfolding annotated annotated-const
   no-function low high f = let (o, is) = leaf-op tag arg low high in rw is (go o)
     where
       go : (o : Op) → false ≡ annotated T (const (op o arg))
-      go cell = rw (on-function-is T arg (λ a r. cell-parts T a r), ← whole, f) refl
-      go exch = rw (on-function-is T arg (λ r f. exch-parts T r f), ← whole, f) refl
-      go thread = rw (on-function-is T arg (λ f a. thread-parts T f a), ← whole, f) refl
-      go handle = rw (on-function-is T arg (λ f r. handle-parts T f r), ← whole, f) refl
+      go cell = rw (on-function-is T arg (cell-parts T), ← whole, f) refl
+      go exch = rw (on-function-is T arg (exch-parts T), ← whole, f) refl
+      go thread = rw (on-function-is T arg (thread-parts T), ← whole, f) refl
+      go handle = rw (on-function-is T arg (handle-parts T), ← whole, f) refl
 
   -- or a function from p to q
   module _ (f : is-function-kind (w .kind) ≡ true) where
     pub cell-leaf : tag ≡ cell-tag → cell-parts T (w .p) (w .q) ≡ annotated T (leaf-exp tag arg)
-    unfolding leaf-exp leaf-forms annotated annotated-const is-cell-type
-    cell-leaf e = rw (e, on-function-is T arg (λ a r. cell-parts T a r), ← whole, f) refl
+    unfolding leaf-exp leaf-forms annotated annotated-const
+    cell-leaf e = rw (e, on-function-is T arg (cell-parts T), ← whole, f) refl
 
     pub exch-leaf : tag ≡ exch-tag → exch-parts T (w .p) (w .q) ≡ annotated T (leaf-exp tag arg)
-    unfolding leaf-exp leaf-forms annotated annotated-const is-exch-type
-    exch-leaf e = rw (e, on-function-is T arg (λ r f. exch-parts T r f), ← whole, f) refl
+    unfolding leaf-exp leaf-forms annotated annotated-const
+    exch-leaf e = rw (e, on-function-is T arg (exch-parts T), ← whole, f) refl
 
     pub thread-leaf : tag ≡ thread-tag → thread-parts T (w .p) (w .q) ≡ annotated T (leaf-exp tag arg)
-    unfolding leaf-exp leaf-forms annotated annotated-const is-thread-type
-    thread-leaf e = rw (e, on-function-is T arg (λ f a. thread-parts T f a), ← whole, f) refl
+    unfolding leaf-exp leaf-forms annotated annotated-const
+    thread-leaf e = rw (e, on-function-is T arg (thread-parts T), ← whole, f) refl
 
     pub handle-leaf : tag ≡ handle-tag → handle-parts T (w .p) (w .q) ≡ annotated T (leaf-exp tag arg)
-    unfolding leaf-exp leaf-forms annotated annotated-const is-handle-type
-    handle-leaf e = rw (e, on-function-is T arg (λ f r. handle-parts T f r), ← whole, f) refl
+    unfolding leaf-exp leaf-forms annotated annotated-const
+    handle-leaf e = rw (e, on-function-is T arg (handle-parts T), ← whole, f) refl
 
 -- a leaf of any other tag has no annotation
 pub plain-leaf : (T : Table) (tag arg : ℕ) → (tag ≡ cell-tag → ⊥) → (tag ≡ exch-tag → ⊥) → (tag ≡ thread-tag → ⊥) → (tag ≡ handle-tag → ⊥) → true ≡ annotated T (leaf-exp tag arg)

@@ -5,19 +5,11 @@ use term::Node;
 ghost use mathlib.Core.Path.{_≡_};
 ghost use Prim.Native.Nat.{_<_, _≤_};
 ghost use Rattle.calculus.specs.Limits.{byte-values};
-ghost use Rattle.calculus.specs.Narrowing.{narrowed};
 ghost use Rattle.calculus.specs.Verdict.{annotated, cell-parts, exch-parts, handle-parts, thread-parts};
 ghost use Rattle.term.specs.Forms.{cell-tag, handle-tag};
 ghost use Rattle.term.specs.Expressions.{leaf-exp};
 ghost use Rattle.recipe_table.specs.Entries.{table-of};
 ghost use Rattle.check_annotations.specs.Nodes.{handle-of, maps};
-
-// Document 01, the narrowing: contents of multiplicity many.
-fn is_narrowed(table: &[u8], a: u8) -> bool
-    ensures { λ r. ⌜ r ≡ narrowed (table-of (now (table .entry))) a ⌝ }
-{
-    check_types::many_at(table, a as usize)
-}
 
 // An entry is a function from p to q.
 fn is_from_to(entry: Entry, p: u8, q: u8) -> bool
@@ -45,7 +37,7 @@ fn is_handle_of(entry: Entry, a: u8) -> bool
     entry.q == Type::UNIT_ENTRY
 }
 
-// Fig. 8: a to a ref. The type of the constant is a function with this entry, here and below.
+// Fig. 8: a to a ref, with document 01's narrowing: a of multiplicity many. The type of the constant is a function with this entry, here and below.
 fn is_cell_type(table: &[u8], whole: Entry) -> bool
     ensures { λ r. ⌜ r ≡ cell-parts (table-of (now (table .entry))) (whole .p) (whole .q) ⌝ }
 {
@@ -56,10 +48,10 @@ fn is_cell_type(table: &[u8], whole: Entry) -> bool
     if result.p != whole.p {
         return false;
     }
-    is_narrowed(table, whole.p)
+    check_types::many_at(table, whole.p as usize)
 }
 
-// Fig. 8: a ref to (a to a).
+// Fig. 8: a ref to (a to a), with document 01's narrowing.
 fn is_exch_type(table: &[u8], whole: Entry) -> bool
     ensures { λ r. ⌜ r ≡ exch-parts (table-of (now (table .entry))) (whole .p) (whole .q) ⌝ }
 {
@@ -71,7 +63,7 @@ fn is_exch_type(table: &[u8], whole: Entry) -> bool
     if !is_from_to(result, parameter.p, parameter.p) {
         return false;
     }
-    is_narrowed(table, parameter.p)
+    check_types::many_at(table, parameter.p as usize)
 }
 
 // Fig. 8: (a to a) to a, a of multiplicity many.

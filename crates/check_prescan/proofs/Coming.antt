@@ -21,7 +21,7 @@ use Rattle.term.specs.Expressions.{exp-of, leaf-exp, nesting}
 use Rattle.term.proofs.Reading.{close-one, close-two, step, step-node, then-second}
 use Rattle.term_scan.specs.declared.Part.{Part}
 use Rattle.term_scan.specs.declared.Part.the-variants.{Nodes, NoTerm}
-use Rattle.check_prescan.specs.Stands.{ended, exactly, glance, leaf-stands, stands}
+use Rattle.check_prescan.specs.Stands.{ended, exactly, glance, lambda-stands, leaf-stands, stands}
 
 -- the nodes and the lambdas above a term to come
 pub data Frame : Type 0 where
@@ -60,12 +60,8 @@ within-both d x y = equal-from _ _ there back
         leb-complete (d + suc (max x y)) max-nesting (omega (arith, leb-sound (suc d + x) max-nesting p, leb-sound (suc d + y) max-nesting q))
 
 module _ (T : Table) (names : ℕ) where
-  -- a lambda, its body apart
-  abbrev pub lambda-test : ℕ → Bool
-  lambda-test t = ltb t (length T) && on-function T t (λ p q. true)
-
-  stands-lambda : (d k t : ℕ) (e : Exp) → stands T names d k (lam t e) ≡ (lambda-test t && stands T names (suc d) (suc k) e)
-  unfolding stands leaf-stands scoped annotated nesting
+  stands-lambda : (d k t : ℕ) (e : Exp) → stands T names d k (lam t e) ≡ (lambda-stands T t && stands T names (suc d) (suc k) e)
+  unfolding stands leaf-stands lambda-stands scoped annotated nesting
   stands-lambda d k t e =
       let z : d + suc (nesting e) ≡ suc d + nesting e = omega arith in
       ap (λ x. leb x max-nesting && leaf-stands T names k (lam t e)) z
@@ -126,15 +122,15 @@ module _ (T : Table) (names : ℕ) where
       unfolding coming exp-of tree-nodes
       coming-leaf e = rw (step-node l h is 0 e)
 
-      pub coming-lambda : h .subterms ≡ 1 → coming (frame d k ∷ fs) n l ≡ cond (lambda-test (h .arg)) (coming (frame (suc d) (suc k) ∷ fs) (n + 1) (drop (h .size) l)) NoTerm
+      pub coming-lambda : h .subterms ≡ 1 → coming (frame d k ∷ fs) n l ≡ cond (lambda-stands T (h .arg)) (coming (frame (suc d) (suc k) ∷ fs) (n + 1) (drop (h .size) l)) NoTerm
       unfolding coming exp-of tree-nodes
       coming-lambda e = rw (step-node l h is 1 e) (by (read-term (drop (h .size) l)))
         where
-          by : (g : Got) → and-then d k (coming fs) n (close-one h g) ≡ cond (lambda-test (h .arg)) (and-then (suc d) (suc k) (coming fs) (n + 1) g) NoTerm
-          by none = cond-same (lambda-test (h .arg)) NoTerm
+          by : (g : Got) → and-then d k (coming fs) n (close-one h g) ≡ cond (lambda-stands T (h .arg)) (and-then (suc d) (suc k) (coming fs) (n + 1) g) NoTerm
+          by none = cond-same (lambda-stands T (h .arg)) NoTerm
           by (got t r) =
               let z : n + (1 + tree-nodes t) ≡ n + 1 + tree-nodes t = omega arith in
-              rw (stands-lambda d k (h .arg) (exp-of t), z) (cond-and (lambda-test (h .arg)) (stands T names (suc d) (suc k) (exp-of t)) _ NoTerm)
+              rw (stands-lambda d k (h .arg) (exp-of t), z) (cond-and (lambda-stands T (h .arg)) (stands T names (suc d) (suc k) (exp-of t)) _ NoTerm)
 
       pub coming-two : h .subterms ≡ 2 → coming (frame d k ∷ fs) n l ≡ coming (frame (suc d) k ∷ (frame (suc d) k ∷ fs)) (n + 1) (drop (h .size) l)
       unfolding coming exp-of tree-nodes
@@ -156,5 +152,5 @@ module _ (T : Table) (names : ℕ) where
         where
           by : (j : ℕ) → h .subterms ≡ j → coming (frame d k ∷ fs) n l ≡ NoTerm
           by zero e = absurd (some e)
-          by (suc zero) e = coming-lambda e ∙ ap (λ x. cond (lambda-test (h .arg)) x NoTerm) (coming-low (suc d) (suc k) (n + 1) fs _ low) ∙ sym (cond-same (lambda-test (h .arg)) NoTerm)
+          by (suc zero) e = coming-lambda e ∙ ap (λ x. cond (lambda-stands T (h .arg)) x NoTerm) (coming-low (suc d) (suc k) (n + 1) fs _ low) ∙ sym (cond-same (lambda-stands T (h .arg)) NoTerm)
           by (suc (suc j)) e = coming-two (omega (arith, few, e)) ∙ coming-low (suc d) k (n + 1) _ _ low

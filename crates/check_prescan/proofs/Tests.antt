@@ -1,15 +1,20 @@
 -- Leaves and lambdas, by the tests of the code.
 use mathlib.Core.Path.{_≡_, ap, refl, sym, _∙_}
 use mathlib.Core.Bool.{Bool, _&&_, and-true, false, true}
-use Prim.Native.Nat.{_<_, _≤_, ℕ}
+use Prim.Native.Nat.{_-_, _<_, _≤_, suc, zero, ℕ}
 use native.Mathlib.Omega.{arith}
 use borrow.Author.Tests.{le-ltb, lt-ltb}
 use lib.Dec.{ltb}
 use lib.ListN.{length}
+use Rattle.calculus.specs.Limits.{max-nesting}
+use Rattle.term.specs.declared.Front.{Front}
+use Rattle.term.specs.declared.Front.the-variants.{Bad, Is}
+use Rattle.term.specs.declared.Node.{Node}
+use Rattle.term.specs.Reader.{pick-node}
 use Rattle.term.specs.Forms.{variable-tag, cell-tag, handle-tag, name-tag}
 use Rattle.calculus.specs.Table as calculus
 use Rattle.calculus.specs.Table.{Table}
-use Rattle.calculus.specs.Verdict.{annotated, is-function-kind, on-function, scoped}
+use Rattle.calculus.specs.Verdict.{annotated, is-function-kind, scoped}
 use Rattle.term.specs.Expressions.{leaf-exp}
 use Rattle.recipe_table.specs.declared.Entry.{Entry}
 use Rattle.recipe_table.specs.Filled.{as-entry}
@@ -17,7 +22,7 @@ use Rattle.check_types.specs.Entries.{entry-of}
 use Rattle.check_types.proofs.Entries.{on-function-is}
 use Rattle.check_annotations.proofs.Leaves.{plain-leaf}
 use Rattle.term_scan.proofs.Scopes.{scoped-name, scoped-op, scoped-plain, scoped-unknown, scoped-variable}
-use Rattle.check_prescan.specs.Stands.{leaf-stands}
+use Rattle.check_prescan.specs.Stands.{lambda-stands, leaf-stands, next-node, node-stands, node-test}
 
 module _ (T : Table) (names lambdas tag arg : ℕ) where
   abbrev leaf-test : Bool
@@ -53,9 +58,50 @@ module _ (T : Table) (names lambdas tag arg : ℕ) where
   op-stands low high h = rw (← (scoped-op (length T) names lambdas arg tag low high), lt-ltb arg (length T) h) refl
 
 -- a lambda
-pub lambda-fails : (T : Table) (arg : ℕ) → length T ≤ arg → false ≡ (ltb arg (length T) && on-function T arg (λ p q. true))
+pub lambda-fails : (T : Table) (arg : ℕ) → length T ≤ arg → false ≡ lambda-stands T arg
+unfolding lambda-stands
 lambda-fails T arg h = rw (le-ltb arg (length T) h) refl
 
-pub lambda-entry : (T : Table) (arg : ℕ) (x : Entry) → as-entry x ≡ entry-of T arg → arg < length T → is-function-kind (x .kind) ≡ (ltb arg (length T) && on-function T arg (λ p q. true))
+pub lambda-entry : (T : Table) (arg : ℕ) (x : Entry) → as-entry x ≡ entry-of T arg → arg < length T → is-function-kind (x .kind) ≡ lambda-stands T arg
+unfolding lambda-stands
 lambda-entry T arg x e h =
     rw (lt-ltb arg (length T) h, on-function-is T arg (λ p q. true)) (ap (λ (y : calculus.Entry). is-function-kind (y .kind)) e ∙ sym (and-true (is-function-kind (entry-of T arg .kind))))
+
+-- a node, by its subterms
+module _ (T : Table) (names level lambdas : ℕ) (h : Node) where
+  pub node-leaf : h .subterms ≡ 0 → leaf-stands T names lambdas (leaf-exp (h .tag) (h .arg)) ≡ node-stands T names level lambdas h
+  unfolding node-stands
+  node-leaf e = rw e refl
+
+  pub node-deep : (h .subterms ≡ 0 → ⊥) → max-nesting - 1 ≤ level → false ≡ node-stands T names level lambdas h
+  unfolding node-stands
+  node-deep some low = by (h .subterms) refl
+    where
+      by : (k : ℕ) → h .subterms ≡ k → false ≡ node-test T names level lambdas h k
+      by zero e = absurd (some e)
+      by (suc zero) e = rw (le-ltb (suc level) max-nesting (omega arith)) refl
+      by (suc (suc k)) e = sym (le-ltb (suc level) max-nesting (omega arith))
+
+  module _ (high : level < max-nesting - 1) where
+    pub node-lambda : h .subterms ≡ 1 → lambda-stands T (h .arg) ≡ node-stands T names level lambdas h
+    unfolding node-stands
+    node-lambda e = rw (e, lt-ltb (suc level) max-nesting (omega arith)) refl
+
+    pub node-two : (h .subterms ≡ 0 → ⊥) → (h .subterms ≡ 1 → ⊥) → true ≡ node-stands T names level lambdas h
+    unfolding node-stands
+    node-two not-0 not-1 = by (h .subterms) refl
+      where
+        by : (k : ℕ) → h .subterms ≡ k → true ≡ node-test T names level lambdas h k
+        by zero e = absurd (not-0 e)
+        by (suc zero) e = absurd (not-1 e)
+        by (suc (suc k)) e = sym (lt-ltb (suc level) max-nesting (omega arith))
+
+-- the next node
+module _ (T : Table) (names level lambdas : ℕ) {front : Front} where
+  pub next-bad : front ≡ Bad → Bad ≡ next-node T names level lambdas front
+  unfolding next-node
+  next-bad e = rw e refl
+
+  pub next-picked : {h : Node} {b : Bool} → front ≡ Is h → node-stands T names level lambdas h ≡ b → pick-node b (Is h) ≡ next-node T names level lambdas front
+  unfolding next-node
+  next-picked e f = rw (e, f) refl

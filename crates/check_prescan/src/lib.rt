@@ -6,15 +6,13 @@ use term::Front;
 use term::Node;
 use term_scan::Part;
 ghost use mathlib.Core.Path.{_≡_};
-ghost use mathlib.Core.Bool.{_&&_, true};
 ghost use Prim.Native.Nat.{_≤_};
-ghost use lib.Dec.{ltb};
 ghost use lib.ListN.{length};
 ghost use Rattle.calculus.specs.Limits.{max-entries};
-ghost use Rattle.calculus.specs.Verdict.{on-function};
+ghost use Rattle.term.specs.Reader.{node-at};
 ghost use Rattle.term.specs.Expressions.{leaf-exp};
 ghost use Rattle.recipe_table.specs.Entries.{table-of};
-ghost use Rattle.check_prescan.specs.Stands.{ended, glance, leaf-stands};
+ghost use Rattle.check_prescan.specs.Stands.{ended, glance, lambda-stands, leaf-stands, next-node, node-stands};
 
 // The deepest level whose nodes have subterms.
 const LAST_LEVEL: u8 = (Recipe::MAX_NESTING - 1) as u8;
@@ -52,13 +50,45 @@ fn leaf_stands(
 // Causes 7 and 8 of a lambda, its body apart.
 fn lambda_stands(table: &[u8], types: usize, arg: usize) -> bool
     requires { ⌜ (types ≡ length (table-of (now table))) × (types ≤ max-entries) ⌝ }
-    ensures { λ r. ⌜ r ≡ (ltb arg (length (table-of (now (table .entry)))) && on-function (table-of (now (table .entry))) arg (λ p q. true)) ⌝ }
+    ensures { λ r. ⌜ r ≡ lambda-stands (table-of (now (table .entry))) arg ⌝ }
 {
     if types <= arg {
         return false;
     }
     let entry = check_types::entry_at(table, arg);
     check_types::is_function(entry.kind)
+}
+
+// Causes 6 to 8 of a node, its subterms apart, below so many nodes and lambdas.
+fn node_stands(table: &[u8], names: usize, node: Node, level: u8, lambdas: u8) -> bool
+    requires { ⌜ length (table-of (now table)) ≤ max-entries ⌝ }
+    ensures { λ r. ⌜ r ≡ node-stands (table-of (now (table .entry))) names level lambdas node ⌝ }
+{
+    let types = table.len() / ENTRY_LENGTH;
+    if node.subterms == 0 {
+        return leaf_stands(table, types, names, node.tag, node.arg, lambdas as usize);
+    }
+    if LAST_LEVEL <= level {
+        return false;
+    }
+    if node.subterms == 1 {
+        return lambda_stands(table, types, node.arg);
+    }
+    true
+}
+
+// The next node, where none of causes 5 to 8 fits it.
+fn next_node(table: &[u8], names: usize, s: &[u8], here: usize, level: u8, lambdas: u8) -> Front
+    requires { ⌜ (length (table-of (now table)) ≤ max-entries) × (here ≤ length (now s)) ⌝ }
+    ensures { λ r. ⌜ r ≡ next-node (table-of (now (table .entry))) names level lambdas (node-at (now (s .entry)) here) ⌝ }
+{
+    let Front::Is(node) = term::node_at(s, here) else {
+        return Front::Bad;
+    };
+    if !node_stands(table, names, node, level, lambdas) {
+        return Front::Bad;
+    }
+    Front::Is(node)
 }
 
 // The answer behind the last node.
@@ -76,7 +106,6 @@ pub fn glance(table: &[u8], names: usize, s: &[u8]) -> Part
     requires { ⌜ length (table-of (now table)) ≤ max-entries ⌝ }
     ensures { λ r. ⌜ r ≡ glance (table-of (now (table .entry))) names (now (s .entry)) ⌝ }
 {
-    let types = table.len() / ENTRY_LENGTH;
     let mut levels = [0u8; Recipe::MAX_NESTING];
     let mut arounds = [0u8; Recipe::MAX_NESTING];
     let mut waits: usize = 0;
@@ -85,19 +114,14 @@ pub fn glance(table: &[u8], names: usize, s: &[u8]) -> Part
     let mut here: usize = 0;
     let mut nodes: usize = 0;
     loop {
-        let Front::Is(node) = term::node_at(s, here) else {
+        let Front::Is(node) = next_node(table, names, s, here, level, lambdas) else {
             return Part::NoTerm;
         };
-        let tag = node.tag;
-        let arg = node.arg;
         let size = node.size;
         let subterms = node.subterms;
         here += size;
         nodes += 1;
         if subterms == 0 {
-            if !leaf_stands(table, types, names, tag, arg, lambdas as usize) {
-                return Part::NoTerm;
-            }
             if waits == 0 {
                 return ended(s, here, nodes);
             }
@@ -106,14 +130,8 @@ pub fn glance(table: &[u8], names: usize, s: &[u8]) -> Part
             lambdas = arounds[waits];
             continue;
         }
-        if level == LAST_LEVEL {
-            return Part::NoTerm;
-        }
         level += 1;
         if subterms == 1 {
-            if !lambda_stands(table, types, arg) {
-                return Part::NoTerm;
-            }
             lambdas += 1;
             continue;
         }

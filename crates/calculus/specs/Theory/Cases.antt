@@ -21,8 +21,7 @@ use Rattle.calculus.specs.Theory.ConfigRuns.{ConfigCall, config-reply, s
 use Rattle.calculus.specs.Recipe.{loaded, with-type, bay-types, start, Admitted}
 use Rattle.calculus.specs.Image.{nodes, const-size, size, image-length, constant-test, expression-test, is-settled, is-awaited, handle-for, component-test, each-test, limits-test, image-test, Writable}
 use Rattle.calculus.specs.Table.{entry, Table, cell-reading, function-reading, read-entry, read-at, read-deep, type-at, test-entry, entry-test, entries-test, same-entry, new-to, distinct-test, entry-is, table-test}
-use Rattle.calculus.specs.Narrowing.{narrowed}
-use Rattle.calculus.specs.Verdict.{on-function, on-once-function, on-cell, is-many, scoped-const, scoped, is-cell-type, is-exch-type, is-thread-type, is-handle-type, annotated-const, annotated, const-number, on-number, result-number, applied-number, lambda-number, type-number, outside-many, linear-parameter, linear, every, verdict}
+use Rattle.calculus.specs.Verdict.{on-function, on-once-function, on-cell, is-many, scoped-const, scoped, annotated-const, annotated, const-number, on-number, result-number, applied-number, lambda-number, type-number, outside-many, linear-parameter, linear, every, verdict}
 use Rattle.calculus.specs.Theory.Tests.{clash}
 use Rattle.calculus.specs.Theory.TableTest.{table-test-iff}
 use Rattle.calculus.specs.Theory.Claim.{demand}
@@ -127,7 +126,7 @@ rows =
     []
 
 cases : map computed rows ≡ rows
-unfolding computed end verdict every scoped scoped-const annotated annotated-const is-cell-type is-exch-type is-thread-type is-handle-type on-function on-once-function on-cell is-many narrowed test-entry type-number const-number on-number result-number applied-number lambda-number outside-many linear-parameter linear uses loaded with-type bay-types config-steps state-left config-reply reply-of image-test limits-test each-test component-test expression-test constant-test is-settled is-awaited handle-for sum-all nodes sum-in step-of step-place step-meeting step-call step-exchange when-done place place-app beside substitute plug function-at result-type future-and-handle coming new-types type-at read-deep read-at read-entry cell-reading function-reading
+unfolding computed end verdict every scoped scoped-const annotated annotated-const on-function on-once-function on-cell is-many test-entry type-number const-number on-number result-number applied-number lambda-number outside-many linear-parameter linear uses loaded with-type bay-types config-steps state-left config-reply reply-of image-test limits-test each-test component-test expression-test constant-test is-settled is-awaited handle-for sum-all nodes sum-in step-of step-place step-meeting step-call step-exchange when-done place place-app beside substitute plug function-at result-type future-and-handle coming new-types type-at read-deep read-at read-entry cell-reading function-reading
 cases = refl
 
 -- case A's image has 18 bytes, as document 01 shows it
@@ -141,7 +140,7 @@ lowest :
     (verdict T7 (app (const unit) (const unit) ∷ const (op thread 3) ∷ []) ≡ 8) ×
     (verdict T7 (lam 4 (const unit) ∷ app (const unit) (const unit) ∷ []) ≡ 9) ×
     (verdict T7 (lam 3 (const unit) ∷ lam 4 (const unit) ∷ []) ≡ 10)
-unfolding verdict every scoped scoped-const annotated annotated-const is-cell-type is-exch-type is-thread-type is-handle-type on-function on-once-function on-cell is-many narrowed test-entry type-number const-number on-number result-number applied-number lambda-number outside-many linear-parameter linear uses
+unfolding verdict every scoped scoped-const annotated annotated-const on-function on-once-function on-cell is-many test-entry type-number const-number on-number result-number applied-number lambda-number outside-many linear-parameter linear uses
 lowest = (refl, refl, refl, refl)
 
 -- case C among steps that answer something else: done, 14, 12
@@ -162,7 +161,7 @@ case-C-binds = (_, refl, (3, (_, refl, refl), refl))
 
 -- the third demand, of every run of it
 case-C-admitted : Admitted T7 (term-C ∷ [])
-unfolding nodes sum-in sum-all verdict every scoped scoped-const annotated annotated-const is-cell-type is-exch-type is-thread-type is-handle-type on-function on-once-function on-cell is-many narrowed test-entry type-number const-number on-number result-number applied-number lambda-number outside-many linear-parameter linear uses
+unfolding nodes sum-in sum-all verdict every scoped scoped-const annotated annotated-const on-function on-once-function on-cell is-many test-entry type-number const-number on-number result-number applied-number lambda-number outside-many linear-parameter linear uses
 case-C-admitted = record {
   table = table-test-iff T7 .0 (tables .2);
   written = written;

@@ -16,8 +16,7 @@ use Rattle.calculus.specs.Theory.ConfigRuns.{ConfigCall, config-reply, s
 use Rattle.calculus.specs.Recipe.{loaded}
 use Rattle.calculus.specs.Image.{nodes, constant-test, expression-test, is-settled, is-awaited, handle-for, component-test, each-test, limits-test, image-test}
 use Rattle.calculus.specs.Table.{entry, Table, cell-reading, function-reading, read-entry, read-at, read-deep, type-at, test-entry}
-use Rattle.calculus.specs.Narrowing.{narrowed}
-use Rattle.calculus.specs.Verdict.{on-function, on-once-function, on-cell, is-many, scoped-const, scoped, is-cell-type, is-exch-type, is-thread-type, is-handle-type, annotated-const, annotated, const-number, on-number, result-number, applied-number, lambda-number, type-number, outside-many, linear-parameter, linear, every, verdict}
+use Rattle.calculus.specs.Verdict.{on-function, on-once-function, on-cell, is-many, scoped-const, scoped, annotated-const, annotated, const-number, on-number, result-number, applied-number, lambda-number, type-number, outside-many, linear-parameter, linear, every, verdict}
 use Rattle.calculus.specs.Theory.Progress.{Proper}
 use Rattle.calculus.specs.Theory.Runs.{run-proper}
 use Rattle.calculus.specs.Theory.Recipes.{no-bay, bay, BaysTyped, start-sound}
@@ -33,7 +32,7 @@ keeps-handle = app (const (op handle 6)) (lam 5 (lam 4
     (app (app (app (const (op exch 10)) (app (const (op cell 8)) (var 0))) (lam 3 (const unit))) (const (num 5)))))
 
 keeps-handle-refused : verdict T11 (keeps-handle ∷ []) ≡ 8
-unfolding verdict every scoped scoped-const annotated annotated-const is-cell-type is-exch-type is-thread-type is-handle-type on-function on-once-function on-cell is-many narrowed test-entry type-number const-number on-number result-number applied-number lambda-number outside-many linear-parameter linear uses
+unfolding verdict every scoped scoped-const annotated annotated-const on-function on-once-function on-cell is-many test-entry type-number const-number on-number result-number applied-number lambda-number outside-many linear-parameter linear uses
 keeps-handle-refused = refl
 
 keeps-handle-typed : BaysTyped (type-at T11) (keeps-handle ∷ []) (unit-type ∷ [])

@@ -14,8 +14,7 @@ use Rattle.calculus.specs.Theory.ConfigRuns.{config-reply, state-left, c
 use Rattle.calculus.specs.Recipe.{loaded}
 use Rattle.calculus.specs.Image.{nodes, constant-test, expression-test, is-settled, is-awaited, handle-for, component-test, each-test, limits-test, image-test}
 use Rattle.calculus.specs.Table.{entry, Table, test-entry}
-use Rattle.calculus.specs.Narrowing.{narrowed}
-use Rattle.calculus.specs.Verdict.{on-function, on-once-function, on-cell, is-many, scoped-const, scoped, is-cell-type, is-exch-type, is-thread-type, is-handle-type, annotated-const, annotated, const-number, on-number, result-number, applied-number, lambda-number, type-number, outside-many, linear-parameter, linear, every, verdict}
+use Rattle.calculus.specs.Verdict.{on-function, on-once-function, on-cell, is-many, scoped-const, scoped, annotated-const, annotated, const-number, on-number, result-number, applied-number, lambda-number, type-number, outside-many, linear-parameter, linear, every, verdict}
 use Rattle.calculus.specs.Theory.Cases.{call, answered}
 
 -- first plausible mistake, "letting a many-lambda close over it": x stands once, under the many-lambda of type 7, and is refused;
@@ -26,7 +25,7 @@ T10 = entry 0 0 0 ∷ entry 1 0 0 ∷ entry 2 1 0 ∷ entry 3 1 0 ∷ entry 4 3 
 mistake-1 :
     (verdict T10 (lam 8 (lam 7 (app (var 1) (var 0))) ∷ []) ≡ 10) ×
     (verdict T10 (lam 9 (lam 3 (app (var 1) (var 0))) ∷ []) ≡ 0)
-unfolding verdict every scoped scoped-const annotated annotated-const is-cell-type is-exch-type is-thread-type is-handle-type on-function on-once-function on-cell is-many narrowed test-entry type-number const-number on-number result-number applied-number lambda-number outside-many linear-parameter linear uses
+unfolding verdict every scoped scoped-const annotated annotated-const on-function on-once-function on-cell is-many test-entry type-number const-number on-number result-number applied-number lambda-number outside-many linear-parameter linear uses
 mistake-1 = (refl, refl)
 
 -- what comes of it: "the lambda runs twice". handle (λ x. λ h. (λ g. (λ _. g unit) (g unit)) (λ _. h 0)) and, with a once-lambda but h used twice,
@@ -42,7 +41,7 @@ abbrev used-twice : Exp
 used-twice = app (const (op handle 6)) (lam 5 (lam 4 (app (lam 9 (app (var 1) (const (num 0)))) (app (var 0) (const (num 0))))))
 
 both-refused : (verdict T10′ (runs-twice ∷ []) ≡ 10) × (verdict T10′ (used-twice ∷ []) ≡ 10)
-unfolding verdict every scoped scoped-const annotated annotated-const is-cell-type is-exch-type is-thread-type is-handle-type on-function on-once-function on-cell is-many narrowed test-entry type-number const-number on-number result-number applied-number lambda-number outside-many linear-parameter linear uses
+unfolding verdict every scoped scoped-const annotated annotated-const on-function on-once-function on-cell is-many test-entry type-number const-number on-number result-number applied-number lambda-number outside-many linear-parameter linear uses
 both-refused = (refl, refl)
 
 both-go-wrong : (τ : TypeNumbers) →

@@ -32,13 +32,16 @@ returns c = refuse (tests (c .before .before)) (ne-eqb _ _ (c .if1 .taken))
 returns-2 : tie.Need-returns-2
 returns-2 c = refuse (pass (tests (c .before .before .before .before .before)) (eq-eqb _ _ (c .before .before .before .if1 .left))) (ne-eqb _ _ (c .if2 .taken))
 
-is-narrowed-requires : tie.Need-is-narrowed-requires
-is-narrowed-requires c κs = search needs
+cast-many-at : tie.Need-cast-many-at
+cast-many-at c = search needs
+
+many-at-requires : tie.Need-many-at-requires
+many-at-requires c κs = search needs
 
 returns-3 : tie.Need-returns-3
 returns-3 c =
-    let l = c .before .before .before .before .before .before in
-    last (pass (pass (tests l) (eq-eqb _ _ (c .before .before .before .before .if1 .left))) (eq-eqb _ _ (c .before .if2 .left))) (c .is-narrowed .ensures)
+    let l = c .before .before .before .before .before .before .before in
+    last (pass (pass (tests l) (eq-eqb _ _ (c .before .before .before .before .before .if1 .left))) (eq-eqb _ _ (c .before .before .if2 .left))) (c .many-at .ensures)
 
 pub is-cell-type-spec : {M : Type 1} → statement M
-is-cell-type-spec = tie.close (tie.spec cast-entry-at entry-at-requires returns returns-2 is-narrowed-requires returns-3)
+is-cell-type-spec = tie.close (tie.spec cast-entry-at entry-at-requires returns returns-2 cast-many-at many-at-requires returns-3)

@@ -41,13 +41,16 @@ is-from-to-requires c κs = search needs
 returns-2 : tie.Need-returns-2
 returns-2 c = refuse (pass (tests (c .before .before .before .before)) (eq-eqb _ _ (c .before .before .if1 .left))) (fails (c .before .is-from-to .ensures) (c .if2 .taken))
 
-is-narrowed-requires : tie.Need-is-narrowed-requires
-is-narrowed-requires c κs = search needs
+cast-many-at : tie.Need-cast-many-at
+cast-many-at c = search needs
+
+many-at-requires : tie.Need-many-at-requires
+many-at-requires c κs = search needs
 
 returns-3 : tie.Need-returns-3
 returns-3 c =
-    let l = c .before .before .before .before .before in
-    last (pass (pass (tests l) (eq-eqb _ _ (c .before .before .before .if1 .left))) (stands (c .before .before .is-from-to .ensures) (c .before .if2 .left))) (c .is-narrowed .ensures)
+    let l = c .before .before .before .before .before .before in
+    last (pass (pass (tests l) (eq-eqb _ _ (c .before .before .before .before .if1 .left))) (stands (c .before .before .before .is-from-to .ensures) (c .before .before .if2 .left))) (c .many-at .ensures)
 
 pub is-exch-type-spec : {M : Type 1} → statement M
 is-exch-type-spec =
@@ -60,5 +63,6 @@ is-exch-type-spec =
     returns
     is-from-to-requires
     returns-2
-    is-narrowed-requires
+    cast-many-at
+    many-at-requires
     returns-3)
