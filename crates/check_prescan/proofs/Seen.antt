@@ -14,7 +14,7 @@ use Rattle.calculus.specs.Theory.Tests.{and-parts, eqb-complete, eqb-sound, leb
 use Rattle.term.specs.declared.Front.{Front}
 use Rattle.term.specs.declared.Front.the-variants.{Bad, Is}
 use Rattle.term.specs.declared.Node.{Node}
-use Rattle.term.specs.Reader.{node-at, pick-node}
+use Rattle.term.specs.Reader.{node-at}
 use Rattle.term.specs.Expressions.{leaf-exp, nesting}
 use Rattle.term.proofs.Leaves.{leaf-nesting}
 use Rattle.term.proofs.Views.{node-there, NodeAt}
@@ -82,7 +82,7 @@ pub next-is : {T : Table} {names level lambdas : ℕ} {l : List ℕ} {here : ℕ
 unfolding next-node
 next-is {T} {names} {level} {lambdas} {l} {here} {h} e = by (node-at l here) refl e
   where
-    picked : (b : Bool) (k : Node) → node-stands T names level lambdas k ≡ b → node-at l here ≡ Is k → pick-node b (Is k) ≡ Is h → Next T names l level lambdas here h
+    picked : (b : Bool) (k : Node) → node-stands T names level lambdas k ≡ b → node-at l here ≡ Is k → cond b (Is k) Bad ≡ Is h → Next T names l level lambdas here h
     picked true k f is e = let z : k ≡ h = cc in record { is = is ∙ e; stands = rw (← z) f }
     picked false k f is e = let z : false ≡ true = cc in absurd (false≢true z)
 
@@ -133,7 +133,7 @@ module _ {T : Table} {names : ℕ} {l a b : List ℕ} {waits level lambdas here 
   unfolding next-node node-at
   seen-bad e = by (node-at l here) refl e
     where
-      picked : {h : Node} → node-at l here ≡ Is h → (b : Bool) → node-stands T names level lambdas h ≡ b → pick-node b (Is h) ≡ Bad → NoTerm ≡ glance T names l
+      picked : {h : Node} → node-at l here ≡ Is h → (b : Bool) → node-stands T names level lambdas h ≡ b → cond b (Is h) Bad ≡ Bad → NoTerm ≡ glance T names l
       picked is true f e = cc
       picked is false f e = fails is f
 

@@ -1,6 +1,6 @@
 -- Leaves and lambdas, by the tests of the code.
 use mathlib.Core.Path.{_≡_, ap, refl, sym, _∙_}
-use mathlib.Core.Bool.{Bool, _&&_, and-true, false, true}
+use mathlib.Core.Bool.{Bool, _&&_, and-true, false, true, cond}
 use Prim.Native.Nat.{_-_, _<_, _≤_, suc, zero, ℕ}
 use native.Mathlib.Omega.{arith}
 use borrow.Author.Tests.{le-ltb, lt-ltb}
@@ -10,7 +10,6 @@ use Rattle.calculus.specs.Limits.{max-nesting}
 use Rattle.term.specs.declared.Front.{Front}
 use Rattle.term.specs.declared.Front.the-variants.{Bad, Is}
 use Rattle.term.specs.declared.Node.{Node}
-use Rattle.term.specs.Reader.{pick-node}
 use Rattle.term.specs.Forms.{variable-tag, cell-tag, handle-tag, name-tag}
 use Rattle.calculus.specs.Table as calculus
 use Rattle.calculus.specs.Table.{Table}
@@ -102,6 +101,6 @@ module _ (T : Table) (names level lambdas : ℕ) {front : Front} where
   unfolding next-node
   next-bad e = rw e refl
 
-  pub next-picked : {h : Node} {b : Bool} → front ≡ Is h → node-stands T names level lambdas h ≡ b → pick-node b (Is h) ≡ next-node T names level lambdas front
+  pub next-picked : {h : Node} {b : Bool} → front ≡ Is h → node-stands T names level lambdas h ≡ b → cond b (Is h) Bad ≡ next-node T names level lambdas front
   unfolding next-node
   next-picked e f = rw (e, f) refl

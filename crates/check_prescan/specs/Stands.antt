@@ -12,7 +12,7 @@ use Rattle.term.specs.Tree.{tree-nodes}
 use Rattle.term.specs.declared.Front.{Front}
 use Rattle.term.specs.declared.Front.the-variants.{Bad, Is}
 use Rattle.term.specs.declared.Node.{Node}
-use Rattle.term.specs.Reader.{Got, got, none, pick-node, read-term}
+use Rattle.term.specs.Reader.{Got, got, none, read-term}
 use Rattle.term.specs.Expressions.{exp-of, leaf-exp, nesting}
 use Rattle.term_scan.specs.declared.Part.{Part}
 use Rattle.term_scan.specs.declared.Part.the-variants.{Nodes, NoTerm}
@@ -41,7 +41,7 @@ node-stands T names level lambdas h = node-test T names level lambdas h (h .subt
 -- a node that is there and stands
 unfoldable pub next-node : Table → ℕ → ℕ → ℕ → Front → Front
 next-node T names level lambdas Bad = Bad
-next-node T names level lambdas (Is h) = pick-node (node-stands T names level lambdas h) (Is h)
+next-node T names level lambdas (Is h) = cond (node-stands T names level lambdas h) (Is h) Bad
 
 -- a part that is one such term has so many nodes
 abbrev pub exactly : Table → ℕ → Got → Part

@@ -17,7 +17,7 @@ use Rattle.term.specs.declared.Node.{Node}
 use Rattle.term.specs.Numbers.{little-endian, value-of}
 use Rattle.term.specs.Forms.{form, form-of, forms, in-range, num-tag, operand-of, subterms-of, tags}
 use Rattle.term.specs.Tree.{node-bytes, InTable}
-use Rattle.term.specs.Reader.{front-node, front-operand, front-size, front-tag, node-of, node-stands}
+use Rattle.term.specs.Reader.{front-node, front-operand, front-size, front-tag, node-of, front-stands}
 use Rattle.term.proofs.Table.{every-at}
 use Rattle.term.proofs.Numbers.{length-little-endian, value-bytes, value-fits, bytes-value}
 
@@ -53,8 +53,8 @@ picked : (b : Bool) (h k : Node) → cond b (Is h) Bad ≡ Is k → (b ≡ true)
 picked true h k e = (refl, cc)
 picked false h k e = (cc, cc)
 
--- the tests of `node-stands` that passed
-stood : (l : List ℕ) → node-stands l ≡ true
+-- the tests of `front-stands` that passed
+stood : (l : List ℕ) → front-stands l ≡ true
     → (front-tag l < tags) × (front-size l ≤ length l) × (in-range (front-tag l) (front-operand l) ≡ true)
 stood l e =
     let a = all-true (ltb 0 (length l)) (ltb (front-tag l) tags) (leb (front-size l) (length l)) (in-range (front-tag l) (front-operand l)) e in
@@ -63,7 +63,7 @@ stood l e =
 pub head-is : (l : List ℕ) (h : Node) → node-of l ≡ Is h → Heads l h
 unfolding node-of
 head-is l h e =
-    let p = picked (node-stands l) (front-node l) h e in
+    let p = picked (front-stands l) (front-node l) h e in
     let s = stood l (p .0) in
     subst (Heads l) (p .1)
     (record { at-tag = refl; at-arg = refl; at-size = refl; at-subterms = refl; known = s .0; whole = s .1; low = s .2 })

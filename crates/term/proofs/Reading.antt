@@ -13,7 +13,7 @@ use Rattle.term.specs.declared.Front.{Front}
 use Rattle.term.specs.declared.Front.the-variants.{Is, Bad}
 use Rattle.term.specs.declared.Node.{Node}
 use Rattle.term.specs.Tree.{Tree, leaf, one, tree-depth, tree-nodes, tree-size, two}
-use Rattle.term.specs.Reader.{front-node, Got, got, node-of, node-stands, none, onward, read, read-subterms, read-term, read-with}
+use Rattle.term.specs.Reader.{front-node, Got, got, node-of, front-stands, none, onward, read, read-subterms, read-term, read-with}
 use Rattle.term.proofs.Nodes.{head-is, subterms-at-most}
 
 pub data Reads : List ℕ → Tree → List ℕ → Type 0 where
@@ -46,7 +46,7 @@ read-node rd (Is h) l = read-below rd h (h .subterms) l
 
 through-node : (rd : List ℕ → Got) (l : List ℕ) → read-with rd l ≡ read-node rd (node-of l) l
 unfolding node-of
-through-node rd l = by (node-stands l)
+through-node rd l = by (front-stands l)
   where
     by : (b : Bool) → cond b (read-node rd (Is (front-node l)) l) none ≡ read-node rd (cond b (Is (front-node l)) Bad) l
     by true = refl

@@ -25,8 +25,8 @@ abbrev pub front-operand : List ℕ → ℕ
 front-operand l = value-of (operand-of (front-tag l)) (drop 1 l)
 
 -- document 01, cause 5: "unknown tag, cut, .. num above 1000". There is a tag, it is known, what is after it is whole, and a num is in range.
-abbrev pub node-stands : List ℕ → Bool
-node-stands l = ltb 0 (length l) && ltb (front-tag l) tags && leb (front-size l) (length l) && in-range (front-tag l) (front-operand l)
+abbrev pub front-stands : List ℕ → Bool
+front-stands l = ltb 0 (length l) && ltb (front-tag l) tags && leb (front-size l) (length l) && in-range (front-tag l) (front-operand l)
 
 -- nothing that is a term, or a term and what stands after it
 pub data Got : Type 0 where
@@ -47,7 +47,7 @@ read-subterms rd tag arg (suc (suc k)) l = onward (rd l) λ t after. onward (rd 
 -- a term's root, and its subterms read by rd
 abbrev pub read-with : (List ℕ → Got) → List ℕ → Got
 read-with rd l =
-    cond (node-stands l) (read-subterms rd (front-tag l) (front-operand l) (subterms-of (front-tag l)) (drop (front-size l) l)) none
+    cond (front-stands l) (read-subterms rd (front-tag l) (front-operand l) (subterms-of (front-tag l)) (drop (front-size l) l)) none
 
 -- a term that is at most n deep
 unfoldable pub read : ℕ → List ℕ → Got
@@ -105,7 +105,7 @@ front-node l = record { tag = front-tag l; arg = front-operand l; size = front-s
 
 -- the same where it stands, and otherwise that there is none
 unfoldable pub node-of : List ℕ → Front
-node-of l = cond (node-stands l) (Is (front-node l)) Bad
+node-of l = cond (front-stands l) (Is (front-node l)) Bad
 
 -- the node at a position of a list
 unfoldable pub node-at : List ℕ → ℕ → Front
