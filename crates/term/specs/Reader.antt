@@ -16,11 +16,11 @@ use Rattle.term.specs.Tree.{Tree, leaf, one, tree-size, two}
 abbrev pub front-tag : List ℕ → ℕ
 front-tag l = getD l 0 0
 
--- the bytes of the node at the front, without its subterms
+-- how many bytes the node at the front takes, without its subterms
 abbrev pub front-size : List ℕ → ℕ
 front-size l = 1 + operand-of (front-tag l)
 
--- its operand
+-- the operand of that node
 abbrev pub front-operand : List ℕ → ℕ
 front-operand l = value-of (operand-of (front-tag l)) (drop 1 l)
 
