@@ -245,15 +245,8 @@ module _ {types names budget : ℕ} {l : List ℕ} {at here r k n : ℕ} {a : Li
       pub turn-lambda : h .subterms ≡ 1 → Scanning types names budget l at (here + h .size) (r + 1) 1 (n + 1) (set a n (k - 1))
       turn-lambda e = scanning-lambda (on .is) turn-left e (scoped-lambda types names n h (omega (arith, e)) e ∙ on .fits)
 
-      pub turn-other : (h .subterms ≡ 1 → ⊥) → Scanning types names budget l at (here + h .size) (r + 1) (k - 1 + h .subterms) n a
-      turn-other other = by (h .subterms) refl
-        where
-          by : (j : ℕ) → h .subterms ≡ j → Scanning types names budget l at (here + h .size) (r + 1) (k - 1 + h .subterms) n a
-          by zero e =
-              let s : k - 1 ≡ k - 1 + h .subterms = omega (arith, e) in
-              rw s at (scanning-leaf (on .is) turn-left e (scoped-leaf types names n h e ∙ on .fits))
-          by (suc zero) e = absurd (other e)
-          by (suc (suc j)) e =
-              let two : h .subterms ≡ 2 = is-two turn-node (omega (arith, e)) other in
-              let s : k + 1 ≡ k - 1 + h .subterms = omega (arith, two) in
-              rw s at (scanning-two (on .is) turn-left two)
+      pub turn-leaf : h .subterms ≡ 0 → Scanning types names budget l at (here + h .size) (r + 1) (k - 1) n a
+      turn-leaf e = scanning-leaf (on .is) turn-left e (scoped-leaf types names n h e ∙ on .fits)
+
+      pub turn-two : (h .subterms ≡ 0 → ⊥) → (h .subterms ≡ 1 → ⊥) → Scanning types names budget l at (here + h .size) (r + 1) (k + 1) n a
+      turn-two not-0 not-1 = scanning-two (on .is) turn-left (is-two turn-node not-0 not-1)

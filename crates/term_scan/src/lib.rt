@@ -199,13 +199,15 @@ pub fn scan_scoped(
         };
         here += node.size;
         nodes += 1;
-        if node.subterms == 1 {
+        if node.subterms == 0 {
+            pending -= 1;
+        } else if node.subterms == 1 {
             outer[lambdas] = pending - 1;
             lambdas += 1;
             pending = 1;
-            continue;
+        } else {
+            pending += 1;
         }
-        pending = pending - 1 + (node.subterms as u16);
     }
 }
 

@@ -10,7 +10,7 @@ use Rattle.term.specs.declared.Node.{Node}
 use Rattle.term.specs.Reader.{node-at}
 use Rattle.term.proofs.Views.{NodeAt}
 use Rattle.term_scan.specs.Scopes.{next-scoped}
-use Rattle.term_scan.proofs.Scanning.{Scanning, scanning-done, scanning-few, scanning-low, scanning-pop, scanning-refused, scanning-start, turn-lambda, turn-left, turn-node, turn-other, turn-room}
+use Rattle.term_scan.proofs.Scanning.{Scanning, scanning-done, scanning-few, scanning-low, scanning-pop, scanning-refused, scanning-start, turn-lambda, turn-leaf, turn-left, turn-node, turn-room, turn-two}
 use Rattle.term_scan.proofs.scan_scoped.Statement.{statement}
 use Rattle.term_scan.proofs.scan_scoped.Tie as tie
 
@@ -97,38 +97,41 @@ add-here c = omega (arith, node (c .before) .inside)
 add-nodes : tie.Need-add-nodes Inv-loop μ-loop
 add-nodes c = let n = c .before in omega (arith, turn-left (loop n .loop .inv) (some n) (next-is n))
 
-sub-outer : tie.Need-sub-outer Inv-loop μ-loop
-sub-outer c = omega (arith, some (c .before .before .before))
-
-mul-outer : tie.Need-mul-outer Inv-loop μ-loop
-mul-outer c = let h = scanning-low (loop (c .before .before .before) .loop .inv) in search needs
-
-slice-write-outer : tie.Need-slice-write-outer Inv-loop μ-loop
-slice-write-outer c = let n = c .before .before .before in omega (arith, turn-room (loop n .loop .inv) (some n) (next-is n), loop n .loop .inv .room)
-
-add-lambdas : tie.Need-add-lambdas Inv-loop μ-loop
-add-lambdas c = omega (arith, scanning-low (loop (c .before .before .before) .loop .inv))
+sub-pending : tie.Need-sub-pending Inv-loop μ-loop
+sub-pending c = omega (arith, some (c .before .before .before))
 
 loop-less-2 : tie.Need-loop-less-2 Inv-loop μ-loop
 loop-less-2 c = let n = c .before .before .before in omega (arith, node n .inside, node n .onward)
 
 loop-again-2 : tie.Need-loop-again-2 Inv-loop μ-loop
-loop-again-2 c = let n = c .before .before .before in turn-lambda (loop n .loop .inv) (some n) (next-is n) (c .if3 .taken)
+loop-again-2 c = let n = c .before .before .before in turn-leaf (loop n .loop .inv) (some n) (next-is n) (c .if3 .taken)
 
-sub-pending : tie.Need-sub-pending Inv-loop μ-loop
-sub-pending c = omega (arith, some (c .before .before .before))
+sub-outer : tie.Need-sub-outer Inv-loop μ-loop
+sub-outer c = omega (arith, some (c .before .before .before .before .before))
 
-cast-pending : tie.Need-cast-pending Inv-loop μ-loop
-cast-pending c = search needs
+mul-outer : tie.Need-mul-outer Inv-loop μ-loop
+mul-outer c = let h = scanning-low (loop (c .before .before .before .before .before) .loop .inv) in search needs
 
-add-pending : tie.Need-add-pending Inv-loop μ-loop
-add-pending c = let n = c .before .before .before .before in omega (arith, scanning-few (loop n .loop .inv), node n .few)
+slice-write-outer : tie.Need-slice-write-outer Inv-loop μ-loop
+slice-write-outer c = let n = c .before .before .before .before .before in omega (arith, turn-room (loop n .loop .inv) (some n) (next-is n), loop n .loop .inv .room)
+
+add-lambdas : tie.Need-add-lambdas Inv-loop μ-loop
+add-lambdas c = omega (arith, scanning-low (loop (c .before .before .before .before .before) .loop .inv))
 
 loop-less-3 : tie.Need-loop-less-3 Inv-loop μ-loop
-loop-less-3 c = let n = c .before .before .before .before in omega (arith, node n .inside, node n .onward)
+loop-less-3 c = let n = c .before .before .before .before .before in omega (arith, node n .inside, node n .onward)
 
 loop-again-3 : tie.Need-loop-again-3 Inv-loop μ-loop
-loop-again-3 c = let n = c .before .before .before .before in turn-other (loop n .loop .inv) (some n) (next-is n) (c .before .if3 .left)
+loop-again-3 c = let n = c .before .before .before .before .before in turn-lambda (loop n .loop .inv) (some n) (next-is n) (c .if4 .taken)
+
+add-pending : tie.Need-add-pending Inv-loop μ-loop
+add-pending c = let n = c .before .before .before .before .before in omega (arith, scanning-few (loop n .loop .inv))
+
+loop-less-4 : tie.Need-loop-less-4 Inv-loop μ-loop
+loop-less-4 c = let n = c .before .before .before .before .before in omega (arith, node n .inside, node n .onward)
+
+loop-again-4 : tie.Need-loop-again-4 Inv-loop μ-loop
+loop-again-4 c = let n = c .before .before .before .before .before in turn-two (loop n .loop .inv) (some n) (next-is n) (c .before .before .if3 .left) (c .if4 .left)
 
 pub scan-scoped-spec : {M : Type 1} → statement M
 scan-scoped-spec =
@@ -151,14 +154,15 @@ scan-scoped-spec =
     returns-2
     add-here
     add-nodes
+    sub-pending
+    loop-less-2
+    loop-again-2
     sub-outer
     mul-outer
     slice-write-outer
     add-lambdas
-    loop-less-2
-    loop-again-2
-    sub-pending
-    cast-pending
-    add-pending
     loop-less-3
-    loop-again-3)
+    loop-again-3
+    add-pending
+    loop-less-4
+    loop-again-4)
