@@ -20,7 +20,11 @@ static void print_vents(const uint8_t *image, uint32_t bays) {
         printf("bay %u: ", bay);
         switch (vent.state) {
         case VENT_OPENING:
-            printf("%u.%u %%\n", vent.opening / 10, vent.opening % 10);
+            if (vent.opening > VENT_WIDE_OPEN) {
+                printf("%u\n", vent.opening);
+            } else {
+                printf("%u.%u %%\n", vent.opening / 10, vent.opening % 10);
+            }
             break;
         case VENT_AWAITS_THREAD:
             printf("awaits name %u, a thread that is not done\n", vent.name);

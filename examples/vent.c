@@ -12,9 +12,12 @@ enum vent_state {
     VENT_NO_NUM          /* something else; in no image that a recipe's run comes to */
 };
 
+/* A vent that is wide open, in tenths of a percent. A num above is no vent's: it measures something else, parts per million say. */
+enum { VENT_WIDE_OPEN = 1000 };
+
 struct vent {
     enum vent_state state;
-    unsigned opening;  /* of VENT_OPENING: tenths of a percent, 0 to FIKAREHU_MAX_NUM */
+    unsigned opening;  /* of VENT_OPENING: tenths of a percent up to VENT_WIDE_OPEN; any num, 0 to 65535 */
     unsigned name;     /* of VENT_AWAITS_THREAD and VENT_AWAITS_FUTURE: the awaited name; of VENT_NEVER: a name that leads back to itself */
 };
 

@@ -31,9 +31,9 @@ extern "C" {
 #endif
 
 /* This header's version. */
-#define FIKAREHU_VERSION "0.1.0"
+#define FIKAREHU_VERSION "0.2.0"
 #define FIKAREHU_VERSION_MAJOR 0
-#define FIKAREHU_VERSION_MINOR 1
+#define FIKAREHU_VERSION_MINOR 2
 #define FIKAREHU_VERSION_PATCH 0
 
 /* The limits of a recipe. */
@@ -46,8 +46,7 @@ enum {
     FIKAREHU_MIN_ENTRIES = 3,          /* entries of the type table */
     FIKAREHU_MAX_ENTRIES = 256,
     FIKAREHU_MAX_NESTING = 100,        /* nesting of a term, the root being 1 */
-    FIKAREHU_MAX_RECIPE_NODES = 1024,  /* nodes over all terms */
-    FIKAREHU_MAX_NUM = 1000            /* a num, in tenths of a percent */
+    FIKAREHU_MAX_RECIPE_NODES = 1024   /* nodes over all terms */
 };
 
 /* The limits of an image. */
@@ -111,8 +110,7 @@ enum {
     FIKAREHU_REFUSED_OPENING = 2,      /* first two bytes, edition, or n outside 2 to 17 */
     FIKAREHU_REFUSED_LAYOUT = 3,       /* pairs break the layout; table length no multiple of 3, or outside 9 to 768 */
     FIKAREHU_REFUSED_TYPE_ENTRY = 4,   /* a type entry breaks its rule */
-    FIKAREHU_REFUSED_NO_TERM = 5,      /* a part is not exactly one term: unknown tag, cut, bytes over,
-num above 1000 */
+    FIKAREHU_REFUSED_NO_TERM = 5,      /* a part is not exactly one term: unknown tag, cut, bytes over */
     FIKAREHU_REFUSED_TERM_SIZE = 6,    /* nesting or nodes above the limit */
     FIKAREHU_REFUSED_SCOPE = 7,        /* index with no lambda, name not below b, type number not below t */
     FIKAREHU_REFUSED_ANNOTATION = 8,   /* lambda's type no function, constant's type no instance of Fig. 8

@@ -56,6 +56,10 @@ static void accepted_files(void) {
     expect_accepted("sixteen bays", &scratch, FIKAREHU_MAX_BAYS, 0);
     make(&scratch, table_a, sizeof table_a, TERM(4, 0xE8, 3), 9);
     expect_accepted("num 1000 in nine bays", &scratch, 9, 1);
+    make(&scratch, table_a, sizeof table_a, TERM(4, 0xE9, 3), 1);
+    expect_accepted("num 1001", &scratch, 1, 1);
+    make(&scratch, table_a, sizeof table_a, TERM(4, 0xFF, 0xFF), 1);
+    expect_accepted("num 65535", &scratch, 1, 1);
     make(&scratch, table_7, sizeof table_7, TERM(2, 8, 6, 1, 5, 1, 4, 2, 0, 0, 0, 1), 1);
     expect_accepted("case C", &scratch, 1, 0);
 }
@@ -73,8 +77,8 @@ static void refused_files(void) {
     make(&scratch, table_a, sizeof table_a, TERM(3), 1);
     scratch.bytes[20] = 1;
     expect_refusal("cell with a q", &scratch, FIKAREHU_REFUSED_TYPE_ENTRY);
-    make(&scratch, table_a, sizeof table_a, TERM(4, 0xE9, 3), 1);
-    expect_refusal("num 1001", &scratch, FIKAREHU_REFUSED_NO_TERM);
+    make(&scratch, table_a, sizeof table_a, TERM(4, 0xE9), 1);
+    expect_refusal("a num cut", &scratch, FIKAREHU_REFUSED_NO_TERM);
     make(&scratch, table_a, sizeof table_a, TERM(0, 0), 1);
     expect_refusal("case H", &scratch, FIKAREHU_REFUSED_SCOPE);
     make(&scratch, table_7, sizeof table_7, TERM(7, 3), 1);

@@ -89,6 +89,7 @@ static void every_rule(void) {
 
 static void other_answers(void) {
     expect("done", BYTES(1, 0, 1, 0, 8, 0, 1, 0, 3), 0, FIKAREHU_MAX_IMAGE, FIKAREHU_DONE, 0);
+    expect("num 65535, done", BYTES(1, 0, 1, 0, 8, 0, 3, 0, 4, 0xFF, 0xFF), 0, FIKAREHU_MAX_IMAGE, FIKAREHU_DONE, 0);
     expect("waiting for itself", BYTES(1, 0, 1, 0, 8, 0, 4, 0, 2, 9, 0, 3), 0, FIKAREHU_MAX_IMAGE, FIKAREHU_WAITING, 0);
     expect("waiting for a future", BYTES(3, 0, 1, 0, 20, 0, 4, 0, 5, 0, 24, 0, 0, 0, 3, 1, 24, 0, 0, 0, 2, 9, 1, 3), 0,
            FIKAREHU_MAX_IMAGE, FIKAREHU_WAITING, 1);
@@ -110,7 +111,7 @@ static void broken_images(void) {
     expect_refusal("a companion", BYTES(1, 0, 1, 1, 8, 0, 1, 0, 3), 0, FIKAREHU_REFUSED_IMAGE);
     expect_refusal("a free variable", BYTES(1, 0, 1, 0, 8, 0, 2, 0, 0, 0), 0, FIKAREHU_REFUSED_IMAGE);
     expect_refusal("name 1 of one", BYTES(1, 0, 1, 0, 8, 0, 2, 0, 9, 1), 0, FIKAREHU_REFUSED_IMAGE);
-    expect_refusal("num 1001", BYTES(1, 0, 1, 0, 8, 0, 3, 0, 4, 0xE9, 3), 0, FIKAREHU_REFUSED_IMAGE);
+    expect_refusal("a num cut", BYTES(1, 0, 1, 0, 8, 0, 2, 0, 4, 0xE9), 0, FIKAREHU_REFUSED_IMAGE);
     expect_refusal("a cell with no value", BYTES(1, 0, 2, 0, 8, 0, 3, 0, 2, 3, 3), 0, FIKAREHU_REFUSED_IMAGE);
     expect_refusal("a future without a handle", BYTES(1, 0, 5, 0, 8, 0, 0, 0), 0, FIKAREHU_REFUSED_IMAGE);
 }

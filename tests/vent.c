@@ -102,6 +102,7 @@ static void images(void) {
     expect_image("a ring of two", BYTES(3, 0, 2, 0, 20, 0, 2, 0, 1, 0, 22, 0, 2, 0, 1, 0, 24, 0, 2, 0, 9, 1, 9, 2, 9, 1), VENT_NEVER,
                  2);
     expect_image("a cell for a num", BYTES(2, 0, 2, 0, 14, 0, 2, 0, 2, 0, 16, 0, 1, 0, 9, 1, 3), VENT_NO_NUM, 1);
+    expect_image("the highest num", BYTES(1, 0, 2, 0, 8, 0, 3, 0, 4, 0xFF, 0xFF), VENT_OPENING, 65535);
     expect_image("unit for a num", BYTES(1, 0, 2, 0, 8, 0, 1, 0, 3), VENT_NO_NUM, 0);
 }
 

@@ -103,6 +103,7 @@ pub fn all() -> Vec<Example> {
         one_bay(),
         one_vent(),
         nine_bays(),
+        dosing(),
         mutex(),
         recursion(),
         waiting(),
@@ -139,6 +140,15 @@ fn nine_bays() -> Example {
     let terms = (0..9).map(|bay| set(exch, bay, 100 * (u16::from(bay) + 1)));
     let terms = terms.collect();
     example("nine-bays", text, types.recipe(terms))
+}
+
+fn dosing() -> Example {
+    let text = "Carbon dioxide in the same num, document 02's T-01: bay 0 doses to 1200 parts per \
+                million, bay 1 opens its vent to 25.0 percent. A num above 1000 is shown as it is.";
+    let mut types = Types::new();
+    let exch = setting_exch(&mut types);
+    let terms = vec![set(exch, 0, 1_200), set(exch, 1, 250)];
+    example("dosing", text, types.recipe(terms))
 }
 
 fn mutex() -> Example {
@@ -313,8 +323,9 @@ fn refused_4() -> Example {
 }
 
 fn refused_5() -> Example {
-    let text = "Refused 5: a part is not exactly one term. The num is 1001.";
-    example("refused-5", text, Types::new().recipe(vec![num(1_001)]))
+    let text = "Refused 5: a part is not exactly one term. An application has no argument.";
+    let cut = [vec![Node::Application], unit()].concat();
+    example("refused-5", text, Types::new().recipe(vec![cut]))
 }
 
 fn refused_6() -> Example {

@@ -126,7 +126,7 @@ fn futures_and_open_handles_match(heads: &[Head]) -> bool {
     heads.iter().zip(handles_of).all(matches)
 }
 
-/// "Expressions use the node forms", each slice exactly one term, "nums at most 1000".
+/// "Expressions use the node forms", each slice exactly one term.
 fn read_expressions(heads: &[Head], image: &[u8]) -> Option<Vec<Option<Vec<Node>>>> {
     let read = |head: &Head| {
         if !head.has_expression() {

@@ -26,8 +26,6 @@ pub const ENTRY_LENGTH: usize = 3;
 pub const MAX_NESTING: usize = 100;
 /// "1,024 nodes over all terms"
 pub const MAX_RECIPE_NODES: usize = 1_024;
-/// "constants 0 to 1000"
-pub const MAX_NUM: u16 = 1_000;
 /// "At most 256 names"
 pub const MAX_NAMES: usize = 256;
 /// "4,096 nodes in all, every node of every expression counted"

@@ -1,6 +1,5 @@
 //! Document 01, the table of node forms; a term as the list of its nodes, root first.
 
-use crate::limits;
 use crate::tags;
 use crate::types::Constant;
 
@@ -68,23 +67,20 @@ impl Node {
         }
     }
 
-    /// The node of that tag, from the bytes after it; `None` for a num above its limit.
-    fn read(tag: u8, after: &[u8]) -> Option<Node> {
-        Some(match tag {
+    /// The node of that tag, from the bytes after it.
+    fn read(tag: u8, after: &[u8]) -> Node {
+        match tag {
             tags::VARIABLE => Node::Variable(after[0]),
             tags::LAMBDA => Node::Lambda(after[0]),
             tags::APPLICATION => Node::Application,
             tags::UNIT => Node::Unit,
-            tags::NUM => {
-                let value = u16::from_le_bytes([after[0], after[1]]);
-                return (value <= limits::MAX_NUM).then_some(Node::Num(value));
-            }
+            tags::NUM => Node::Num(u16::from_le_bytes([after[0], after[1]])),
             tags::CELL => Node::Constant(Constant::Cell, after[0]),
             tags::EXCH => Node::Constant(Constant::Exch, after[0]),
             tags::THREAD => Node::Constant(Constant::Thread, after[0]),
             tags::HANDLE => Node::Constant(Constant::Handle, after[0]),
             _ => Node::Name(after[0]),
-        })
+        }
     }
 
     pub fn write(self, out: &mut Vec<u8>) {
@@ -99,18 +95,16 @@ impl Node {
     }
 }
 
-/// The node at the front of the bytes, and the bytes after it: `None` for an unknown tag, a cut, or
-/// a num above its limit.
+/// The node at the front of the bytes, and the bytes after it: `None` for an unknown tag or a cut.
 pub fn read_node(bytes: &[u8]) -> Option<(Node, &[u8])> {
     let (&tag, after_tag) = bytes.split_first()?;
     let form = FORMS.get(usize::from(tag))?;
     let after = after_tag.get(..form.after)?;
-    let node = Node::read(tag, after)?;
-    Some((node, &after_tag[form.after..]))
+    Some((Node::read(tag, after), &after_tag[form.after..]))
 }
 
-/// The bytes read as exactly one term: `None` for an unknown tag, a cut, bytes over, or a num
-/// above its limit. A loop that counts the subterms still to come, for the bytes are unchecked.
+/// The bytes read as exactly one term: `None` for an unknown tag, a cut, or bytes over. A loop that
+/// counts the subterms still to come, for the bytes are unchecked.
 pub fn read_term(bytes: &[u8]) -> Option<Vec<Node>> {
     let mut nodes = Vec::new();
     let mut rest = bytes;

@@ -55,7 +55,9 @@ fn cases_d_to_i() {
     assert_eq!(number(&recipe(A, "02 03 03")), 9);
     assert_eq!(number(&recipe(A, "00 00")), 7);
     assert_eq!(number(&recipe(A, "04 E8 03")), 0);
-    assert_eq!(number(&recipe(A, "04 E9 03")), 5);
+    assert_eq!(number(&recipe(A, "04 E9 03")), 0);
+    assert_eq!(number(&recipe(A, "04 FF FF")), 0);
+    assert_eq!(number(&recipe(A, "04 FF")), 5);
 }
 
 #[test]

@@ -54,7 +54,7 @@ fn places_of_the_examples() {
     let place = |name: &str| (fault_of(name).place.to_string(), fault_of(name).offset);
     let expected = [
         ("refused-4", "the type table, entry 3", 21),
-        ("refused-5", "bay 0, root", 21),
+        ("refused-5", "bay 0, argument", 23),
         ("refused-6", "bay 0, argument×98.function.body", 517),
         ("refused-7", "bay 0, root", 21),
         ("refused-8", "bay 0, root", 30),

@@ -1,10 +1,13 @@
-//! The comparison finds the impostors that document 01 names to the testers.
+//! The comparison finds the impostors that document 01 names to the testers, and those that know
+//! a change of document 02 only by half.
 
 use model::answers::{
     Implementation, LoadedAnswer, Model, SteppedAnswer, VerdictAnswer, DONE, REFUSED, RULE, WAITING,
 };
 use model::command::on_deep_stack;
 use model::comparison::Comparison;
+use model::format::{table_and_terms, write_parts};
+use model::nodes::{read_term, write_term, Node};
 use std::sync::Mutex;
 
 type Check = fn(&[u8]) -> VerdictAnswer;
@@ -182,6 +185,71 @@ fn a_stepper_that_tells_another_length() {
     };
     assert!(is_found(&Impostor {
         step: longer,
+        ..HONEST
+    }));
+}
+
+/// The recipe with `change` made of each num in it; `None` where a part is no term.
+fn with_nums(recipe: &[u8], change: fn(u16) -> u16) -> Option<Vec<u8>> {
+    let (table, terms) = table_and_terms(recipe)?;
+    let mut parts = vec![table.to_vec()];
+    for term in terms {
+        let nodes = read_term(term)?.into_iter().map(|node| match node {
+            Node::Num(value) => Node::Num(change(value)),
+            other => other,
+        });
+        parts.push(write_term(&nodes.collect::<Vec<Node>>()));
+    }
+    Some(write_parts(&parts))
+}
+
+/// T-01, "A num may be 0 to 65,535".
+#[test]
+fn a_checker_that_still_refuses_a_num_above_1000() {
+    let bounded: Check = |recipe| {
+        let answer = check(recipe);
+        let lowered = with_nums(recipe, |value| value.min(1_000));
+        if answer.refusal == 0 && lowered.as_deref() != Some(recipe) {
+            return VerdictAnswer {
+                refusal: 5,
+                ..VerdictAnswer::default()
+            };
+        }
+        answer
+    };
+    assert!(is_found(&Impostor {
+        check: bounded,
+        ..HONEST
+    }));
+}
+
+#[test]
+fn a_loader_that_reads_a_num_modulo_1024() {
+    let modulo: Load = |recipe, out| match with_nums(recipe, |value| value % 1_024) {
+        Some(reduced) => load(&reduced, out),
+        None => load(recipe, out),
+    };
+    assert!(is_found(&Impostor {
+        load: modulo,
+        ..HONEST
+    }));
+}
+
+#[test]
+fn a_stepper_that_refuses_an_image_with_num_65535() {
+    let bounded: Step = |image, thread, out| {
+        let highest = [4, 0xFF, 0xFF];
+        if image.windows(highest.len()).any(|bytes| bytes == highest) {
+            return SteppedAnswer {
+                outcome: REFUSED,
+                number: 13,
+                length: 0,
+            };
+        }
+        step(image, thread, out)
+    };
+    assert!(is_found(&Impostor {
+        step: bounded,
         ..HONEST
     }));
 }

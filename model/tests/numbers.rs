@@ -49,14 +49,13 @@ const CAUSES: &[(&str, u64)] = numbers!(causes: FILE_LENGTH OPENING LAYOUT TYPE_
     TERM_SIZE SCOPE ANNOTATION TYPE LINEARITY BAY_ONCE BUFFER IMAGE NO_THREAD ROOM USED_HANDLE
     WRONG_KIND);
 
-const GROUPS: [Group; 11] = [
+const GROUPS: [Group; 10] = [
     group("FIKAREHU_", "Recipe", RECIPE),
     group("FIKAREHU_", "Image", IMAGE),
     group("FIKAREHU_KIND_", "Image", KINDS),
     group("FIKAREHU_TYPE_", "Type", TYPES),
     group("FIKAREHU_", "Type", ENTRIES),
     group("FIKAREHU_TAG_", "Node", TAGS),
-    group("FIKAREHU_", "Node", numbers!(limits: MAX_NUM)),
     group("FIKAREHU_", "recipe_file", numbers!(limits: ENTRY_LENGTH)),
     group("FIKAREHU_", "Rule", RULES),
     group("FIKAREHU_REFUSED_", "Cause", CAUSES),

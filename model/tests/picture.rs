@@ -108,6 +108,18 @@ fn sixteen_bays_and_their_words() {
 }
 
 #[test]
+fn what_no_vent_can_be_is_a_plain_number_and_scales_the_picture() {
+    let text = "bay 0 = exch[num ref →ω num →ω num] setting0 40000\n";
+    let file = made(text.as_bytes(), false).expect("a recipe");
+    let history = history(&file, 3, Order::RoundRobin(0));
+    check(&history);
+    let svg = picture("carbon dioxide", &history);
+    assert!(svg.contains(">bay 0: 40000<"));
+    assert!(svg.contains(">setting<") && svg.contains(">20000<") && svg.contains(">40000<"));
+    assert!(!svg.contains(" %<"));
+}
+
+#[test]
 fn generated_recipes_and_their_words() {
     on_deep_stack(|| {
         let mut draw = Draw::new(46);

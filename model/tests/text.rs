@@ -93,6 +93,15 @@ fn names_lines_and_comments_are_free() {
     assert_eq!(shadowed, bytes("bay 0 = λx:num. λy:unit. y"));
 }
 
+#[test]
+fn a_num_is_any_two_byte_number() {
+    for value in [0, 1_000, 1_001, u16::MAX] {
+        let file = bytes(&format!("bay 0 = {value}"));
+        let [low, high] = value.to_le_bytes();
+        assert!(file.ends_with(&[4, low, high]), "{value}");
+    }
+}
+
 /// The complaint, without whose verdict it is.
 fn complaint(text: &str) -> String {
     let told = made(text.as_bytes(), false).expect_err(text);
@@ -127,8 +136,8 @@ const ERRORS: &[(&str, &str)] = &[
     ),
     ("bay 0 = y", ":1:9: no λ here binds 'y'"),
     (
-        "bay 0 = 1001",
-        ":1:9: expected a num, at most 1000, found '1001'",
+        "bay 0 = 65536",
+        ":1:9: expected a num, at most 65535, found '65536'",
     ),
     (
         "bay 0 = exch setting0",
@@ -165,21 +174,21 @@ const ERRORS: &[(&str, &str)] = &[
     ("bay 0 = λx:t9. x", ":1:12: there is no t9 so far"),
     (
         "bay 0 = (-5)",
-        ":1:10: -5 is no num: a num is a whole number from 0 to 1000",
+        ":1:10: -5 is no num: a num is a whole number from 0 to 65535",
     ),
     (
         "bay 0 = 12.5",
-        ":1:9: 12.5 is no num: a num is a whole number from 0 to 1000, \
+        ":1:9: 12.5 is no num: a num is a whole number from 0 to 65535, \
          in tenths of a percent (12.5 percent is 125)",
     ),
     (
         "bay 0 = 0.0 ",
-        ":1:9: 0.0 is no num: a num is a whole number from 0 to 1000, \
+        ":1:9: 0.0 is no num: a num is a whole number from 0 to 65535, \
          in tenths of a percent (0.0 percent is 0)",
     ),
     (
         "bay 0 = 0x10",
-        ":1:9: 0x10 is no num: a num is a whole number from 0 to 1000",
+        ":1:9: 0x10 is no num: a num is a whole number from 0 to 65535",
     ),
     (
         "bay 0 = let x = 3 in x",

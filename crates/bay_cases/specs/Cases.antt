@@ -1,14 +1,15 @@
 -- Document 01, "Bay cases", and the sentences beside them, as rows of one table that is computed: a file, what check answers, what load leaves, and the steps of a run
 -- with their answers and images, by the very definitions that the contracts and the demands cite.
-use mathlib.Core.Path.{_≡_, refl}
+use mathlib.Core.Path.{_≡_, ap, ap₂, refl, _∙_}
 use mathlib.Core.List.{List, [], _∷_, _++_, map}
-use Prim.Native.Nat.{ℕ, suc, zero}
+use Prim.Native.Nat.{_%_, _*_, _+_, _/_, _<_, ℕ, suc, zero}
+use native.Mathlib.Omega.{arith}
 use lib.ListN.{length, replicate, take}
 use Rattle.calculus.specs.Syntax.{sum-in, sum-all}
 use Rattle.calculus.specs.Lists.{tabulate, each-below, sum-below}
-use Rattle.calculus.specs.Bytes.{two-bytes, word}
+use Rattle.calculus.specs.Bytes.{two-byte-values, two-bytes, word}
 use Rattle.calculus.specs.Names.{uses}
-use Rattle.calculus.specs.Image.{nodes, constant-test, expression-test, is-settled, is-awaited, handle-for, component-test, each-test, limits-test, image-test}
+use Rattle.calculus.specs.Image.{nodes, expression-test, is-settled, is-awaited, handle-for, component-test, each-test, limits-test, image-test}
 use Rattle.calculus.specs.Table.{test-entry, entry-test, entries-test, same-entry, new-to, distinct-test, entry-is, table-test, type-at}
 use Rattle.calculus.specs.Verdict.{on-function, on-once-function, on-cell, is-many, scoped-const, scoped, annotated-const, annotated, const-number, on-number, result-number, applied-number, lambda-number, type-number, outside-many, linear-parameter, linear, every, verdict}
 use Rattle.term.specs.Numbers.{value-of, little-endian}
@@ -176,6 +177,40 @@ unfoldable identities : ℕ → List ℕ
 identities zero = 0x04 ∷ 0x07 ∷ 0x00 ∷ []
 identities (suc n) = 0x02 ∷ 0x01 ∷ 0x03 ∷ 0x00 ∷ 0x00 ∷ identities n
 
+-- a bay that is a num: the num's two bytes in the file and in the starting image
+abbrev num-at : List ℕ → List ℕ → Row
+num-at file image = record {
+  file = file-of (T3 ∷ (0x04 ∷ file) ∷ []);
+  refusal = 0;
+  types = 1 ∷ [];
+  threads = [];
+  starting = 0x02 ∷ 0x00 ∷ 0x02 ∷ 0x00 ∷ 0x0E ∷ 0x00 ∷ 0x03 ∷ 0x00 ∷ 0x01 ∷ 0x00 ∷ 0x11 ∷ 0x00 ∷ 0x03 ∷ 0x00 ∷ 0x04 ∷ 0x00 ∷ 0x00 ∷ 0x04 ∷ image;
+  answers = [];
+  images = [];
+}
+
+abbrev num-row : List ℕ → Row
+num-row n = num-at n n
+
+-- the image of one bay whose setting is a num and whose thread is num 0
+abbrev num-set : List ℕ → List ℕ
+num-set n = (0x02 ∷ 0x00 ∷ 0x02 ∷ 0x00 ∷ 0x0E ∷ 0x00 ∷ 0x03 ∷ 0x00 ∷ 0x01 ∷ 0x00 ∷ 0x11 ∷ 0x00 ∷ 0x03 ∷ 0x00 ∷ 0x04 ∷ n) ++ (0x04 ∷ 0x00 ∷ 0x00 ∷ [])
+
+-- a num put into the setting: its two bytes in the file, in the starting image, and in the setting
+abbrev setting-at : List ℕ → List ℕ → List ℕ → Row
+setting-at file image setting = record {
+  file = file-of (T5 ∷ (0x02 ∷ 0x02 ∷ 0x06 ∷ 0x04 ∷ 0x09 ∷ 0x00 ∷ 0x04 ∷ file) ∷ []);
+  refusal = 0;
+  types = 1 ∷ [];
+  threads = 1 ∷ 1 ∷ [];
+  starting = 0x02 ∷ 0x00 ∷ 0x02 ∷ 0x00 ∷ 0x0E ∷ 0x00 ∷ 0x03 ∷ 0x00 ∷ 0x01 ∷ 0x00 ∷ 0x11 ∷ 0x00 ∷ 0x09 ∷ 0x00 ∷ 0x04 ∷ 0x00 ∷ 0x00 ∷ 0x02 ∷ 0x02 ∷ 0x06 ∷ 0x04 ∷ 0x09 ∷ 0x00 ∷ 0x04 ∷ image;
+  answers = Rule 7 20 ∷ Done ∷ [];
+  images = num-set setting ∷ num-set setting ∷ [];
+}
+
+abbrev setting-row : List ℕ → Row
+setting-row n = setting-at n n n
+
 -- document 01's ● cases
 abbrev bay-cases : List Row
 bay-cases =
@@ -189,16 +224,8 @@ bay-cases =
       answers = Done ∷ Refused 14 ∷ [];
       images = (0x02 ∷ 0x00 ∷ 0x02 ∷ 0x00 ∷ 0x0E ∷ 0x00 ∷ 0x03 ∷ 0x00 ∷ 0x01 ∷ 0x00 ∷ 0x11 ∷ 0x00 ∷ 0x01 ∷ 0x00 ∷ 0x04 ∷ 0x00 ∷ 0x00 ∷ 0x03 ∷ []) ∷ (0x02 ∷ 0x00 ∷ 0x02 ∷ 0x00 ∷ 0x0E ∷ 0x00 ∷ 0x03 ∷ 0x00 ∷ 0x01 ∷ 0x00 ∷ 0x11 ∷ 0x00 ∷ 0x01 ∷ 0x00 ∷ 0x04 ∷ 0x00 ∷ 0x00 ∷ 0x03 ∷ []) ∷ [];
     }
-    -- B: "accepted, type 1. One step, rule 7: the setting is 250, the thread is num 0"
-    ∷ record {
-      file = file-of (T5 ∷ (0x02 ∷ 0x02 ∷ 0x06 ∷ 0x04 ∷ 0x09 ∷ 0x00 ∷ 0x04 ∷ 0xFA ∷ 0x00 ∷ []) ∷ []);
-      refusal = 0;
-      types = 1 ∷ [];
-      threads = 1 ∷ [];
-      starting = 0x02 ∷ 0x00 ∷ 0x02 ∷ 0x00 ∷ 0x0E ∷ 0x00 ∷ 0x03 ∷ 0x00 ∷ 0x01 ∷ 0x00 ∷ 0x11 ∷ 0x00 ∷ 0x09 ∷ 0x00 ∷ 0x04 ∷ 0x00 ∷ 0x00 ∷ 0x02 ∷ 0x02 ∷ 0x06 ∷ 0x04 ∷ 0x09 ∷ 0x00 ∷ 0x04 ∷ 0xFA ∷ 0x00 ∷ [];
-      answers = Rule 7 20 ∷ [];
-      images = (0x02 ∷ 0x00 ∷ 0x02 ∷ 0x00 ∷ 0x0E ∷ 0x00 ∷ 0x03 ∷ 0x00 ∷ 0x01 ∷ 0x00 ∷ 0x11 ∷ 0x00 ∷ 0x03 ∷ 0x00 ∷ 0x04 ∷ 0xFA ∷ 0x00 ∷ 0x04 ∷ 0x00 ∷ 0x00 ∷ []) ∷ [];
-    }
+    -- B: "accepted, type 1. One step, rule 7: the setting is 250, the thread is num 0"; then it is done
+    ∷ setting-row (0xFA ∷ 0x00 ∷ [])
     -- C: "accepted. Rules 4, 1, 1, 5; then the thread is unit, name 2 is a thread holding name 2, handle 3 is used"
     ∷ record {
       file = file-of (T7 ∷ (0x02 ∷ 0x08 ∷ 0x06 ∷ 0x01 ∷ 0x05 ∷ 0x01 ∷ 0x04 ∷ 0x02 ∷ 0x00 ∷ 0x00 ∷ 0x00 ∷ 0x01 ∷ []) ∷ []);
@@ -219,18 +246,12 @@ bay-cases =
     ∷ refused-row (file-of (T3 ∷ (0x02 ∷ 0x03 ∷ 0x03 ∷ []) ∷ [])) 9
     -- H: "refused 7"
     ∷ refused-row (file-of (T3 ∷ (0x00 ∷ 0x00 ∷ []) ∷ [])) 7
-    -- I: "04 E8 03 accepted"
-    ∷ record {
-      file = file-of (T3 ∷ (0x04 ∷ 0xE8 ∷ 0x03 ∷ []) ∷ []);
-      refusal = 0;
-      types = 1 ∷ [];
-      threads = [];
-      starting = 0x02 ∷ 0x00 ∷ 0x02 ∷ 0x00 ∷ 0x0E ∷ 0x00 ∷ 0x03 ∷ 0x00 ∷ 0x01 ∷ 0x00 ∷ 0x11 ∷ 0x00 ∷ 0x03 ∷ 0x00 ∷ 0x04 ∷ 0x00 ∷ 0x00 ∷ 0x04 ∷ 0xE8 ∷ 0x03 ∷ [];
-      answers = [];
-      images = [];
-    }
-    -- I: "04 E9 03 refused 5"
-    ∷ refused-row (file-of (T3 ∷ (0x04 ∷ 0xE9 ∷ 0x03 ∷ []) ∷ [])) 5
+    -- I: "04 E8 03 accepted"; document 02, T-01: "the second half of case I becomes an accepted recipe"
+    ∷ num-row (0xE8 ∷ 0x03 ∷ [])
+    ∷ num-row (0xE9 ∷ 0x03 ∷ [])
+    -- T-01: "A num may be 0 to 65,535 in recipes and images"
+    ∷ num-row (0xFF ∷ 0xFF ∷ [])
+    ∷ setting-row (0xFF ∷ 0xFF ∷ [])
     ∷ []
 
 -- Fig. 8 with every multiplicity that it leaves free, and those that it and the narrowing fix. Slips told here: the narrowing of cell alone, of exch alone; thread only with
@@ -535,10 +556,6 @@ case-A : file-of (T3 ∷ (0x03 ∷ []) ∷ []) ≡
 unfolding file-of pairs-of joined two-bytes
 case-A = refl
 
-cases : map computed rows ≡ rows
-unfolding computed verdict-of refusal bay-type-numbers bay-type-number number-in bay-terms bay-term cause-5 cause-6 cause-4 table-of type-table file-of joined pairs-of two-bytes word bays parts offset-of length-of part table-bytes term-bytes outside cause-1 opens edition-known cause-2 pairs-test table-length-test cause-3 exp-of leaf-exp leaf-forms nesting one-term read read-term form-of forms value-of tabulate each-below sum-below uses nodes test-entry entry-test entries-test same-entry new-to distinct-test entry-is table-test on-function on-once-function on-cell is-many scoped-const scoped annotated-const annotated const-number on-number result-number applied-number lambda-number type-number outside-many linear-parameter linear every verdict starting-image renewed outcome-of out-after-step step-reply outcome-of-reply out-after-reply config-of decode components image-of encode terms-stand image-stands kind-test companion-test length-test head-agrees head-stands stand-from heads-stand names kind-at companion-at offset-in length-at expression-at encoded-at encoded-all head heads expressions image-bytes bytes const-bytes op-tag little-endian loaded bay-types with-type reply-of sum-in sum-all constant-test expression-test is-settled is-awaited handle-for component-test each-test limits-test image-test beside place-app place when-done step-call step-exchange step-meeting step-place step-of substitute plug run-of lambdas identities steps loaded-of load-refusal out-after-load term-of
-cases = refl
-
 -- the step of case C by rule 5: its image is the one that the third step leaves
 abbrev fourth-of-C : Step
 fourth-of-C = record {
@@ -547,7 +564,29 @@ fourth-of-C = record {
   call = call 1;
 }
 
--- it applies handle 3, and binds future 2
-case-C-binds : Binds fourth-of-C 2
-unfolding function-at verdict-of refusal bay-type-numbers bay-type-number number-in bay-terms bay-term cause-5 cause-6 cause-4 table-of type-table file-of joined pairs-of two-bytes word bays parts offset-of length-of part table-bytes term-bytes outside cause-1 opens edition-known cause-2 pairs-test table-length-test cause-3 exp-of leaf-exp leaf-forms nesting one-term read read-term form-of forms value-of tabulate each-below sum-below uses nodes test-entry entry-test entries-test same-entry new-to distinct-test entry-is table-test on-function on-once-function on-cell is-many scoped-const scoped annotated-const annotated const-number on-number result-number applied-number lambda-number type-number outside-many linear-parameter linear every verdict starting-image renewed outcome-of out-after-step step-reply outcome-of-reply out-after-reply config-of decode components image-of encode terms-stand image-stands kind-test companion-test length-test head-agrees head-stands stand-from heads-stand names kind-at companion-at offset-in length-at expression-at encoded-at encoded-all head heads expressions image-bytes bytes const-bytes op-tag little-endian loaded bay-types with-type reply-of sum-in sum-all constant-test expression-test is-settled is-awaited handle-for component-test each-test limits-test image-test beside place-app place when-done step-call step-exchange step-meeting step-place step-of substitute plug steps loaded-of load-refusal out-after-load term-of
-case-C-binds = (3, (32, refl, refl), refl)
+-- what is proved of them
+record Proved : Type 0 where
+  -- what is claimed is what is computed
+  table : map computed rows ≡ rows
+  -- document 02, T-01, "A num may be 0 to 65,535 in recipes": a bay that is any num
+  recipes : (n : ℕ) → n < two-byte-values → computed (num-row (two-bytes n)) ≡ num-row (two-bytes n)
+  -- "and images": any num that rule 7 puts into the setting
+  images : (n : ℕ) → n < two-byte-values → computed (setting-row (two-bytes n)) ≡ setting-row (two-bytes n)
+  -- case C's step by rule 5 applies handle 3, and binds future 2
+  binds : Binds fourth-of-C 2
+
+-- the number that two bytes of a number give
+abbrev read-back : ℕ → ℕ
+read-back n = n % 256 + 256 * (n / 256)
+
+same-num : (n : ℕ) → read-back n ≡ n
+same-num n = omega arith
+
+cases : Proved
+unfolding computed verdict-of refusal bay-type-numbers bay-type-number number-in bay-terms bay-term cause-5 cause-6 cause-4 table-of type-table file-of joined pairs-of two-bytes word bays parts offset-of length-of part table-bytes term-bytes outside cause-1 opens edition-known cause-2 pairs-test table-length-test cause-3 exp-of leaf-exp leaf-forms nesting one-term read read-term form-of forms value-of tabulate each-below sum-below uses nodes test-entry entry-test entries-test same-entry new-to distinct-test entry-is table-test on-function on-once-function on-cell is-many scoped-const scoped annotated-const annotated const-number on-number result-number applied-number lambda-number type-number outside-many linear-parameter linear every verdict starting-image renewed outcome-of out-after-step step-reply outcome-of-reply out-after-reply config-of decode components image-of encode terms-stand image-stands kind-test companion-test length-test head-agrees head-stands stand-from heads-stand names kind-at companion-at offset-in length-at expression-at encoded-at encoded-all head heads expressions image-bytes bytes const-bytes op-tag little-endian loaded bay-types with-type reply-of sum-in sum-all expression-test is-settled is-awaited handle-for component-test each-test limits-test image-test beside place-app place when-done step-call step-exchange step-meeting step-place step-of substitute plug run-of lambdas identities steps loaded-of load-refusal out-after-load term-of function-at
+cases = record {
+  table = refl;
+  recipes = λ n h. ap (λ m. num-at (two-bytes n) (two-bytes m)) (same-num n);
+  images = λ n h. ap₂ (λ m k. setting-at (two-bytes n) (two-bytes m) (two-bytes k)) (same-num n) (same-num (read-back n) ∙ same-num n);
+  binds = (3, (32, refl, refl), refl);
+}

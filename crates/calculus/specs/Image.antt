@@ -8,9 +8,10 @@ use Prim.Native.Nat.{_*_, _+_, _<_, _≤_, suc, ℕ}
 use lib.Dec.{eqb, ltb}
 use lib.ListN.{length}
 use Rattle.calculus.specs.Names.{count}
-use Rattle.calculus.specs.Syntax.{Const, unit, num, op, Exp, var, name, const, lam, app, Value, Component, thread-of, holds, open-for, used, awaited, Config, at, Allowed, constants, EachAll, In, sum-in, sum-all}
+use Rattle.calculus.specs.Syntax.{Const, unit, num, op, Exp, var, name, const, lam, app, Value, Component, thread-of, holds, open-for, used, awaited, Config, at, Allowed, In, sum-in, sum-all}
 use Rattle.calculus.specs.Step.{Place, place, on-place}
-use Rattle.calculus.specs.Limits.{max-num, max-names, max-nodes, byte-values, first-head, head-length}
+use Rattle.calculus.specs.Bytes.{two-byte-values}
+use Rattle.calculus.specs.Limits.{max-names, max-nodes, byte-values, first-head, head-length}
 
 -- document 01, "variables are bound inside them": every variable of e is bound in e, or by one of `depth` lambdas around it
 pub data Closed : ℕ → Exp → Type 0 where
@@ -19,12 +20,6 @@ pub data Closed : ℕ → Exp → Type 0 where
   closed-const : {depth : ℕ} {c : Const} → Closed depth (const c)
   closed-lam : {depth t : ℕ} {e : Exp} → Closed (suc depth) e → Closed depth (lam t e)
   closed-app : {depth : ℕ} {f a : Exp} → Closed depth f → Closed depth a → Closed depth (app f a)
-
--- document 01, "nums at most 1000"
-abbrev pub NumSmall : Const → Type 0
-NumSmall unit = Unit {0}
-NumSmall (num n) = n ≤ max-num
-NumSmall (op o t) = Unit {0}
 
 -- document 01, "every node of every expression counted"
 unfoldable pub nodes : Exp → ℕ
@@ -65,8 +60,6 @@ pub record ImageRule (C : Config) : Type 0 where
   pub bound : (x : ℕ) (c : Component) → at C x ≡ some c → In (Closed 0) c
   -- "names are below m"
   pub names-below : (x : ℕ) (c : Component) → at C x ≡ some c → (k : ℕ) → length C ≤ k → sum-in (count k) c ≡ 0
-  -- "nums at most 1000"
-  pub small : EachAll (constants NumSmall) C
   -- "Cells hold values"
   pub cells : (x : ℕ) (v : Exp) → at C x ≡ some (holds v) → Value v
   -- "each open handle's companion is of kind 5"
@@ -77,16 +70,11 @@ pub record ImageRule (C : Config) : Type 0 where
   pub limits : WithinLimits C
 
 -- the same as a test that computes (Theory.ImageTest, `image-test-iff`).
--- "variables are bound inside them, names are below m, nums at most 1000"
-unfoldable pub constant-test : Const → Bool
-constant-test unit = true
-constant-test (num n) = ltb n (suc max-num)
-constant-test (op o t) = true
-
+-- "variables are bound inside them, names are below m"
 unfoldable pub expression-test : ℕ → ℕ → Exp → Bool
 expression-test m depth (var i) = ltb i depth
 expression-test m depth (name k) = ltb k m
-expression-test m depth (const c) = constant-test c
+expression-test m depth (const c) = true
 expression-test m depth (lam t e) = expression-test m (suc depth) e
 expression-test m depth (app f a) = expression-test m depth f && expression-test m depth a
 
@@ -131,10 +119,10 @@ limits-test C = ltb (length C) (suc max-names) && ltb (nodes-all C) (suc max-nod
 unfoldable pub image-test : Config → Bool
 image-test C = each-test (component-test C) 0 C && limits-test C
 
--- what the node forms can write: "index byte", "type number" in one byte, nums as above. Of names `ImageRule` says it.
+-- what the node forms can write: "index byte", "type number" in one byte, a num's "two-byte value". Of names `ImageRule` says it.
 abbrev pub WritableConst : Const → Type 0
 WritableConst unit = Unit {0}
-WritableConst (num n) = n ≤ max-num
+WritableConst (num n) = n < two-byte-values
 WritableConst (op o t) = t < byte-values
 
 abbrev pub Writable : Allowed

@@ -6,7 +6,7 @@ use Rattle.calculus.specs.Syntax.{sum-in, sum-all}
 use Rattle.calculus.specs.Bytes.{word}
 use Rattle.calculus.specs.Lists.{each-below, tabulate}
 use Rattle.calculus.specs.Step.{beside, place, place-app}
-use Rattle.calculus.specs.Image.{component-test, constant-test, each-test, expression-test, handle-for, image-test, is-awaited, is-settled, limits-test, nodes}
+use Rattle.calculus.specs.Image.{component-test, each-test, expression-test, handle-for, image-test, is-awaited, is-settled, limits-test, nodes}
 use Rattle.term.specs.Forms.{form-of, forms}
 use Rattle.term.specs.Numbers.{value-of}
 use Rattle.term.specs.Reader.{one-term, read, read-term}
@@ -47,9 +47,9 @@ rows =
     ∷ record { slice = 1 ∷ 0 ∷ 1 ∷ 0 ∷ 8 ∷ 0 ∷ 2 ∷ 0 ∷ 0 ∷ 0 ∷ []; answer = Broken }
     ∷ record { slice = 1 ∷ 0 ∷ 1 ∷ 0 ∷ 8 ∷ 0 ∷ 2 ∷ 0 ∷ 9 ∷ 0 ∷ []; answer = Nodes 1 }
     ∷ record { slice = 1 ∷ 0 ∷ 1 ∷ 0 ∷ 8 ∷ 0 ∷ 2 ∷ 0 ∷ 9 ∷ 1 ∷ []; answer = Broken }
-    -- num 1000; num 1001; two terms; none
+    -- num 1000; num 65,535; two terms; none
     ∷ record { slice = 1 ∷ 0 ∷ 1 ∷ 0 ∷ 8 ∷ 0 ∷ 3 ∷ 0 ∷ 4 ∷ 0xE8 ∷ 3 ∷ []; answer = Nodes 1 }
-    ∷ record { slice = 1 ∷ 0 ∷ 1 ∷ 0 ∷ 8 ∷ 0 ∷ 3 ∷ 0 ∷ 4 ∷ 0xE9 ∷ 3 ∷ []; answer = Broken }
+    ∷ record { slice = 1 ∷ 0 ∷ 1 ∷ 0 ∷ 8 ∷ 0 ∷ 3 ∷ 0 ∷ 4 ∷ 0xFF ∷ 0xFF ∷ []; answer = Nodes 1 }
     ∷ record { slice = 1 ∷ 0 ∷ 1 ∷ 0 ∷ 8 ∷ 0 ∷ 2 ∷ 0 ∷ 3 ∷ 3 ∷ []; answer = Broken }
     ∷ record { slice = 1 ∷ 0 ∷ 1 ∷ 0 ∷ 8 ∷ 0 ∷ 0 ∷ 0 ∷ []; answer = Broken }
     ∷ []
@@ -59,5 +59,5 @@ Hold [] = Unit {0}
 Hold (r ∷ rs) = (checked (r .slice) ≡ r .answer) × Hold rs
 
 pub cases : Hold rows
-unfolding checked image-stands heads-stand stand-from head-stands head-agrees kind-test companion-test length-test names kind-at companion-at offset-at length-at expression-at encoded-at encoded-all word tabulate each-below terms-stand one-term read-term read form-of forms value-of exp-of leaf-exp leaf-forms config-of decode components image-test each-test component-test limits-test expression-test constant-test is-settled place place-app beside is-awaited sum-all handle-for nodes sum-in term-of
+unfolding checked image-stands heads-stand stand-from head-stands head-agrees kind-test companion-test length-test names kind-at companion-at offset-at length-at expression-at encoded-at encoded-all word tabulate each-below terms-stand one-term read-term read form-of forms value-of exp-of leaf-exp leaf-forms config-of decode components image-test each-test component-test limits-test expression-test is-settled place place-app beside is-awaited sum-all handle-for nodes sum-in term-of
 cases = (refl, (refl, (refl, (refl, (refl, (refl, (refl, (refl, (refl, (refl, (refl, (refl, (refl, (refl, (refl, (refl, (refl, (refl, (refl, tt)))))))))))))))))))

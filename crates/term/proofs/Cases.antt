@@ -1,15 +1,18 @@
 -- Terms of document 01's bay cases, and damaged ones, as antt computes them.
-use mathlib.Core.Path.{_≡_, refl}
+use mathlib.Core.Path.{_≡_, refl, sym}
 use mathlib.Core.Bool.{Bool, _&&_, false, true}
 use mathlib.Core.List.{List, [], _∷_}
-use Prim.Native.Nat.{ℕ}
+use Prim.Native.Nat.{_*_, _+_, ℕ}
+use native.Mathlib.Omega.{arith}
 use lib.Dec.{T}
 use Rattle.calculus.specs.Bytes.{two-bytes, word}
 use Rattle.calculus.specs.Syntax.{num, op, exch, handle, app, const, Exp, lam, name, var}
+use Rattle.term.specs.declared.Front.the-variants.{Is}
 use Rattle.term.specs.Numbers.{value-of}
-use Rattle.term.specs.Forms.{form-of, forms}
-use Rattle.term.specs.Reader.{one-term, read, read-term}
+use Rattle.term.specs.Forms.{form-of, forms, num-tag}
+use Rattle.term.specs.Reader.{node-of, one-term, read, read-term}
 use Rattle.term.specs.Expressions.{bytes, const-bytes, exp-of, leaf-exp, leaf-forms, op-tag, term-at, term-of}
+use Rattle.term.proofs.Nodes.{head-node}
 
 -- case B: exch applied to the setting and to 250
 abbrev term-B : Exp
@@ -51,11 +54,11 @@ every-is answer (l ∷ ls) = same answer (one-term (read-term l)) && every-is an
     same false true = false
     same false false = true
 
--- cases A, G, H, I
+-- cases A, G, H, I with both halves, and num 65,535
 abbrev terms : List (List ℕ)
-terms = (0x03 ∷ []) ∷ (0x02 ∷ 0x03 ∷ 0x03 ∷ []) ∷ (0x00 ∷ 0x00 ∷ []) ∷ (0x04 ∷ 0xE8 ∷ 0x03 ∷ []) ∷ []
+terms = (0x03 ∷ []) ∷ (0x02 ∷ 0x03 ∷ 0x03 ∷ []) ∷ (0x00 ∷ 0x00 ∷ []) ∷ (0x04 ∷ 0xE8 ∷ 0x03 ∷ []) ∷ (0x04 ∷ 0xE9 ∷ 0x03 ∷ []) ∷ (0x04 ∷ 0xFF ∷ 0xFF ∷ []) ∷ []
 
--- nothing, an unknown tag, a cut term, a cut head, bytes over, and case I's num above 1000
+-- nothing, an unknown tag, a cut term, a cut head, bytes over, and a num cut
 abbrev damaged : List (List ℕ)
 damaged =
     []
@@ -63,7 +66,7 @@ damaged =
     ∷ (0x02 ∷ 0x03 ∷ [])
     ∷ (0x01 ∷ [])
     ∷ (0x03 ∷ 0x03 ∷ [])
-    ∷ (0x04 ∷ 0xE9 ∷ 0x03 ∷ [])
+    ∷ (0x04 ∷ 0xE9 ∷ [])
     ∷ []
 
 are-terms : T (every-is true terms)
@@ -73,3 +76,8 @@ are-terms = tt
 are-damaged : T (every-is false damaged)
 unfolding one-term read-term read form-of forms value-of word
 are-damaged = tt
+
+-- document 02, T-01, "Refusal 5 no longer has a cause in a num's size": any two bytes after its tag are a num, whatever follows
+every-num : (low high : ℕ) (rest : List ℕ) → node-of (num-tag ∷ low ∷ high ∷ rest) ≡ Is (record { tag = num-tag; arg = low + 256 * high; size = 3; subterms = 0 })
+unfolding form-of forms value-of word
+every-num low high rest = sym (head-node (num-tag ∷ low ∷ high ∷ rest) (omega arith) (omega arith) (omega arith))

@@ -1,19 +1,18 @@
 -- Leaves by their tag, and the tags of the nodes that have subterms. What is said of every tag is one test or one row of proofs, tag by tag.
-use mathlib.Core.Path.{_≡_, ap, refl, subst, sym, _∙_}
-use mathlib.Core.Bool.{Bool, or-false, true}
+use mathlib.Core.Path.{_≡_, ap, refl, subst, sym}
+use mathlib.Core.Bool.{Bool}
 use mathlib.Core.List.{List, [], _∷_}
 use Prim.Native.Nat.{_+_, _-_, _<_, _≤_, suc, zero, ℕ}
 use native.Mathlib.Omega.{arith}
-use borrow.Author.Tests.{leb-true}
-use lib.Dec.{T, eqb, eqb→eq, leb}
+use lib.Dec.{T, eqb, eqb→eq}
 use lib.ListN.{getD, length}
 use Rattle.calculus.specs.Syntax.{Const, unit, num, Op, op, cell, exch, thread, handle, Exp, var, name, const, each-const, each-name, each-var}
 use Rattle.calculus.specs.Names.{count}
-use Rattle.calculus.specs.Limits.{byte-values, max-num}
+use Rattle.calculus.specs.Limits.{byte-values}
 use Rattle.calculus.specs.Image.{nodes, WritableConst}
 use Rattle.calculus.specs.Theory.Tests.{clash}
 use Rattle.calculus.specs.Theory.Expressions.{count-other}
-use Rattle.term.specs.Forms.{form-of, forms, in-range, variable-tag, lambda-tag, application-tag, unit-tag, num-tag, cell-tag, handle-tag, name-tag, subterms-of, tags}
+use Rattle.term.specs.Forms.{form-of, forms, variable-tag, lambda-tag, application-tag, unit-tag, num-tag, cell-tag, handle-tag, name-tag, subterms-of, tags}
 use Rattle.term.specs.Tree.{InTable, leaf}
 use Rattle.term.specs.Expressions.{const-tree, leaf-exp, leaf-forms, nesting, op-tag, tree-of, FitsBytes}
 use Rattle.term.proofs.Table.{below, end-of-row, every, every-at, Row, _∣_}
@@ -105,9 +104,6 @@ const-fits w = record { writable = each-const w; names = λ k le. refl }
 name-fits : (k : ℕ) → k < byte-values → FitsBytes (name k)
 name-fits k h = record { writable = each-name; names = λ j le. count-other j k (omega arith) }
 
-small-num : (n : ℕ) → in-range num-tag n ≡ true → n ≤ max-num
-small-num n e = leb-true n max-num (sym (or-false (leb n max-num)) ∙ e)
-
 pub leaf-fits : (tag arg : ℕ) → InTable tag arg 0 → FitsBytes (leaf-exp tag arg)
 unfolding leaf-exp leaf-forms form-of forms count
 leaf-fits tag arg w = below row tag (w .known) w
@@ -118,7 +114,7 @@ leaf-fits tag arg w = below row tag (w .known) w
         (λ w. const-fits {c = unit} tt) ∣
         (λ w. const-fits {c = unit} tt) ∣
         (λ w. const-fits {c = unit} tt) ∣
-        (λ w. const-fits {c = num arg} (small-num arg (w .low))) ∣
+        (λ w. const-fits {c = num arg} (w .fits)) ∣
         (λ w. const-fits {c = op cell arg} (w .fits)) ∣
         (λ w. const-fits {c = op exch arg} (w .fits)) ∣
         (λ w. const-fits {c = op thread arg} (w .fits)) ∣

@@ -5,17 +5,17 @@ use mathlib.Core.List.{List, [], _∷_, _++_}
 use Prim.Native.Nat.{ℕ, suc, _+_, _<_, _≤_}
 use native.Mathlib.Numerals.{one-add}
 use native.Mathlib.Omega.{arith}
-use borrow.Author.Tests.{ltb-true, leb-true, lt-ltb, le-ltb, le-leb, lt-leb, eq-eqb}
+use borrow.Author.Tests.{ltb-true, leb-true, lt-ltb, le-ltb, le-leb, lt-leb}
 use lib.Dec.{leb, ltb, leb→le}
 use lib.ListN.{length, getD, drop, length-append}
 use lib.Seq.{drop-at}
 use Rattle.calculus.specs.Bytes.{Bytes}
-use Rattle.calculus.specs.Limits.{max-num}
+use Rattle.calculus.specs.Theory.Tests.{and-parts}
 use Rattle.term.specs.declared.Form.{Form}
 use Rattle.term.specs.declared.Front.the-variants.{Is, Bad}
 use Rattle.term.specs.declared.Node.{Node}
 use Rattle.term.specs.Numbers.{little-endian, value-of}
-use Rattle.term.specs.Forms.{form, form-of, forms, in-range, num-tag, operand-of, subterms-of, tags}
+use Rattle.term.specs.Forms.{form, form-of, forms, operand-of, subterms-of, tags}
 use Rattle.term.specs.Tree.{node-bytes, InTable}
 use Rattle.term.specs.Reader.{front-node, front-operand, front-size, front-tag, node-of, front-stands}
 use Rattle.term.proofs.Table.{every-at}
@@ -41,24 +41,17 @@ pub record Heads (l : List ℕ) (h : Node) : Type 0 where
   pub at-subterms : subterms-of (h .tag) ≡ h .subterms
   pub known : h .tag < tags
   pub whole : h .size ≤ length l
-  pub low : in-range (h .tag) (h .arg) ≡ true
-
-all-true : (a b c d : Bool) → (a && b && c && d) ≡ true → (b ≡ true) × (c ≡ true) × (d ≡ true)
-all-true true true true d e = (refl, refl, e)
-all-true true true false d e = (refl, e, cc)
-all-true true false c d e = (e, cc, cc)
-all-true false b c d e = (cc, cc, cc)
 
 picked : (b : Bool) (h k : Node) → cond b (Is h) Bad ≡ Is k → (b ≡ true) × (h ≡ k)
 picked true h k e = (refl, cc)
 picked false h k e = (cc, cc)
 
 -- the tests of `front-stands` that passed
-stood : (l : List ℕ) → front-stands l ≡ true
-    → (front-tag l < tags) × (front-size l ≤ length l) × (in-range (front-tag l) (front-operand l) ≡ true)
+stood : (l : List ℕ) → front-stands l ≡ true → (front-tag l < tags) × (front-size l ≤ length l)
 stood l e =
-    let a = all-true (ltb 0 (length l)) (ltb (front-tag l) tags) (leb (front-size l) (length l)) (in-range (front-tag l) (front-operand l)) e in
-    (ltb-true (front-tag l) tags (a .0), leb-true (front-size l) (length l) (a .1), a .2)
+    let (tag, whole) = and-parts (ltb 0 (length l) && ltb (front-tag l) tags) (leb (front-size l) (length l)) e in
+    let (some, known) = and-parts (ltb 0 (length l)) (ltb (front-tag l) tags) tag in
+    (ltb-true (front-tag l) tags known, leb-true (front-size l) (length l) whole)
 
 pub head-is : (l : List ℕ) (h : Node) → node-of l ≡ Is h → Heads l h
 unfolding node-of
@@ -66,7 +59,7 @@ head-is l h e =
     let p = picked (front-stands l) (front-node l) h e in
     let s = stood l (p .0) in
     subst (Heads l) (p .1)
-    (record { at-tag = refl; at-arg = refl; at-size = refl; at-subterms = refl; known = s .0; whole = s .1; low = s .2 })
+    (record { at-tag = refl; at-arg = refl; at-size = refl; at-subterms = refl; known = s .0; whole = s .1 })
 
 -- the ways to `Bad`, and the way to a node
 module _ (l : List ℕ) where
@@ -84,16 +77,9 @@ module _ (l : List ℕ) where
       unfolding node-of
       head-cut h = simp (lt-ltb 0 (length l) some, lt-ltb (front-tag l) tags known, lt-leb (front-size l) (length l) h)
 
-      module _ (whole : front-size l ≤ length l) where
-        pub head-over : max-num < front-operand l → front-tag l ≡ num-tag → Bad ≡ node-of l
-        unfolding node-of
-        head-over h e =
-            simp (lt-ltb 0 (length l) some, lt-ltb (front-tag l) tags known, le-leb (front-size l) (length l) whole, lt-leb (front-operand l) max-num h, eq-eqb (front-tag l) num-tag e)
-
-        pub head-node : in-range (front-tag l) (front-operand l) ≡ true → Is (front-node l) ≡ node-of l
-        unfolding node-of
-        head-node h =
-            simp (lt-ltb 0 (length l) some, lt-ltb (front-tag l) tags known, le-leb (front-size l) (length l) whole, h)
+      pub head-node : front-size l ≤ length l → Is (front-node l) ≡ node-of l
+      unfolding node-of
+      head-node h = simp (lt-ltb 0 (length l) some, lt-ltb (front-tag l) tags known, le-leb (front-size l) (length l) h)
 
 -- a node that the table allows
 abbrev pub table-node : ℕ → ℕ → ℕ → Node
@@ -106,7 +92,7 @@ head-reads tag arg k rest a =
     let v : value-of (operand-of tag) (little-endian (operand-of tag) arg ++ rest) ≡ arg = value-bytes (operand-of tag) arg rest (operand-at-most tag) (a .fits) in
     let n : length (little-endian (operand-of tag) arg ++ rest) ≡ operand-of tag + length rest =
     simp (length-append, length-operand tag arg) in
-    simp (v, lt-ltb 0 (suc (length (little-endian (operand-of tag) arg ++ rest))) (omega arith), lt-ltb tag tags (a .known), le-leb (1 + operand-of tag) (suc (length (little-endian (operand-of tag) arg ++ rest))) (omega arith), a .low, a .shape)
+    simp (v, lt-ltb 0 (suc (length (little-endian (operand-of tag) arg ++ rest))) (omega arith), lt-ltb tag tags (a .known), le-leb (1 + operand-of tag) (suc (length (little-endian (operand-of tag) arg ++ rest))) (omega arith), a .shape)
 
 -- past it stands the rest
 pub head-past : (tag arg : ℕ) (rest : List ℕ) → drop (1 + operand-of tag) (node-bytes tag arg ++ rest) ≡ rest
@@ -127,5 +113,4 @@ head-allowed (x ∷ xs) h b e =
       known = e .known;
       shape = e .at-subterms;
       fits = rw (← e .at-arg, ← e .at-tag) (value-fits (operand-of x) xs (operand-at-most x) (λ i. b (suc i)));
-      low = e .low;
     }

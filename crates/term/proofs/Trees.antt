@@ -1,15 +1,15 @@
 -- An expression is the tree that it is written as, and what fits is well-formed.
 use mathlib.Core.Path.{_≡_, ap, ap₂, refl, sym, _∙_}
-use mathlib.Core.Bool.{Bool, false, or-false, or-true, true}
+use mathlib.Core.Bool.{Bool, false, true}
 use mathlib.Core.List.{[], _++_, _∷_}
 use Prim.Native.Nat.{_+_, _<_, ℕ}
 use native.Mathlib.Omega.{arith}
-use borrow.Author.Tests.{le-leb, ltb-true, ltb-false}
-use lib.Dec.{leb, ltb}
+use borrow.Author.Tests.{ltb-true, ltb-false}
+use lib.Dec.{ltb}
 use lib.ListN.{length}
 use Rattle.calculus.specs.Syntax.{Const, unit, num, op, Exp, var, name, const, lam, app, Op, cell, exch, thread, handle, each-var, each-const, each-lam, each-app}
 use Rattle.calculus.specs.Names.{count}
-use Rattle.calculus.specs.Limits.{byte-values, max-num}
+use Rattle.calculus.specs.Limits.{byte-values}
 use Rattle.calculus.specs.Image.{size, WritableConst}
 use Rattle.calculus.specs.Theory.Tests.{clash}
 use Rattle.calculus.specs.Theory.Expressions.{count-same}
@@ -89,31 +89,31 @@ exp-fits (two tag arg t u) (w, v, v′) =
     let g = exp-fits u v′ in
     record { writable = each-app (f .writable) (g .writable); names = λ k le. omega (arith, f .names k le, g .names k le) }
 
--- a node of the table that is no num has any operand that its bytes can say
+-- an operation has any operand that its byte can say
 op-in-table : (o : Op) (t : ℕ) → t < byte-values → InTable (op-tag o) t 0
 unfolding op-tag form-of forms
-op-in-table cell t h = record { known = omega arith; shape = refl; fits = h; low = or-true (leb t max-num) }
-op-in-table exch t h = record { known = omega arith; shape = refl; fits = h; low = or-true (leb t max-num) }
-op-in-table thread t h = record { known = omega arith; shape = refl; fits = h; low = or-true (leb t max-num) }
-op-in-table handle t h = record { known = omega arith; shape = refl; fits = h; low = or-true (leb t max-num) }
+op-in-table cell t h = record { known = omega arith; shape = refl; fits = h }
+op-in-table exch t h = record { known = omega arith; shape = refl; fits = h }
+op-in-table thread t h = record { known = omega arith; shape = refl; fits = h }
+op-in-table handle t h = record { known = omega arith; shape = refl; fits = h }
 
 const-well-formed : (c : Const) → WritableConst c → WellFormed (const-tree c)
 unfolding const-tree form-of forms
-const-well-formed unit w = record { known = omega arith; shape = refl; fits = omega arith; low = refl }
-const-well-formed (num n) w = record { known = omega arith; shape = refl; fits = omega arith; low = or-false (leb n max-num) ∙ le-leb n max-num w }
+const-well-formed unit w = record { known = omega arith; shape = refl; fits = omega arith }
+const-well-formed (num n) w = record { known = omega arith; shape = refl; fits = w }
 const-well-formed (op o t) w = op-in-table o t w
 
 pub tree-well-formed : (e : Exp) → FitsBytes e → WellFormed (tree-of e)
 unfolding tree-of form-of forms
-tree-well-formed (var i) f = record { known = omega arith; shape = refl; fits = fits-var f; low = or-true (leb i max-num) }
-tree-well-formed (name k) f = record { known = omega arith; shape = refl; fits = fits-name f; low = or-true (leb k max-num) }
+tree-well-formed (var i) f = record { known = omega arith; shape = refl; fits = fits-var f }
+tree-well-formed (name k) f = record { known = omega arith; shape = refl; fits = fits-name f }
 tree-well-formed (const c) f = const-well-formed c (fits-const f)
 tree-well-formed (lam t e) f =
     let (h, g) = fits-lam f in
-    (record { known = omega arith; shape = refl; fits = h; low = or-true (leb t max-num) }, tree-well-formed e g)
+    (record { known = omega arith; shape = refl; fits = h }, tree-well-formed e g)
 tree-well-formed (app f a) h =
     let (g, g′) = fits-app h in
-    (record { known = omega arith; shape = refl; fits = omega arith; low = refl }, tree-well-formed f g, tree-well-formed a g′)
+    (record { known = omega arith; shape = refl; fits = omega arith }, tree-well-formed f g, tree-well-formed a g′)
 
 -- The bytes of an expression are those of its tree
 

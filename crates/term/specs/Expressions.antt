@@ -33,7 +33,7 @@ bytes (app f a) = application-tag ∷ (bytes f ++ bytes a)
 bytes (const c) = const-bytes c
 bytes (name k) = name-tag ∷ k ∷ []
 
--- what can be written so: indices, type numbers and names in one byte, nums at most 1000
+-- what can be written so: indices, type numbers and names in one byte, nums in two
 pub record FitsBytes (e : Exp) : Type 0 where
   pub writable : Each Writable e
   pub names : (k : ℕ) → byte-values ≤ k → count k e ≡ 0

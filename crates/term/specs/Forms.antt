@@ -1,10 +1,7 @@
 -- Document 01, the table of node forms.
-use mathlib.Core.Bool.{Bool, _||_, not}
 use mathlib.Core.List.{List, [], _∷_}
 use Prim.Native.Nat.{ℕ}
-use lib.Dec.{eqb, leb}
 use lib.ListN.{getD}
-use Rattle.calculus.specs.Limits.{max-num}
 use Rattle.term.specs.declared.Form.{Form}
 
 -- the column "Tag"
@@ -61,7 +58,3 @@ operand-of tag = form-of tag .operand
 -- how many subterms a tag has
 abbrev pub subterms-of : ℕ → ℕ
 subterms-of tag = form-of tag .subterms
-
--- document 01, "constants 0 to 1000": a num is in range, and so is every operand of another node
-abbrev pub in-range : ℕ → ℕ → Bool
-in-range tag arg = leb arg max-num || not (eqb tag num-tag)

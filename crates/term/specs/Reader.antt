@@ -9,7 +9,7 @@ use Rattle.term.specs.declared.Front.{Front}
 use Rattle.term.specs.declared.Front.the-variants.{Bad, Is}
 use Rattle.term.specs.declared.Node.{Node}
 use Rattle.term.specs.Numbers.{value-of}
-use Rattle.term.specs.Forms.{in-range, operand-of, subterms-of, tags, unit-tag}
+use Rattle.term.specs.Forms.{operand-of, subterms-of, tags, unit-tag}
 use Rattle.term.specs.Tree.{Tree, leaf, one, tree-size, two}
 
 -- the tag at the front
@@ -24,9 +24,9 @@ front-size l = 1 + operand-of (front-tag l)
 abbrev pub front-operand : List ℕ → ℕ
 front-operand l = value-of (operand-of (front-tag l)) (drop 1 l)
 
--- document 01, cause 5: "unknown tag, cut, .. num above 1000". There is a tag, it is known, what is after it is whole, and a num is in range.
+-- document 01, cause 5: "unknown tag, cut". There is a tag, it is known, and what is after it is whole.
 abbrev pub front-stands : List ℕ → Bool
-front-stands l = ltb 0 (length l) && ltb (front-tag l) tags && leb (front-size l) (length l) && in-range (front-tag l) (front-operand l)
+front-stands l = ltb 0 (length l) && ltb (front-tag l) tags && leb (front-size l) (length l)
 
 -- nothing that is a term, or a term and what stands after it
 pub data Got : Type 0 where

@@ -1,11 +1,10 @@
 -- A term as a tree, for any table of node forms: a node is its tag, its operand as a number, and its subterms, of which there are 0, 1 or 2.
 use mathlib.Core.Path.{_≡_}
-use mathlib.Core.Bool.{true}
 use mathlib.Core.List.{List, _++_, _∷_}
 use Prim.Native.Nat.{_+_, _<_, _^_, max, ℕ}
 use Rattle.calculus.specs.Limits.{byte-values}
 use Rattle.term.specs.Numbers.{little-endian}
-use Rattle.term.specs.Forms.{in-range, operand-of, subterms-of, tags}
+use Rattle.term.specs.Forms.{operand-of, subterms-of, tags}
 
 -- a node with no subterm, with one, with two: its tag, its operand, its subterms
 pub data Tree : Type 0 where
@@ -46,7 +45,6 @@ pub record InTable (tag arg subterms : ℕ) : Type 0 where
   pub known : tag < tags
   pub shape : subterms-of tag ≡ subterms
   pub fits : arg < byte-values ^ operand-of tag
-  pub low : in-range tag arg ≡ true
 
 -- each node is one that the table has
 abbrev pub WellFormed : Tree → Type 0

@@ -3,7 +3,6 @@
 ghost use mathlib.Core.Path.{_≡_};
 ghost use Prim.Native.Nat.{_≤_, _<_};
 ghost use lib.ListN.{length, drop};
-ghost use Rattle.calculus.specs.Limits.{max-num};
 ghost use Rattle.term.specs.Numbers.{value-of};
 ghost use Rattle.term.specs.Forms.{form-of, tags};
 ghost use Rattle.term.specs.Reader.{node-at, node-of};
@@ -23,9 +22,6 @@ pub struct Node {
 }
 
 impl Node {
-    // Document 01: "constants 0 to 1000".
-    pub const MAX_NUM: usize = 1000;
-
     pub const VARIABLE: u8 = 0;
 
     pub const LAMBDA: u8 = 1;
@@ -99,12 +95,6 @@ pub const FORMS: [Form; Node::TAGS as usize] = [
     },
 ];
 
-pub fn max_num() -> usize
-    ensures { λ r. ⌜ r ≡ max-num ⌝ }
-{
-    Node::MAX_NUM
-}
-
 pub fn form_of(tag: u8) -> Form
     requires { ⌜ tag < tags ⌝ }
     ensures { λ r. ⌜ r ≡ form-of tag ⌝ }
@@ -143,11 +133,6 @@ pub fn node_of(s: &[u8]) -> Front
         return Front::Bad;
     }
     let arg = operand_of(s, form.operand);
-    if Node::MAX_NUM < arg {
-        if tag == Node::NUM {
-            return Front::Bad;
-        }
-    }
     Front::Is(Node {
         tag,
         arg,

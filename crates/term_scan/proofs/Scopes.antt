@@ -2,12 +2,11 @@
 use mathlib.Core.Path.{_≡_, ap, ap₂, refl, sym}
 use mathlib.Core.Bool.{_&&_, true}
 use Prim.Native.Nat.{_<_, _≤_, suc, ℕ}
-use native.Mathlib.Omega.{arith}
 use borrow.Author.Tests.{lt-ltb}
 use lib.Dec.{ltb}
 use Rattle.calculus.specs.Syntax.{Const, unit, num, op, Each, each-app, each-const, each-lam, each-name, each-var, Exp, var, name, const, lam, app}
-use Rattle.calculus.specs.Limits.{byte-values, max-num}
-use Rattle.calculus.specs.Image.{constant-test, expression-test, Writable, WritableConst}
+use Rattle.calculus.specs.Limits.{byte-values}
+use Rattle.calculus.specs.Image.{expression-test, Writable, WritableConst}
 use Rattle.calculus.specs.Verdict.{scoped, scoped-const}
 use Rattle.term.specs.Forms.{variable-tag, cell-tag, handle-tag, name-tag, tags}
 use Rattle.term.specs.Expressions.{leaf-exp, leaf-forms}
@@ -41,12 +40,12 @@ module _ (types names lambdas arg : ℕ) where
   unfolding scoped scoped-const
   scoped-unknown tag h = sym (ap (scoped types names lambdas) (leaf-unknown tag arg h))
 
--- an image asks no more than this of an expression that can be written: document 01, "variables are bound inside them, names are below m, nums at
--- most 1000, type bytes free"
-const-image : (c : Const) → WritableConst c → scoped-const byte-values c ≡ constant-test c
-unfolding scoped-const constant-test
+-- an image asks no more than this of an expression that can be written: document 01, "variables are bound inside them, names are below m, ..
+-- type bytes free"
+const-image : (c : Const) → WritableConst c → scoped-const byte-values c ≡ true
+unfolding scoped-const
 const-image unit w = refl
-const-image (num n) w = sym (lt-ltb n (suc max-num) (omega arith))
+const-image (num n) w = refl
 const-image (op o t) w = lt-ltb t byte-values w
 
 pub scoped-image : (m depth : ℕ) (e : Exp) → Each Writable e → scoped byte-values m depth e ≡ expression-test m depth e

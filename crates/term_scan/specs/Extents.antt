@@ -35,7 +35,7 @@ abbrev pub in-scope : Bool → Extent → Extent
 in-scope true x = x
 in-scope false x = Refused
 
--- document 01, cause 5, "a part is not exactly one term: unknown tag, cut, bytes over, num above 1000"
+-- document 01, cause 5, "a part is not exactly one term: unknown tag, cut, bytes over"
 abbrev pub exactly : Got → Part
 exactly none = NoTerm
 exactly (got t []) = Nodes (tree-nodes t)

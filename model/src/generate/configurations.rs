@@ -37,8 +37,8 @@ impl<'a> Maker<'a> {
     fn leaf(&mut self, lambdas: usize) {
         let node = match self.draw.below(6) {
             0 => Node::Unit,
-            1 if self.draw.one_in(3) => Node::Num(limits::MAX_NUM),
-            1 => Node::Num(self.draw.below(usize::from(limits::MAX_NUM) + 1) as u16),
+            1 if self.draw.one_in(3) => Node::Num(u16::MAX),
+            1 => Node::Num(self.draw.between(0, usize::from(u16::MAX)) as u16),
             2 => Node::Constant(self.draw.pick(&CONSTANTS), self.draw.byte()),
             3 | 4 if lambdas > 0 => Node::Variable(self.draw.below(lambdas.min(256)) as u8),
             _ => Node::Name(self.draw.below(self.names) as u8),

@@ -27,9 +27,8 @@ pub fn damage(image: &mut Vec<u8>, draw: &mut Draw) {
         return;
     }
     let at = draw.below(image.len());
-    match draw.below(13) {
-        10 => raise_a_num(image),
-        11 | 12 => open_a_used_handle(image, draw),
+    match draw.below(12) {
+        10 | 11 => open_a_used_handle(image, draw),
         0 => image[at] = draw.byte(),
         1 => image[at] ^= 1 << draw.below(8),
         2 => image[at] = image[at].wrapping_add(1),
@@ -40,14 +39,6 @@ pub fn damage(image: &mut Vec<u8>, draw: &mut Draw) {
         7 => damage_head(image, draw),
         8 => image[at] = draw.below(11) as u8,
         _ => lengthen(image, draw),
-    }
-}
-
-/// The first num 1000 becomes 1001.
-fn raise_a_num(image: &mut [u8]) {
-    let found = image.windows(3).position(|bytes| bytes == [4, 0xE8, 3]);
-    if let Some(at) = found {
-        image[at + 1] += 1;
     }
 }
 

@@ -97,7 +97,7 @@ fn change_operand(recipe: &mut Recipe, draw: &mut Draw) {
         Node::Variable(index) => *index = nearby(*index, draw),
         Node::Lambda(t) | Node::Constant(_, t) => *t = number,
         Node::Name(k) => *k = draw.below(bays + 2) as u8,
-        Node::Num(value) => *value = draw.pick(&[0, 999, 1000, 1001, 1024, 65_535]),
+        Node::Num(value) => *value = draw.pick(&[0, 255, 256, 1_000, 1_001, u16::MAX]),
         Node::Application | Node::Unit => {}
     }
 }

@@ -89,7 +89,7 @@ impl<'a> TermMaker<'a> {
         if !duties.is_empty() {
             return None;
         }
-        let value = self.draw.between(0, usize::from(limits::MAX_NUM)) as u16;
+        let value = self.draw.between(0, usize::from(u16::MAX)) as u16;
         let node = match goal {
             UNIT_ENTRY => Node::Unit,
             NUM_ENTRY => Node::Num(value),

@@ -108,7 +108,6 @@ fn scan(levels: &mut ExpressionLevels, bytes: &[u8], names: usize) -> Option<usi
         nodes += 1;
         let sound = match tag {
             tags::VARIABLE => usize::from(after[0]) < levels.lambdas(),
-            tags::NUM => u16::from_le_bytes([after[0], after[1]]) <= limits::MAX_NUM,
             tags::NAME => usize::from(after[0]) < names,
             _ => true,
         };

@@ -30,9 +30,6 @@ pub fn scan_term(bytes: &[u8], table: PlainTable, bays: usize) -> Result<Scanned
         let after = bytes
             .get(at + 1..at + 1 + form.after)
             .ok_or(causes::NO_TERM)?;
-        if tag == tags::NUM && u16::from_le_bytes([after[0], after[1]]) > limits::MAX_NUM {
-            return Err(causes::NO_TERM);
-        }
         scanned.nodes += 1;
         pending = pending - 1 + form.subterms;
         at += 1 + form.after;

@@ -55,7 +55,7 @@ const RUN: &str = "\
 recipe run FILE [--turns N] [--seed S | --order 1,2,..] [--svg OUT [--force]] [--progress]
 
 Checks, loads and steps the recipe, and prints for each turn the thread, its answer and the
-settings in tenths of a percent; at the end how the threads stand, and the vents.
+settings, up to 1000 in tenths of a percent; at the end how the threads stand, and the vents.
 
   --turns N       at most N turns (1000)
   --seed S        threads by chance, the same for the same S

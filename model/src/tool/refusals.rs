@@ -6,7 +6,7 @@ const CAUSES: [&str; 17] = [
     "first two bytes, edition, or n outside 2 to 17",
     "pairs break the layout; table length no multiple of 3, or outside 9 to 768",
     "a type entry breaks its rule",
-    "a part is not exactly one term: unknown tag, cut, bytes over, num above 1000",
+    "a part is not exactly one term: unknown tag, cut, bytes over",
     "nesting or nodes above the limit",
     "index with no lambda, name not below b, type number not below t",
     "lambda's type no function, constant's type no instance of Fig. 8, narrowing broken",

@@ -19,7 +19,7 @@ use Rattle.calculus.specs.State.{State}
 use Rattle.calculus.specs.Reply.{Reply, moved, waits, finished, refuses, reply-of}
 use Rattle.calculus.specs.Theory.ConfigRuns.{ConfigCall, config-reply, state-left, state-after, ConfigStep, config-steps, config-replied, ConfigBinds, ConfigDemand}
 use Rattle.calculus.specs.Recipe.{loaded, with-type, bay-types, start, Admitted}
-use Rattle.calculus.specs.Image.{nodes, const-size, size, image-length, constant-test, expression-test, is-settled, is-awaited, handle-for, component-test, each-test, limits-test, image-test, Writable}
+use Rattle.calculus.specs.Image.{nodes, const-size, size, image-length, expression-test, is-settled, is-awaited, handle-for, component-test, each-test, limits-test, image-test, Writable}
 use Rattle.calculus.specs.Table.{entry, Table, cell-reading, function-reading, read-entry, read-at, read-deep, type-at, test-entry, entry-test, entries-test, same-entry, new-to, distinct-test, entry-is, table-test}
 use Rattle.calculus.specs.Verdict.{on-function, on-once-function, on-cell, is-many, scoped-const, scoped, annotated-const, annotated, const-number, on-number, result-number, applied-number, lambda-number, type-number, outside-many, linear-parameter, linear, every, verdict}
 use Rattle.calculus.specs.Theory.Tests.{clash}
@@ -102,7 +102,7 @@ computed r = record {
 abbrev refused-row : Table → Exp → ℕ → Row
 refused-row T e k = record { table = T; terms = e ∷ []; verdict-is = k; type-numbers = []; threads = []; rules = []; last = [] }
 
--- document 01's ● cases, A to I (num 1001, refused 5, is no matter of the calculus). B: "One step, rule 7: the setting is 250, the thread is num 0".
+-- document 01's ● cases, A to I, the last with both halves, as document 02's T-01 has it. B: "One step, rule 7: the setting is 250, the thread is num 0".
 -- C: "Rules 4, 1, 1, 5; then the thread is unit, name 2 is a thread holding name 2, handle 3 is used".
 abbrev pub rows : List Row
 rows =
@@ -123,10 +123,11 @@ rows =
     refused-row T3 (app (const unit) (const unit)) 9 ∷
     refused-row T3 (var 0) 7 ∷
     record { table = T3; terms = const (num 1000) ∷ []; verdict-is = 0; type-numbers = some 1 ∷ []; threads = []; rules = []; last = holds (const (num 0)) ∷ thread-of (const (num 1000)) ∷ [] } ∷
+    record { table = T3; terms = const (num 1001) ∷ []; verdict-is = 0; type-numbers = some 1 ∷ []; threads = []; rules = []; last = holds (const (num 0)) ∷ thread-of (const (num 1001)) ∷ [] } ∷
     []
 
 cases : map computed rows ≡ rows
-unfolding computed end verdict every scoped scoped-const annotated annotated-const on-function on-once-function on-cell is-many test-entry type-number const-number on-number result-number applied-number lambda-number outside-many linear-parameter linear uses loaded with-type bay-types config-steps state-left config-reply reply-of image-test limits-test each-test component-test expression-test constant-test is-settled is-awaited handle-for sum-all nodes sum-in step-of step-place step-meeting step-call step-exchange when-done place place-app beside substitute plug function-at result-type future-and-handle coming new-types type-at read-deep read-at read-entry cell-reading function-reading
+unfolding computed end verdict every scoped scoped-const annotated annotated-const on-function on-once-function on-cell is-many test-entry type-number const-number on-number result-number applied-number lambda-number outside-many linear-parameter linear uses loaded with-type bay-types config-steps state-left config-reply reply-of image-test limits-test each-test component-test expression-test is-settled is-awaited handle-for sum-all nodes sum-in step-of step-place step-meeting step-call step-exchange when-done place place-app beside substitute plug function-at result-type future-and-handle coming new-types type-at read-deep read-at read-entry cell-reading function-reading
 cases = refl
 
 -- case A's image has 18 bytes, as document 01 shows it
@@ -146,17 +147,17 @@ lowest = (refl, refl, refl, refl)
 -- case C among steps that answer something else: done, 14, 12
 case-C-answers : map answered (config-steps (type-at T7) (start T7 (term-C ∷ [])) (call 1 ∷ call 0 ∷ call 1 ∷ record { thread = 1; buffer = 13825 } ∷ call 1 ∷ call 3 ∷ call 1 ∷ call 1 ∷ [])) ≡
     4 ∷ 14 ∷ 1 ∷ 12 ∷ 1 ∷ 14 ∷ 5 ∷ 0 ∷ []
-unfolding type-number const-number applied-number lambda-number on-function test-entry result-number on-number loaded with-type bay-types config-steps state-left config-reply reply-of image-test limits-test each-test component-test expression-test constant-test is-settled is-awaited handle-for sum-all nodes sum-in step-of step-place step-meeting step-call step-exchange when-done place place-app beside substitute plug function-at result-type future-and-handle coming new-types type-at read-deep read-at read-entry cell-reading function-reading
+unfolding type-number const-number applied-number lambda-number on-function test-entry result-number on-number loaded with-type bay-types config-steps state-left config-reply reply-of image-test limits-test each-test component-test expression-test is-settled is-awaited handle-for sum-all nodes sum-in step-of step-place step-meeting step-call step-exchange when-done place place-app beside substitute plug function-at result-type future-and-handle coming new-types type-at read-deep read-at read-entry cell-reading function-reading
 case-C-answers = refl
 
 -- the types of its names
 case-C-names : end (type-at T7) (start T7 (term-C ∷ [])) (replicate 4 (call 1)) .names ≡ ref num-type ∷ unit-type ∷ num-type ∷ fun once num-type unit-type ∷ []
-unfolding end type-number const-number applied-number lambda-number on-function test-entry result-number on-number loaded with-type bay-types config-steps state-left config-reply reply-of image-test limits-test each-test component-test expression-test constant-test is-settled is-awaited handle-for sum-all nodes sum-in step-of step-place step-meeting step-call step-exchange when-done place place-app beside substitute plug function-at result-type future-and-handle coming new-types type-at read-deep read-at read-entry cell-reading function-reading
+unfolding end type-number const-number applied-number lambda-number on-function test-entry result-number on-number loaded with-type bay-types config-steps state-left config-reply reply-of image-test limits-test each-test component-test expression-test is-settled is-awaited handle-for sum-all nodes sum-in step-of step-place step-meeting step-call step-exchange when-done place place-app beside substitute plug function-at result-type future-and-handle coming new-types type-at read-deep read-at read-entry cell-reading function-reading
 case-C-names = refl
 
 -- the last of the four applies handle 3 and binds future 2
 case-C-binds : (n : ConfigStep) × (at (config-steps (type-at T7) (start T7 (term-C ∷ [])) (replicate 4 (call 1))) 3 ≡ some n) × ConfigBinds n 2
-unfolding type-number const-number applied-number lambda-number on-function test-entry result-number on-number loaded with-type bay-types config-steps state-left config-reply reply-of image-test limits-test each-test component-test expression-test constant-test is-settled is-awaited handle-for sum-all nodes sum-in step-of step-place step-meeting step-call step-exchange when-done place place-app beside substitute plug function-at result-type future-and-handle coming new-types type-at read-deep read-at read-entry cell-reading function-reading
+unfolding type-number const-number applied-number lambda-number on-function test-entry result-number on-number loaded with-type bay-types config-steps state-left config-reply reply-of image-test limits-test each-test component-test expression-test is-settled is-awaited handle-for sum-all nodes sum-in step-of step-place step-meeting step-call step-exchange when-done place place-app beside substitute plug function-at result-type future-and-handle coming new-types type-at read-deep read-at read-entry cell-reading function-reading
 case-C-binds = (_, refl, (3, (_, refl, refl), refl))
 
 -- the third demand, of every run of it

@@ -9,11 +9,11 @@ use native.Mathlib.Decide.{decLt}
 use native.Mathlib.Omega.{arith}
 use lib.Dec.{eqb, ltb}
 use lib.ListN.{length}
-use Rattle.calculus.specs.Syntax.{Const, unit, num, op, Exp, var, name, const, lam, app, Value, Component, thread-of, holds, open-for, used, awaited, Config, at, constants, Each, each-var, each-name, each-const, each-lam, each-app, In, sum-in, sum-all}
+use Rattle.calculus.specs.Syntax.{Exp, var, name, const, lam, app, Value, Component, thread-of, holds, open-for, used, awaited, Config, at, In, sum-in, sum-all}
 use Rattle.calculus.specs.Names.{count}
 use Rattle.calculus.specs.Step.{Place, settled, meet, loose, place}
-use Rattle.calculus.specs.Limits.{max-num, max-names, max-nodes}
-use Rattle.calculus.specs.Image.{Closed, closed-var, closed-name, closed-const, closed-lam, closed-app, NumSmall, nodes-all, WithinLimits, ImageRule, constant-test, expression-test, is-settled, is-awaited, handle-for, component-test, each-test, limits-test, image-test}
+use Rattle.calculus.specs.Limits.{max-names, max-nodes}
+use Rattle.calculus.specs.Image.{Closed, closed-var, closed-name, closed-const, closed-lam, closed-app, nodes-all, WithinLimits, ImageRule, expression-test, is-settled, is-awaited, handle-for, component-test, each-test, limits-test, image-test}
 use Rattle.calculus.specs.Theory.Tests.{clash, and-true, and-parts, eqb-sound, eqb-complete, eqb-differ, ltb-sound, ltb-complete}
 use Rattle.calculus.specs.Theory.Expressions.{count-same}
 use Rattle.calculus.specs.Theory.Places.{place-sound, place-value, Placed}
@@ -31,43 +31,31 @@ limits-test-iff C = (
 
 -- expressions
 abbrev Kept : ℕ → ℕ → Exp → Type 0
-Kept m depth e = Closed depth e × ((k : ℕ) → m ≤ k → count k e ≡ 0) × Each (constants NumSmall) e
-
-constant-sound : (c : Const) → constant-test c ≡ true → NumSmall c
-unfolding constant-test
-constant-sound unit e = tt
-constant-sound (num n) e = let l = ltb-sound n (suc max-num) e in omega arith
-constant-sound (op o t) e = tt
-
-constant-complete : (c : Const) → NumSmall c → constant-test c ≡ true
-unfolding constant-test
-constant-complete unit s = refl
-constant-complete (num n) s = ltb-complete n (suc max-num) (omega arith)
-constant-complete (op o t) s = refl
+Kept m depth e = Closed depth e × ((k : ℕ) → m ≤ k → count k e ≡ 0)
 
 expression-sound : (m depth : ℕ) (e : Exp) → expression-test m depth e ≡ true → Kept m depth e
 unfolding expression-test count
-expression-sound m depth (var i) h = (closed-var (ltb-sound i depth h), λ k l. refl, each-var tt)
-expression-sound m depth (name j) h = (closed-name, λ k l. let p = ltb-sound j m h in rw (eqb-differ j k (λ q. omega arith)) refl, each-name)
-expression-sound m depth (const c) h = (closed-const, λ k l. refl, each-const (constant-sound c h))
-expression-sound m depth (lam t e) h = let (p, q, r) = expression-sound m (suc depth) e h in (closed-lam p, q, each-lam tt r)
+expression-sound m depth (var i) h = (closed-var (ltb-sound i depth h), λ k l. refl)
+expression-sound m depth (name j) h = (closed-name, λ k l. let p = ltb-sound j m h in rw (eqb-differ j k (λ q. omega arith)) refl)
+expression-sound m depth (const c) h = (closed-const, λ k l. refl)
+expression-sound m depth (lam t e) h = let (p, q) = expression-sound m (suc depth) e h in (closed-lam p, q)
 expression-sound m depth (app f a) h =
     let (g, b) = and-parts (expression-test m depth f) (expression-test m depth a) h in
-    let (p, q, r) = expression-sound m depth f g in
-    let (p′, q′, r′) = expression-sound m depth a b in
-    (closed-app p p′, λ k l. omega (arith, q k l, q′ k l), each-app r r′)
+    let (p, q) = expression-sound m depth f g in
+    let (p′, q′) = expression-sound m depth a b in
+    (closed-app p p′, λ k l. omega (arith, q k l, q′ k l))
 
-expression-complete : (m depth : ℕ) {e : Exp} → Closed depth e → ((k : ℕ) → m ≤ k → count k e ≡ 0) → Each (constants NumSmall) e → expression-test m depth e ≡ true
+expression-complete : (m depth : ℕ) {e : Exp} → Closed depth e → ((k : ℕ) → m ≤ k → count k e ≡ 0) → expression-test m depth e ≡ true
 unfolding expression-test count
-expression-complete m depth (closed-var {i = i} l) n s = ltb-complete i depth l
-expression-complete m depth (closed-name {k = k}) n s = elim (decLt k m) [
+expression-complete m depth (closed-var {i = i} l) n = ltb-complete i depth l
+expression-complete m depth (closed-name {k = k}) n = elim (decLt k m) [
   | yes l ↦ ltb-complete k m l
   | no l ↦ absurd (clash (let p = n k (omega arith) in let q = count-same k in cc))
 ]
-expression-complete m depth closed-const n (each-const {c = c} s) = constant-complete c s
-expression-complete m depth (closed-lam p) n (each-lam u s) = expression-complete m (suc depth) p n s
-expression-complete m depth (closed-app p q) n (each-app s s′) =
-    and-true (expression-complete m depth p (λ k l. omega (arith, n k l)) s) (expression-complete m depth q (λ k l. omega (arith, n k l)) s′)
+expression-complete m depth closed-const n = refl
+expression-complete m depth (closed-lam p) n = expression-complete m (suc depth) p n
+expression-complete m depth (closed-app p q) n =
+    and-true (expression-complete m depth p (λ k l. omega (arith, n k l))) (expression-complete m depth q (λ k l. omega (arith, n k l)))
 
 -- values
 pub settled-value : (e : Exp) → is-settled (place e) ≡ true → Value e
@@ -181,7 +169,6 @@ image-test-iff C = (there, back)
     there h = record {
       bound = λ x c p. bound x c (at-test x c p);
       names-below = λ x c p. below x c (at-test x c p);
-      small = λ x c p. small x c (at-test x c p);
       cells = λ x v p. settled-value v (and-parts (expression-test (length C) 0 v) (is-settled (place v)) (at-test x (holds v) p) .1);
       companions = λ z y p. awaited-sound (at C y) (at-test z (open-for y) p);
       futures = λ y p. handles-one y C (eqb-sound (sum-all (handle-for y) C) 1 (at-test y awaited p));
@@ -211,19 +198,12 @@ image-test-iff C = (there, back)
         below x used t = λ k l. refl
         below x awaited t = λ k l. refl
 
-        small : (x : ℕ) (c : Component) → component-test C x c ≡ true → In (Each (constants NumSmall)) c
-        small x (thread-of e) t = expression-sound (length C) 0 e t .2
-        small x (holds v) t = kept v t .2
-        small x (open-for y) t = tt
-        small x used t = tt
-        small x awaited t = tt
-
     back : ImageRule C → image-test C ≡ true
     back w = and-true (each-complete (component-test C) 0 C (λ x c p. let z : x + 0 ≡ x = omega arith in rw z (one x c p))) (limits-test-iff C .1 (w .limits))
       where
         one : (x : ℕ) (c : Component) → at C x ≡ some c → component-test C x c ≡ true
-        one x (thread-of e) p = expression-complete (length C) 0 (w .bound x (thread-of e) p) (w .names-below x (thread-of e) p) (w .small x (thread-of e) p)
-        one x (holds v) p = and-true (expression-complete (length C) 0 (w .bound x (holds v) p) (w .names-below x (holds v) p) (w .small x (holds v) p)) (value-complete (w .cells x v p))
+        one x (thread-of e) p = expression-complete (length C) 0 (w .bound x (thread-of e) p) (w .names-below x (thread-of e) p)
+        one x (holds v) p = and-true (expression-complete (length C) 0 (w .bound x (holds v) p) (w .names-below x (holds v) p)) (value-complete (w .cells x v p))
         one x (open-for y) p = rw (w .companions x y p) refl
         one x used p = refl
         one x awaited p = let (z, q, u) = w .futures x p in eqb-complete (sum-all (handle-for x) C) 1 (one-handles x C z q u)

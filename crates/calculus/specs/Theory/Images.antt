@@ -6,14 +6,14 @@ use mathlib.Core.List.{List, [], _∷_}
 use Prim.Native.Nat.{_*_, _≤_, ℕ}
 use native.Mathlib.Omega.{arith}
 use Rattle.calculus.specs.Types.{once, LinType, multiplicity}
-use Rattle.calculus.specs.Syntax.{Const, unit, num, op, Exp, var, name, const, lam, app, Component, thread-of, holds, open-for, used, awaited, Config, at, constants, Each, each-var, each-name, each-const, each-lam, each-app, EachAll, In, sum-in, sum-all}
+use Rattle.calculus.specs.Syntax.{Const, unit, num, op, Exp, var, name, const, lam, app, Component, thread-of, holds, open-for, used, awaited, Config, at, EachAll, In, sum-in, sum-all}
 use Rattle.calculus.specs.Typing.{TypeNumbers}
 use Rattle.calculus.specs.Reduction.{Rule, Reduces}
 use Rattle.calculus.specs.Names.{OnceName}
 use Rattle.calculus.specs.State.{State}
 use Rattle.calculus.specs.Theory.ConfigRuns.{ConfigCall, state-grown, state-after, ConfigStep, config-steps}
 use Rattle.calculus.specs.Limits.{max-image-length}
-use Rattle.calculus.specs.Image.{NumSmall, nodes, const-size, size, image-length, WithinLimits, ImageRule, WritableConst, Writable, Closed}
+use Rattle.calculus.specs.Image.{nodes, const-size, size, image-length, WithinLimits, ImageRule, Writable, Closed}
 use Rattle.calculus.specs.Theory.Tests.{clash}
 use Rattle.calculus.specs.Theory.Lists.{at-bound, at-below}
 use Rattle.calculus.specs.Theory.Expressions.{derivation-closed}
@@ -30,11 +30,10 @@ fits-closed τ S C x (open-for y) f = tt
 fits-closed τ S C x used f = tt
 fits-closed τ S C x awaited f = tt
 
-pub sound-image : {τ : TypeNumbers} {S : List LinType} {C : Config} → Sound τ S C → EachAll (constants NumSmall) C → WithinLimits C → ImageRule C
-sound-image {τ} {S} {C} s a w = record {
+pub sound-image : {τ : TypeNumbers} {S : List LinType} {C : Config} → Sound τ S C → WithinLimits C → ImageRule C
+sound-image {τ} {S} {C} s w = record {
   bound = λ x c h. fits-closed τ S C x c (s .fits x c h);
   names-below = λ x c h k l. absent-of s k l x c (s .fits x c h);
-  small = a;
   cells = λ x v h. s .fits x (holds v) h .2;
   companions = λ z y h. s .fits z (open-for y) h .4;
   futures = λ y h. let f = s .fits y awaited h in (f .0, f .1, λ z′ g. s .one-handle y z′ (f .0) g (f .1));
@@ -59,26 +58,6 @@ once-is-handle {τ} {S} {C} s k o = let c = at-below C k (omega (arith, at-bound
     go used h = inr h
     go awaited h = let f = s .fits k awaited h in let g = s .fits (f .0) (open-for k) (f .1) in
         let p = g .2 in let q = g .3 in absurd (clash (cc (t, m)))
-
--- what can be written has small nums
-writable-small : (c : Const) → WritableConst c → NumSmall c
-writable-small unit w = tt
-writable-small (num n) w = w
-writable-small (op o t) w = tt
-
-each-small : {e : Exp} → Each Writable e → Each (constants NumSmall) e
-each-small (each-var l) = each-var tt
-each-small each-name = each-name
-each-small (each-const {c = c} w) = each-const (writable-small c w)
-each-small (each-lam l s) = each-lam tt (each-small s)
-each-small (each-app p q) = each-app (each-small p) (each-small q)
-
-in-small : (c : Component) → In (Each Writable) c → In (Each (constants NumSmall)) c
-in-small (thread-of e) w = each-small w
-in-small (holds e) w = each-small w
-in-small (open-for y) w = tt
-in-small used w = tt
-in-small awaited w = tt
 
 -- no image is longer than 13,826 bytes: a node takes at most three
 const-size-bound : (c : Const) → const-size c ≤ 3
@@ -116,7 +95,7 @@ abbrev pub Good : TypeNumbers → State → Type 0
 Good τ s = SoundState τ s × EachAll Writable (s .config) × WithinLimits (s .config)
 
 pub good-image : {τ : TypeNumbers} {s : State} → Good τ s → ImageRule (s .config) × EachAll Writable (s .config)
-good-image (d, a, w) = (sound-image d (λ x c p. in-small c (a x c p)) w, a)
+good-image (d, a, w) = (sound-image d w, a)
 
 good-kept : (τ : TypeNumbers) (s : State) → Good τ s → (x : ℕ) (r : Rule) (C′ : Config) → Reduces (s .config) x r C′ → WithinLimits C′ → Good τ (state-grown τ s x C′)
 good-kept τ s g x r C′ d w = (preservation (g .0) d, each-step Writable tt (g .1) d, w)

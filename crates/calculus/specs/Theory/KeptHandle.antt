@@ -14,7 +14,7 @@ use Rattle.calculus.specs.NewTypes.{function-at, result-type, future-and
 use Rattle.calculus.specs.Reply.{reply-of}
 use Rattle.calculus.specs.Theory.ConfigRuns.{ConfigCall, config-reply, state-left, state-after, ConfigStep, config-steps}
 use Rattle.calculus.specs.Recipe.{loaded}
-use Rattle.calculus.specs.Image.{nodes, constant-test, expression-test, is-settled, is-awaited, handle-for, component-test, each-test, limits-test, image-test}
+use Rattle.calculus.specs.Image.{nodes, expression-test, is-settled, is-awaited, handle-for, component-test, each-test, limits-test, image-test}
 use Rattle.calculus.specs.Table.{entry, Table, cell-reading, function-reading, read-entry, read-at, read-deep, type-at, test-entry}
 use Rattle.calculus.specs.Verdict.{on-function, on-once-function, on-cell, is-many, scoped-const, scoped, annotated-const, annotated, const-number, on-number, result-number, applied-number, lambda-number, type-number, outside-many, linear-parameter, linear, every, verdict}
 use Rattle.calculus.specs.Theory.Progress.{Proper}
@@ -62,5 +62,5 @@ keeps-handle-runs :
     (map answered (config-steps (type-at T11) (loaded (keeps-handle ∷ []) (unit-type ∷ [])) (replicate 6 (call 1))) ≡ 4 ∷ 1 ∷ 1 ∷ 6 ∷ 7 ∷ 5 ∷ []) ×
     ((n : ConfigStep) × (at (config-steps (type-at T11) (loaded (keeps-handle ∷ []) (unit-type ∷ [])) (replicate 6 (call 1))) 4 ≡ some n) ×
     (at (n .before .config) 4 ≡ some (holds (name 3))) × (at (state-after (type-at T11) (n .before) (n .call) .config) 4 ≡ some (holds (lam 3 (const unit)))))
-unfolding loaded config-steps state-left config-reply reply-of image-test limits-test each-test component-test expression-test constant-test is-settled is-awaited handle-for sum-all nodes sum-in step-of step-place step-meeting step-call step-exchange when-done place place-app beside substitute plug function-at result-type future-and-handle coming new-types type-at read-deep read-at read-entry cell-reading function-reading
+unfolding loaded config-steps state-left config-reply reply-of image-test limits-test each-test component-test expression-test is-settled is-awaited handle-for sum-all nodes sum-in step-of step-place step-meeting step-call step-exchange when-done place place-app beside substitute plug function-at result-type future-and-handle coming new-types type-at read-deep read-at read-entry cell-reading function-reading
 keeps-handle-runs = (refl, (_, refl, refl, refl))

@@ -12,7 +12,7 @@ use Rattle.calculus.specs.NewTypes.{function-at, result-type, future-and
 use Rattle.calculus.specs.Reply.{reply-of}
 use Rattle.calculus.specs.Theory.ConfigRuns.{config-reply, state-left, config-steps}
 use Rattle.calculus.specs.Recipe.{loaded}
-use Rattle.calculus.specs.Image.{nodes, constant-test, expression-test, is-settled, is-awaited, handle-for, component-test, each-test, limits-test, image-test}
+use Rattle.calculus.specs.Image.{nodes, expression-test, is-settled, is-awaited, handle-for, component-test, each-test, limits-test, image-test}
 use Rattle.calculus.specs.Table.{entry, Table, test-entry}
 use Rattle.calculus.specs.Verdict.{on-function, on-once-function, on-cell, is-many, scoped-const, scoped, annotated-const, annotated, const-number, on-number, result-number, applied-number, lambda-number, type-number, outside-many, linear-parameter, linear, every, verdict}
 use Rattle.calculus.specs.Theory.Cases.{call, answered}
@@ -47,7 +47,7 @@ both-refused = (refl, refl)
 both-go-wrong : (τ : TypeNumbers) →
     (map answered (config-steps τ (loaded (runs-twice ∷ []) (unit-type ∷ [])) (replicate 9 (call 1))) ≡ 4 ∷ 1 ∷ 1 ∷ 1 ∷ 1 ∷ 5 ∷ 1 ∷ 1 ∷ 16 ∷ []) ×
     (map answered (config-steps τ (loaded (used-twice ∷ []) (unit-type ∷ [])) (replicate 6 (call 1))) ≡ 4 ∷ 1 ∷ 1 ∷ 5 ∷ 1 ∷ 16 ∷ [])
-unfolding loaded config-steps state-left config-reply reply-of image-test limits-test each-test component-test expression-test constant-test is-settled is-awaited handle-for sum-all nodes sum-in step-of step-place step-meeting step-call step-exchange when-done place place-app beside substitute plug function-at result-type future-and-handle coming new-types
+unfolding loaded config-steps state-left config-reply reply-of image-test limits-test each-test component-test expression-test is-settled is-awaited handle-for sum-all nodes sum-in step-of step-place step-meeting step-call step-exchange when-done place place-app beside substitute plug function-at result-type future-and-handle coming new-types
 both-go-wrong τ = (refl, refl)
 
 -- second, following a future "even in argument place": here rule 1 goes, with the name

@@ -1,16 +1,12 @@
 -- `term::node_of` meets its contract: at each `return` the tests that led there say which case of `node-of` holds (proofs/Nodes.antt).
 use mathlib.Core.Path.{_≡_, ap}
-use mathlib.Core.Bool.{true}
-use Prim.Native.Nat.{_<_}
 use native.Mathlib.Omega.{arith}
 use borrow.Author.Needs.{needs}
-use borrow.Author.Tests.{le-leb, lt-leb, ne-eqb}
 use lib.ListN.{getD}
-use Rattle.calculus.specs.Limits.{max-num}
 use Rattle.term.specs.declared.Form.{Form}
-use Rattle.term.specs.Forms.{in-range, num-tag, operand-of}
+use Rattle.term.specs.Forms.{operand-of}
 use Rattle.term.specs.Reader.{front-operand}
-use Rattle.term.proofs.Nodes.{operand-at-most, head-none, head-unknown, head-cut, head-over, head-node}
+use Rattle.term.proofs.Nodes.{operand-at-most, head-none, head-unknown, head-cut, head-node}
 use Rattle.term.proofs.node_of.Statement.{statement}
 use Rattle.term.proofs.node_of.Tie as tie
 
@@ -48,30 +44,11 @@ operand-of-requires c κs =
 
 returns-4 : tie.Need-returns-4
 returns-4 c =
-    let l = c .before .before .before .before .before .before .before .before .before .before .args .s .now in
-    let f = c .before .before .before .before .before .form-of in
+    let l = c .before .before .before .before .before .before .before .before .args .s .now in
+    let f = c .before .before .before .form-of in
     let o : f .result .operand ≡ operand-of (getD l 0 0) = ap (λ (x : Form). x .operand) (f .ensures) in
-    let a : c .before .before .operand-of .result ≡ front-operand l = rw (← o) (c .before .before .operand-of .ensures) in
-    head-over l (omega arith) (omega arith) (omega arith) (omega arith) (c .if5 .taken)
-
-returns-5 : tie.Need-returns-5
-returns-5 c =
-    let l = c .before .before .before .before .before .before .before .before .before .before .args .s .now in
-    let f = c .before .before .before .before .before .form-of in
-    let o : f .result .operand ≡ operand-of (getD l 0 0) = ap (λ (x : Form). x .operand) (f .ensures) in
-    let a : c .before .before .operand-of .result ≡ front-operand l = rw (← o) (c .before .before .operand-of .ensures) in
-    let over : max-num < front-operand l = omega arith in
-    let low : in-range (getD l 0 0) (front-operand l) ≡ true = simp (lt-leb (front-operand l) max-num over, ne-eqb (getD l 0 0) num-tag (c .if5 .left)) in
-    rw (a, f .ensures) (head-node l (omega arith) (omega arith) (omega arith) low)
-
-returns-6 : tie.Need-returns-6
-returns-6 c =
-    let l = c .before .before .before .before .before .before .before .before .before .args .s .now in
-    let f = c .before .before .before .before .form-of in
-    let o : f .result .operand ≡ operand-of (getD l 0 0) = ap (λ (x : Form). x .operand) (f .ensures) in
-    let a : c .before .operand-of .result ≡ front-operand l = rw (← o) (c .before .operand-of .ensures) in
-    let low : in-range (getD l 0 0) (front-operand l) ≡ true = simp (le-leb (front-operand l) max-num (omega arith)) in
-    rw (a, f .ensures) (head-node l (omega arith) (omega arith) (omega arith) low)
+    let a : c .operand-of .result ≡ front-operand l = rw (← o) (c .operand-of .ensures) in
+    rw (a, f .ensures) (head-node l (omega arith) (omega arith) (omega arith))
 
 pub node-of-spec : {M : Type 1} → statement M
 node-of-spec =
@@ -85,6 +62,4 @@ node-of-spec =
     add-size
     returns-3
     operand-of-requires
-    returns-4
-    returns-5
-    returns-6)
+    returns-4)

@@ -41,10 +41,6 @@ pub fn read(part: &[u8]) -> Reading {
 fn what_stands(rest: &[u8]) -> String {
     match rest {
         [] => "the part ends where a node should begin".to_owned(),
-        [4, low, high, ..] => {
-            let value = u16::from_le_bytes([*low, *high]);
-            format!("the num is {value}, above 1000")
-        }
         [tag @ 0..=9, ..] => format!("the part ends inside the node with tag {tag}"),
         [tag, ..] => format!("there is no tag {tag}"),
     }

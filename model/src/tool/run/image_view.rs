@@ -7,7 +7,7 @@ use crate::tags;
 /// What the setting of a bay holds.
 #[derive(Debug, Clone, Copy, PartialEq, Eq)]
 pub enum Vent {
-    /// Tenths of a percent.
+    /// A num: a vent's is in tenths of a percent.
     Open(u16),
     /// A name, and the num that a finished thread holds under it, if it does already.
     Named(u8, Option<u16>),

@@ -7,8 +7,11 @@ use std::fmt::Write;
 
 /// What the columns of the bays hold.
 pub const SIGNS: &str = "\
-settings in tenths of a percent; n5: holds name 5, still awaited; 300*: holds a name, which is 300
+settings, up to 1000 in tenths of a percent; n5: holds name 5, still awaited; 300*: holds a name, which is 300
 ";
+
+/// A vent that is wide open, in tenths of a percent.
+pub const WIDE_OPEN: u16 = 1_000;
 
 /// The line above the turns.
 pub fn heading(bays: usize) -> String {
@@ -85,14 +88,17 @@ pub fn vents(vents: &[Vent]) -> String {
 
 pub fn vent_in_words(vent: Vent) -> String {
     match vent {
-        Vent::Open(value) => percent(value),
-        Vent::Named(name, Some(value)) => format!("{} (held under name {name})", percent(value)),
+        Vent::Open(value) => setting(value),
+        Vent::Named(name, Some(value)) => format!("{} (held under name {name})", setting(value)),
         Vent::Named(name, None) => format!("awaits name {name}"),
         Vent::Unknown => "unknown".to_owned(),
     }
 }
 
-/// Tenths of a percent: 250 is 25.0 %.
-pub fn percent(value: u16) -> String {
+/// A setting: 250 is 25.0 %; what no vent can be is the plain number.
+pub fn setting(value: u16) -> String {
+    if value > WIDE_OPEN {
+        return value.to_string();
+    }
     format!("{}.{} %", value / 10, value % 10)
 }

@@ -1,21 +1,24 @@
 //! The vents over the turns: one line a bay.
 
-use crate::limits::{MAX_BAYS, MAX_NUM};
+use crate::limits::MAX_BAYS;
 use crate::tool::run::history::History;
 use crate::tool::run::image_view::Vent;
-use crate::tool::run::report::percent;
+use crate::tool::run::report::{setting, WIDE_OPEN};
 use crate::tool::svg::scale::Scale;
 use crate::tool::svg::sheet::{Anchor, Sheet};
 
 pub const HEIGHT: f64 = 320.0;
 const LEGEND_LINE: f64 = 18.0;
 
-/// The space above 100 percent and below 0, for lines that stand side by side.
+/// The space above the highest setting and below 0, for lines that stand side by side.
 const MARGIN: f64 = 18.0;
 /// How far equal lines stand apart, where there is room.
 const APART: f64 = 3.0;
 /// The widest line.
 const WIDEST: f64 = 2.0;
+
+/// How far the lines of the grid may stand apart: the last serves every num.
+const STEPS: [u16; 7] = [200, 500, 1_000, 2_000, 5_000, 10_000, 20_000];
 
 /// A colour for each bay; the bays from the ninth on are dashed too.
 const COLOURS: [&str; MAX_BAYS] = [
@@ -25,17 +28,62 @@ const COLOURS: [&str; MAX_BAYS] = [
 const DASHED_FROM: usize = 8;
 
 pub fn draw(sheet: &mut Sheet, top: f64, scale: &Scale, history: &History) {
-    grid(sheet, top, scale);
+    let heights = Heights::of(top, history);
+    grid(sheet, &heights, scale);
     for bay in 0..history.vents.len() {
-        bay_line(sheet, top, scale, history, bay);
+        bay_line(sheet, &heights, scale, history, bay);
     }
     scale.axis(sheet, top + HEIGHT);
     legend(sheet, top, scale, history);
 }
 
-fn y(top: f64, opening: u16) -> f64 {
-    let whole = HEIGHT - 2.0 * MARGIN;
-    top + HEIGHT - MARGIN - whole * f64::from(opening) / f64::from(MAX_NUM)
+/// How high settings stand: up to a vent that is wide open, or to the highest that is shown.
+struct Heights {
+    top: f64,
+    most: u16,
+}
+
+impl Heights {
+    fn of(top: f64, history: &History) -> Heights {
+        let shown = history.vents.iter().flatten();
+        let most = shown.filter_map(|(_, vent)| vent.opening()).max();
+        Heights {
+            top,
+            most: most.map_or(WIDE_OPEN, |most| most.max(WIDE_OPEN)),
+        }
+    }
+
+    fn y(&self, opening: u16) -> f64 {
+        let whole = HEIGHT - 2.0 * MARGIN;
+        self.top + HEIGHT - MARGIN - whole * f64::from(opening) / f64::from(self.most)
+    }
+
+    /// The settings with a line of their own, 0 and at most five others.
+    fn lines(&self) -> impl Iterator<Item = u16> {
+        let step = STEPS[STEPS.partition_point(|step| self.most / step > 5)];
+        (0..=self.most).step_by(usize::from(step))
+    }
+
+    /// Whether all that is shown may be a vent's: then in percent, else as it is.
+    fn are_vents(&self) -> bool {
+        self.most <= WIDE_OPEN
+    }
+
+    fn title(&self) -> &'static str {
+        if self.are_vents() {
+            "vent"
+        } else {
+            "setting"
+        }
+    }
+
+    fn label(&self, opening: u16) -> String {
+        if self.are_vents() {
+            format!("{} %", opening / 10)
+        } else {
+            opening.to_string()
+        }
+    }
 }
 
 /// How far the lines of that many bays stand apart.
@@ -50,15 +98,16 @@ fn lane(bay: usize, bays: usize) -> f64 {
     (bay as f64 - middle) * apart(bays)
 }
 
-fn grid(sheet: &mut Sheet, top: f64, scale: &Scale) {
-    let (left, right) = (scale.left, scale.left + scale.width);
-    for opening in (0..=1_000).step_by(200) {
-        let y = y(top, opening);
+fn grid(sheet: &mut Sheet, heights: &Heights, scale: &Scale) {
+    let (left, right, top) = (scale.left, scale.left + scale.width, heights.top);
+    for opening in heights.lines() {
+        let y = heights.y(opening);
         sheet.line((left, y), (right, y), "stroke=\"#ddd\"");
-        let label = format!("{} %", opening / 10);
+        let label = heights.label(opening);
         sheet.text((left - 8.0, y + 4.0), Anchor::End, 12, &label);
     }
-    sheet.text((left - 8.0, top - 10.0), Anchor::End, 12, "vent");
+    let title = (left - 8.0, top - 10.0);
+    sheet.text(title, Anchor::End, 12, heights.title());
     sheet.line((left, top), (left, top + HEIGHT), "stroke=\"#222\"");
 }
 
@@ -85,7 +134,7 @@ fn dotted(bay: usize) -> String {
 
 /// A stair for each stretch in which the opening is known; where it is awaited, a ring and dots at
 /// the last known opening.
-fn bay_line(sheet: &mut Sheet, top: f64, scale: &Scale, history: &History, bay: usize) {
+fn bay_line(sheet: &mut Sheet, heights: &Heights, scale: &Scale, history: &History, bay: usize) {
     let bays = history.vents.len();
     let (style, lane) = (style(bay, bays), lane(bay, bays));
     let changes = &history.vents[bay];
@@ -97,11 +146,14 @@ fn bay_line(sheet: &mut Sheet, top: f64, scale: &Scale, history: &History, bay: 
             .map_or(history.turns + 1, |(turn, _)| *turn);
         match vent.opening() {
             Some(opening) => {
-                let height = y(top, opening) + lane;
+                let height = heights.y(opening) + lane;
                 points.extend([(from, height), (scale.x(next), height)]);
             }
             None => {
-                let before = points.last().copied().unwrap_or((from, y(top, 0) + lane));
+                let before = points
+                    .last()
+                    .copied()
+                    .unwrap_or((from, heights.y(0) + lane));
                 flush(sheet, &mut points, &style);
                 let after = (scale.x(next), before.1);
                 sheet.line(before, after, &dotted(bay));
@@ -141,7 +193,7 @@ fn legend(sheet: &mut Sheet, top: f64, scale: &Scale, history: &History) {
         sheet.line((left, y), (left + 28.0, y), &style);
         let last = changes.last().map_or(Vent::Unknown, |(_, vent)| *vent);
         let value = match last {
-            Vent::Open(value) | Vent::Named(_, Some(value)) => percent(value),
+            Vent::Open(value) | Vent::Named(_, Some(value)) => setting(value),
             Vent::Named(name, None) => format!("awaits {name}"),
             Vent::Unknown => "?".to_owned(),
         };

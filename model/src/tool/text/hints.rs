@@ -1,7 +1,7 @@
 //! Help for what other languages write and a recipe does not have.
 
-const NUM: &str = "a num is a whole number from 0 to 1000";
-/// Nums are tenths of a percent.
+const NUM: &str = "a num is a whole number from 0 to 65535";
+/// A vent is set in tenths of a percent.
 const TENTHS: usize = 1;
 
 /// What to write instead of a word that a recipe does not have, to stand after a message.

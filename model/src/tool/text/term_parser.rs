@@ -1,7 +1,6 @@
 //! The terms of a text. The type of each subterm is found on the way, for the number of a lambda's
 //! type depends on the type of its body.
 
-use crate::limits;
 use crate::nodes::Node;
 use crate::table::{entry, MANY, ONCE};
 use crate::tool::text::hints;
@@ -133,7 +132,7 @@ impl<'t> Parser<'t> {
     fn leaf(&mut self, place: Position) -> Result<(Node, Result<u8, TextError>), TextError> {
         match self.peek() {
             Token::Number(_) => {
-                let value = self.number("a num", limits::MAX_NUM)?;
+                let value = self.number("a num", u16::MAX)?;
                 Ok((Node::Num(value), Ok(1)))
             }
             Token::Sign('@') => {
