@@ -2,8 +2,7 @@
 -- with their answers and images, by the very definitions that the contracts and the demands cite.
 use mathlib.Core.Path.{_≡_, ap, ap₂, refl, _∙_}
 use mathlib.Core.List.{List, [], _∷_, _++_, map}
-use Prim.Native.Nat.{_%_, _*_, _+_, _/_, _<_, ℕ, suc, zero}
-use native.Mathlib.Omega.{arith}
+use Prim.Native.Nat.{_<_, ℕ, suc, zero}
 use lib.ListN.{length, replicate, take}
 use Rattle.calculus.specs.Syntax.{sum-in, sum-all}
 use Rattle.calculus.specs.Lists.{tabulate, each-below, sum-below}
@@ -12,6 +11,7 @@ use Rattle.calculus.specs.Names.{uses}
 use Rattle.calculus.specs.Image.{nodes, expression-test, is-settled, is-awaited, handle-for, component-test, each-test, limits-test, image-test}
 use Rattle.calculus.specs.Table.{test-entry, entry-test, entries-test, same-entry, new-to, distinct-test, entry-is, table-test, type-at}
 use Rattle.calculus.specs.Verdict.{on-function, on-once-function, on-cell, is-many, scoped-const, scoped, annotated-const, annotated, const-number, on-number, result-number, applied-number, lambda-number, type-number, outside-many, linear-parameter, linear, every, verdict}
+use Rattle.buffer.specs.Theory.TwoBytes.{number-of-bytes}
 use Rattle.term.specs.Numbers.{value-of, little-endian}
 use Rattle.term.specs.Forms.{form-of, forms}
 use Rattle.term.specs.Reader.{one-term, read, read-term}
@@ -575,18 +575,11 @@ record Proved : Type 0 where
   -- case C's step by rule 5 applies handle 3, and binds future 2
   binds : Binds fourth-of-C 2
 
--- the number that two bytes of a number give
-abbrev read-back : ℕ → ℕ
-read-back n = n % 256 + 256 * (n / 256)
-
-same-num : (n : ℕ) → read-back n ≡ n
-same-num n = omega arith
-
 cases : Proved
 unfolding computed verdict-of refusal bay-type-numbers bay-type-number number-in bay-terms bay-term cause-5 cause-6 cause-4 table-of type-table file-of joined pairs-of two-bytes word bays parts offset-of length-of part table-bytes term-bytes outside cause-1 opens edition-known cause-2 pairs-test table-length-test cause-3 exp-of leaf-exp leaf-forms nesting one-term read read-term form-of forms value-of tabulate each-below sum-below uses nodes test-entry entry-test entries-test same-entry new-to distinct-test entry-is table-test on-function on-once-function on-cell is-many scoped-const scoped annotated-const annotated const-number on-number result-number applied-number lambda-number type-number outside-many linear-parameter linear every verdict starting-image renewed outcome-of out-after-step step-reply outcome-of-reply out-after-reply config-of decode components image-of encode terms-stand image-stands kind-test companion-test length-test head-agrees head-stands stand-from heads-stand names kind-at companion-at offset-in length-at expression-at encoded-at encoded-all head heads expressions image-bytes bytes const-bytes op-tag little-endian loaded bay-types with-type reply-of sum-in sum-all expression-test is-settled is-awaited handle-for component-test each-test limits-test image-test beside place-app place when-done step-call step-exchange step-meeting step-place step-of substitute plug run-of lambdas identities steps loaded-of load-refusal out-after-load term-of function-at
 cases = record {
   table = refl;
-  recipes = λ n h. ap (λ m. num-at (two-bytes n) (two-bytes m)) (same-num n);
-  images = λ n h. ap₂ (λ m k. setting-at (two-bytes n) (two-bytes m) (two-bytes k)) (same-num n) (same-num (read-back n) ∙ same-num n);
+  recipes = λ n h. ap (λ m. num-at (two-bytes n) (two-bytes m)) (number-of-bytes n);
+  images = λ n h. ap₂ (λ m k. setting-at (two-bytes n) (two-bytes m) (two-bytes k)) (number-of-bytes n) (number-of-bytes _ ∙ number-of-bytes n);
   binds = (3, (32, refl, refl), refl);
 }
