@@ -4,10 +4,12 @@
 use model::answers::{
     Implementation, LoadedAnswer, Model, SteppedAnswer, VerdictAnswer, DONE, REFUSED, RULE, WAITING,
 };
+use model::causes;
 use model::command::on_deep_stack;
 use model::comparison::Comparison;
 use model::format::{table_and_terms, write_parts};
 use model::nodes::{read_term, write_term, Node};
+use model::tags;
 use std::sync::Mutex;
 
 type Check = fn(&[u8]) -> VerdictAnswer;
@@ -211,7 +213,7 @@ fn a_checker_that_still_refuses_a_num_above_1000() {
         let lowered = with_nums(recipe, |value| value.min(1_000));
         if answer.refusal == 0 && lowered.as_deref() != Some(recipe) {
             return VerdictAnswer {
-                refusal: 5,
+                refusal: causes::NO_TERM,
                 ..VerdictAnswer::default()
             };
         }
@@ -238,11 +240,11 @@ fn a_loader_that_reads_a_num_modulo_1024() {
 #[test]
 fn a_stepper_that_refuses_an_image_with_num_65535() {
     let bounded: Step = |image, thread, out| {
-        let highest = [4, 0xFF, 0xFF];
+        let highest = [tags::NUM, 0xFF, 0xFF];
         if image.windows(highest.len()).any(|bytes| bytes == highest) {
             return SteppedAnswer {
                 outcome: REFUSED,
-                number: 13,
+                number: causes::IMAGE,
                 length: 0,
             };
         }

@@ -5,6 +5,7 @@ use model::command::on_deep_stack;
 use model::draw::Draw;
 use model::examples;
 use model::generate::recipes;
+use model::tags;
 use model::tool::judge::NAME;
 use model::tool::show::shown;
 use model::tool::text::spelling::{ASCII, UNICODE};
@@ -98,7 +99,7 @@ fn a_num_is_any_two_byte_number() {
     for value in [0, 1_000, 1_001, u16::MAX] {
         let file = bytes(&format!("bay 0 = {value}"));
         let [low, high] = value.to_le_bytes();
-        assert!(file.ends_with(&[4, low, high]), "{value}");
+        assert!(file.ends_with(&[tags::NUM, low, high]), "{value}");
     }
 }
 

@@ -568,7 +568,7 @@ fourth-of-C = record {
 record Proved : Type 0 where
   -- what is claimed is what is computed
   table : map computed rows ≡ rows
-  -- document 02, T-01, "A num may be 0 to 65,535 in recipes": a bay that is any num
+  -- document 02, T-01, "A num may be 0 to 65,535 in recipes": a bay that is any num; the bound says that its two bytes are bytes
   recipes : (n : ℕ) → n < two-byte-values → computed (num-row (two-bytes n)) ≡ num-row (two-bytes n)
   -- "and images": any num that rule 7 puts into the setting
   images : (n : ℕ) → n < two-byte-values → computed (setting-row (two-bytes n)) ≡ setting-row (two-bytes n)
