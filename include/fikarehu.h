@@ -31,9 +31,9 @@ extern "C" {
 #endif
 
 /* This header's version. */
-#define FIKAREHU_VERSION "0.2.0"
+#define FIKAREHU_VERSION "0.3.0"
 #define FIKAREHU_VERSION_MAJOR 0
-#define FIKAREHU_VERSION_MINOR 2
+#define FIKAREHU_VERSION_MINOR 3
 #define FIKAREHU_VERSION_PATCH 0
 
 /* The limits of a recipe. */
@@ -114,7 +114,7 @@ enum {
     FIKAREHU_REFUSED_TERM_SIZE = 6,    /* nesting or nodes above the limit */
     FIKAREHU_REFUSED_SCOPE = 7,        /* index with no lambda, name not below b, type number not below t */
     FIKAREHU_REFUSED_ANNOTATION = 8,   /* lambda's type no function, constant's type no instance of Fig. 8
-                                          (handle as document 01 has it), narrowing broken */
+                                          (handle as document 01 has it) */
     FIKAREHU_REFUSED_TYPE = 9,         /* application of a non-function, argument or body of another type */
     FIKAREHU_REFUSED_LINEARITY = 10,   /* a once-variable not used exactly once, or free under a many-lambda */
     FIKAREHU_REFUSED_BAY_ONCE = 11,    /* a bay's type has multiplicity once */

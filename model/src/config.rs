@@ -44,6 +44,22 @@ impl Configuration {
         &self.components[usize::from(name)]
     }
 
+    /// The open handles that cells hold.
+    pub fn kept_handles(&self) -> Vec<u8> {
+        let held = self
+            .components
+            .iter()
+            .filter_map(|component| match component {
+                Component::Cell(value) => match **value {
+                    Expression::Name(held) => Some(held),
+                    _ => None,
+                },
+                _ => None,
+            });
+        let is_open = |name: &u8| matches!(self.get(*name), Component::OpenHandle(_));
+        held.filter(is_open).collect()
+    }
+
     /// "every node of every expression counted"
     pub fn nodes(&self) -> usize {
         let expressions = self.components.iter().filter_map(Component::expression);

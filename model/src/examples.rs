@@ -105,6 +105,7 @@ pub fn all() -> Vec<Example> {
         nine_bays(),
         dosing(),
         mutex(),
+        kept_handle(),
         recursion(),
         waiting(),
         waiting_for_ever(),
@@ -211,6 +212,53 @@ fn mutex_term(types: &mut Types, pass: u8, whole_mutex: u8) -> Term {
         whole_mutex,
         apply(constant(Constant::Handle, handle), handled),
     )
+}
+
+fn kept_handle() -> Example {
+    let text = "A handle kept in a cell, document 02's T-02: the port of section 5 of the paper \
+                without its stream. The vent of bay 0 takes the first reading, which is still to \
+                come. Putting a reading takes the handle out of the cell, puts a new one in, and \
+                binds the reading to the former one's future. Two readings are put; the vent opens \
+                to 25.0 percent with the first.";
+    let mut types = Types::new();
+    let exch_setting = setting_exch(&mut types);
+    let bind = types.once(NUM, UNIT);
+    let cell = types.cell(bind);
+    let with_bind = types.many(bind, UNIT);
+    let with_future = types.many(NUM, with_bind);
+    let handle = types.many(with_future, UNIT);
+    let put = types.many(NUM, UNIT);
+    let exchanged = types.many(bind, bind);
+    let exch = types.many(cell, exchanged);
+    // under putr, x, s, bind: putr is 3, x is 2, bind is 0
+    let former = apply(
+        apply(constant(Constant::Exch, exch), variable(3)),
+        variable(0),
+    );
+    let new_end = lambda(with_future, lambda(with_bind, apply(former, variable(2))));
+    let put_term = lambda(put, apply(constant(Constant::Handle, handle), new_end));
+    let then = types.many(UNIT, UNIT);
+    let both = apply(
+        lambda(then, apply(variable(1), num(400))),
+        apply(variable(0), num(250)),
+    );
+    let with_put = types.many(put, UNIT);
+    let with_cell = types.many(cell, UNIT);
+    let new_cell = types.many(bind, cell);
+    let port = lambda(with_cell, apply(lambda(with_put, both), put_term));
+    // under s, bind and the former setting: bind is 1
+    let kept = apply(constant(Constant::Cell, new_cell), variable(1));
+    let with_former = types.once(NUM, UNIT);
+    let vent = apply(
+        apply(constant(Constant::Exch, exch_setting), setting(0)),
+        variable(1),
+    );
+    let body = apply(lambda(with_former, apply(port, kept)), vent);
+    let term = apply(
+        constant(Constant::Handle, handle),
+        lambda(with_future, lambda(with_bind, body)),
+    );
+    example("kept-handle", text, types.recipe(vec![term]))
 }
 
 fn recursion() -> Example {
@@ -345,16 +393,17 @@ fn refused_7() -> Example {
 }
 
 fn refused_8() -> Example {
-    let text = "Refused 8: the narrowing is broken. The contents of the new cell would be usable \
-                once.";
+    let text =
+        "Refused 8: a constant's type is no instance of Fig. 8. The future of the new thread \
+                would be usable once.";
     let mut types = Types::new();
     let once = types.once(NUM, UNIT);
-    let cell = types.cell(once);
-    let whole = types.many(once, cell);
+    let body = types.many(once, once);
+    let whole = types.many(body, once);
     example(
         "refused-8",
         text,
-        types.recipe(vec![constant(Constant::Cell, whole)]),
+        types.recipe(vec![constant(Constant::Thread, whole)]),
     )
 }
 

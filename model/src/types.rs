@@ -56,7 +56,7 @@ impl Type {
 }
 
 /// "Typing of constants": whether `whole` is an instance of the constant's type in Fig. 8,
-/// with document 01's type of handle and its narrowing of cell and exch.
+/// with document 01's type of handle.
 pub fn is_instance(constant: Constant, whole: &Type) -> bool {
     let instance = match constant {
         Constant::Cell => is_cell_instance(whole),
@@ -67,17 +67,17 @@ pub fn is_instance(constant: Constant, whole: &Type) -> bool {
     instance.is_some()
 }
 
-/// cell : α →κ (α ref), |α| = ω by the narrowing.
+/// cell : α →κ (α ref), α of either multiplicity (document 02, T-02).
 fn is_cell_instance(whole: &Type) -> Option<()> {
     let (alpha, result) = whole.function()?;
     let contents = match &**result {
         Type::Cell(contents) => contents,
         _ => return None,
     };
-    (contents == alpha && alpha.is_many()).then_some(())
+    (contents == alpha).then_some(())
 }
 
-/// exch : α ref →κ α →κ' α, |α| = ω by the narrowing.
+/// exch : α ref →κ α →κ' α, α of either multiplicity (document 02, T-02).
 fn is_exch_instance(whole: &Type) -> Option<()> {
     let (cell, rest) = whole.function()?;
     let alpha = match &**cell {
@@ -85,7 +85,7 @@ fn is_exch_instance(whole: &Type) -> Option<()> {
         _ => return None,
     };
     let (new, old) = rest.function()?;
-    (new == alpha && old == alpha && alpha.is_many()).then_some(())
+    (new == alpha && old == alpha).then_some(())
 }
 
 /// thread : (α →κ α) →κ' α where |α| = ω.

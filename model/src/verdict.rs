@@ -126,8 +126,7 @@ fn names_nothing(table: &Table, bays: usize, term: &[Node]) -> bool {
     })
 }
 
-/// Cause 8: "lambda's type no function, constant's type no instance of Fig. 8 (handle as above),
-/// narrowing broken".
+/// Cause 8: "lambda's type no function, constant's type no instance of Fig. 8 (handle as above)".
 fn has_unfit_type(table: &Table, term: &[Node]) -> bool {
     let unfit = |node: &Node| match node {
         Node::Lambda(t) => table

@@ -1,4 +1,4 @@
-//! Document 01, "Bay cases" A to L.
+//! Document 01, "Bay cases" A to L, and document 02's cells that hold a handle.
 
 mod common;
 
@@ -114,6 +114,54 @@ fn case_l() {
         step_first(&image_of(&[thread(&applied), cell(&[Node::Unit])])),
         Outcome::Refused(causes::WRONG_KIND)
     );
+}
+
+/// After T5's first three, 3: num once to unit, a handle; 4: cell of 3; 5: 3 to unit; 6: num to 5;
+/// 7: 6 to unit; 8: 4 to unit; 9: 3 to 4; 10: 3 to 3; 11: 4 to 10; 12: unit once to unit.
+const PORT: &str = "000000 010000 020100 030100 020300 040300 040105 040600 040400 040304 040303 \
+                    04040A 030000";
+
+#[test]
+fn a_cell_may_hold_a_handle() {
+    assert_eq!(verdict(&recipe(PORT, "05 09")), Verdict::Accepted(vec![9]));
+    // handle (λx. λh. exch (cell h) (λn. unit) 5)
+    let kept = "02 08 07 01 06 01 05 02 02 02 06 0B 02 05 09 00 00 01 03 03 04 05 00";
+    let (answers, image) = run(&recipe(PORT, kept), &[1; 6]);
+    assert_eq!(answers, [4, 1, 1, 6, 7, 5]);
+    let heads = "0500 020020000300 010023000100 010024000300 040027000000 020027000300";
+    let expressions = "040000 03 040500 010303";
+    assert_eq!(
+        image,
+        bytes_of_hexadecimal(&format!("{heads}{expressions}"))
+    );
+}
+
+#[test]
+fn a_second_handle_goes_in_and_the_first_is_applied() {
+    // handle (λx. λh. (λr. handle (λy. λk. exch r k 5)) (cell h))
+    let inner = "02 08 07 01 06 01 05 02 02 02 06 0B 00 02 00 00 04 05 00";
+    let port = format!("02 08 07 01 06 01 05 02 01 08 {inner} 02 05 09 00 00");
+    let (answers, image) = run(&recipe(PORT, &port), &[1; 10]);
+    assert_eq!(answers, [4, 1, 1, 6, 1, 4, 1, 1, 7, 5]);
+    let first = "0700 02002C000300 01002F000100 010030000300 040033000000";
+    let second = "020033000200 050035000000 030535000000";
+    let expressions = "040000 03 040500 0906";
+    assert_eq!(
+        image,
+        bytes_of_hexadecimal(&format!("{first}{second}{expressions}"))
+    );
+}
+
+#[test]
+fn what_was_in_a_cell_is_still_usable_once() {
+    let taken = "02 02 06 0B 02 05 09 01 03 03 01 03 03";
+    // (λf. (λu. f 2) (f 1)), and with f 2 left out
+    let twice = format!("02 01 05 02 01 0C 02 00 01 04 02 00 02 00 00 04 01 00 {taken}");
+    assert_eq!(number(&recipe(PORT, &twice)), 10);
+    let once = format!("02 01 05 02 00 00 04 01 00 {taken}");
+    assert_eq!(number(&recipe(PORT, &once)), 0);
+    // exch at a cell of 3 does not fit a setting
+    assert_eq!(number(&recipe(PORT, "02 06 0B 09 00")), 9);
 }
 
 #[test]

@@ -8,8 +8,11 @@ use model::causes;
 use model::command::on_deep_stack;
 use model::comparison::Comparison;
 use model::format::{table_and_terms, write_parts};
+use model::image::read_image;
 use model::nodes::{read_term, write_term, Node};
+use model::table::ONCE;
 use model::tags;
+use model::types::Constant;
 use std::sync::Mutex;
 
 type Check = fn(&[u8]) -> VerdictAnswer;
@@ -252,6 +255,71 @@ fn a_stepper_that_refuses_an_image_with_num_65535() {
     };
     assert!(is_found(&Impostor {
         step: bounded,
+        ..HONEST
+    }));
+}
+
+/// Whether the recipe has this constant at contents of multiplicity once: of cell, what it is
+/// applied to; of exch, what its cell holds.
+fn has_once_contents(recipe: &[u8], wanted: Constant) -> bool {
+    let (table, terms) = match table_and_terms(recipe) {
+        Some(parts) => parts,
+        None => return false,
+    };
+    let entries: Vec<&[u8]> = table.chunks(3).collect();
+    let entry = |number: u8| entries.get(usize::from(number)).copied().unwrap_or(&[0; 3]);
+    let contents = |whole: u8| match wanted {
+        Constant::Cell => entry(whole)[1],
+        _ => entry(entry(whole)[1])[1],
+    };
+    let narrowed = |node: &Node| match node {
+        Node::Constant(c, whole) => *c == wanted && entry(contents(*whole))[0] == ONCE,
+        _ => false,
+    };
+    let nodes = terms.into_iter().filter_map(read_term);
+    nodes.flatten().any(|node| narrowed(&node))
+}
+
+fn refused_for_contents(recipe: &[u8], wanted: Constant) -> VerdictAnswer {
+    let answer = check(recipe);
+    if answer.refusal == 0 && has_once_contents(recipe, wanted) {
+        return VerdictAnswer {
+            refusal: causes::ANNOTATION,
+            ..VerdictAnswer::default()
+        };
+    }
+    answer
+}
+
+/// T-02, "contents may have either multiplicity".
+#[test]
+fn a_checker_that_still_narrows_cell_alone_or_exch_alone() {
+    let cell: Check = |recipe| refused_for_contents(recipe, Constant::Cell);
+    let exch: Check = |recipe| refused_for_contents(recipe, Constant::Exch);
+    for check in [cell, exch] {
+        assert!(is_found(&Impostor { check, ..HONEST }));
+    }
+}
+
+/// Whether a cell of the image holds an open handle.
+fn keeps_a_handle(image: &[u8]) -> bool {
+    read_image(image).map_or(false, |now| !now.kept_handles().is_empty())
+}
+
+#[test]
+fn a_stepper_that_refuses_an_image_whose_cell_holds_a_handle() {
+    let narrow: Step = |image, thread, out| {
+        if keeps_a_handle(image) {
+            return SteppedAnswer {
+                outcome: REFUSED,
+                number: causes::IMAGE,
+                length: 0,
+            };
+        }
+        step(image, thread, out)
+    };
+    assert!(is_found(&Impostor {
+        step: narrow,
         ..HONEST
     }));
 }

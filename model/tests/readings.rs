@@ -64,16 +64,24 @@ fn reading_4_the_many_lambda_that_binds_does_not_count() {
 }
 
 #[test]
-fn reading_5_the_narrowing_binds_constants_only() {
+fn reading_5_contents_of_either_multiplicity_but_futures_of_many() {
     // 3: unit once to unit, 4: cell of 3, 5: 4 to unit
     let table = format!("{A} 030000 020300 040400");
     assert_eq!(number(&recipe(&table, "01 05 03")), 0);
     // 6: 3 to cell of 3
     let table = format!("{table} 040304");
-    assert_eq!(number(&recipe(&table, "05 06")), 8);
+    assert_eq!(number(&recipe(&table, "05 06")), 0);
     // 7: 3 to 3, 8: cell of 3 to (3 to 3)
     let table = format!("{table} 040303 040407");
-    assert_eq!(number(&recipe(&table, "06 08")), 8);
+    assert_eq!(number(&recipe(&table, "06 08")), 0);
+    // a setting is a cell of num
+    assert_eq!(number(&recipe(&table, "02 06 08 09 00")), 9);
+    // 9: (3 to 3) to 3
+    let table = format!("{table} 040703");
+    assert_eq!(number(&recipe(&table, "07 09")), 8);
+    // 10: 3 once to unit, 11: 10 to unit, 12: 3 to 11, 13: 12 to unit
+    let table = format!("{table} 030300 040A00 04030B 040C00");
+    assert_eq!(number(&recipe(&table, "08 0D")), 8);
 }
 
 #[test]

@@ -1,11 +1,15 @@
 //! The claim about runs, on random runs of accepted recipes.
 
+use model::config::{Component, Configuration};
 use model::draw::Draw;
 use model::format::hexadecimal;
 use model::generate::images::{out_length, thread_number};
 use model::generate::recipes::{at_a_limit, well_typed};
+use model::image::read_image;
+use model::limits;
 use model::run::Run;
 use model::step::Outcome;
+use std::collections::BTreeSet;
 
 fn watch(draw: &mut Draw, file: &[u8], steps: usize, rules: &mut [usize; 8]) {
     let mut run = match Run::start(file) {
@@ -46,4 +50,38 @@ fn the_claim_holds_on_long_runs_and_at_limits() {
         let file = well_typed(&mut draw).write();
         watch(&mut draw, &file, 400, &mut rules);
     }
+}
+
+fn configuration(run: &Run) -> Configuration {
+    read_image(&run.image).expect("the image of a run")
+}
+
+/// T-02, "the guarantee about running covers cells that hold something usable once".
+#[test]
+fn the_claim_holds_where_cells_keep_handles() {
+    let mut draw = Draw::new(7);
+    let mut out = vec![0; limits::MAX_IMAGE];
+    let (mut kept_handles, mut bound_later) = (0, 0);
+    for _ in 0..2_000 {
+        let file = well_typed(&mut draw).write();
+        let mut run = match Run::start(&file) {
+            Some(run) => run,
+            None => continue,
+        };
+        let mut kept = BTreeSet::new();
+        for _ in 0..60 {
+            let thread = thread_number(&mut draw, &run.image);
+            if let Err(broken) = run.step(thread, &mut out) {
+                panic!("{broken}: {}", hexadecimal(&file));
+            }
+            kept.extend(configuration(&run).kept_handles());
+        }
+        let last = configuration(&run);
+        let used = |name: &&u8| *last.get(**name) == Component::UsedHandle;
+        kept_handles += kept.len();
+        bound_later += kept.iter().filter(used).count();
+    }
+    println!("{kept_handles} handles were kept in cells, {bound_later} of them bound later");
+    assert!(kept_handles > 100, "{kept_handles} handles were kept");
+    assert!(bound_later > 10, "{bound_later} were bound later");
 }

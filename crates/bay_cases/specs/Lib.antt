@@ -2,3 +2,5 @@
 
 -- rows of one table
 pub mod Cases
+-- document 02, T-02, sentence by sentence
+pub mod CellContents

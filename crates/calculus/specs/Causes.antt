@@ -29,7 +29,7 @@ term-size-cause = 6
 abbrev pub scope-cause : ℕ
 scope-cause = 7
 
--- "lambda's type no function, constant's type no instance of Fig. 8 (handle as above), narrowing broken"
+-- "lambda's type no function, constant's type no instance of Fig. 8 (handle as above)"
 abbrev pub annotation-cause : ℕ
 annotation-cause = 8
 

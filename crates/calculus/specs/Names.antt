@@ -8,7 +8,6 @@ use lib.Dec.{eqb}
 use Rattle.calculus.specs.Types.{once, LinType, fun, multiplicity}
 use Rattle.calculus.specs.Syntax.{Const, Exp, var, name, const, lam, app, Value, at}
 use Rattle.calculus.specs.Typing.{TypeNumbers, NameTypes, Derivation}
-use Rattle.calculus.specs.Narrowing.{Narrow}
 
 -- how often name k stands in e
 unfoldable pub count : ℕ → Exp → ℕ
@@ -45,9 +44,8 @@ pub record OnceNamesOnce (τ : TypeNumbers) (Σ : NameTypes) (e : Exp) : Type 0 
   pub outside : (k : ℕ) → OnceName Σ k → Outside τ k e
 
 -- document 01: v is "a value of its type", here α: "a derivation by the recipe's rules, names so typed and type bytes read in the recipe's table, gives
--- that value the type". The recipe's rules are Figs. 8 and 9 and the narrowing.
+-- that value the type". The recipe's rules are Figs. 8 and 9.
 pub record HasType (τ : TypeNumbers) (Σ : NameTypes) (v : Exp) (α : LinType) : Type 0 where
   pub value : Value v
   pub derivation : Derivation τ Σ [] v α
-  pub narrow : Narrow τ v
   pub names : OnceNamesOnce τ Σ v

@@ -1,6 +1,6 @@
 -- The types of constants, on the entries that their numbers name.
 use mathlib.Core.Path.{_≡_, refl}
-use mathlib.Core.Bool.{_&&_, and-assoc, Bool, false, true}
+use mathlib.Core.Bool.{_&&_, Bool, false, true}
 use mathlib.Core.List.{List, [], _∷_}
 use Prim.Native.Nat.{ℕ}
 use lib.Dec.{eqb}
@@ -35,11 +35,11 @@ unfolding handle-of all
 handle-tests x a = record { same = refl }
 
 -- the tests of the type of a constant, a function from p to q; the entries are those that it names
-abbrev pub cell-list : Table → ℕ → Entry → List Bool
-cell-list T p x = eqb (x .kind) cell-type-kind ∷ eqb (x .p) p ∷ is-many T p ∷ []
+abbrev pub cell-list : ℕ → Entry → List Bool
+cell-list p x = eqb (x .kind) cell-type-kind ∷ eqb (x .p) p ∷ []
 
-abbrev pub exch-list : Table → Entry → Entry → List Bool
-exch-list T x y = eqb (x .kind) cell-type-kind ∷ maps y (x .p) (x .p) ∷ is-many T (x .p) ∷ []
+abbrev pub exch-list : Entry → Entry → List Bool
+exch-list x y = eqb (x .kind) cell-type-kind ∷ maps y (x .p) (x .p) ∷ []
 
 abbrev pub thread-list : Table → ℕ → Entry → List Bool
 thread-list T q x = maps x q q ∷ is-many T q ∷ []
@@ -48,19 +48,18 @@ abbrev pub handle-list : Table → ℕ → Entry → Entry → Entry → List Bo
 handle-list T q o i h = is-function-kind (o .kind) ∷ is-function-kind (i .kind) ∷ handle-of h (o .p) ∷ eqb (i .q) q ∷ is-many T (o .p) ∷ []
 
 module _ (T : Table) (p q : ℕ) where
-  pub cell-tests : (x : Entry) → as-entry x ≡ entry-of T q → Asks (cell-parts T p q) (cell-list T p x)
+  pub cell-tests : (x : Entry) → as-entry x ≡ entry-of T q → Asks (cell-parts T p q) (cell-list p x)
   unfolding all
-  cell-tests x result = by (rw (on-cell-is T q (λ a′. eqb a′ p), ← result) (and-assoc (eqb (x .kind) cell-type-kind) (eqb (x .p) p) (is-many T p)))
+  cell-tests x result = by (rw (on-cell-is T q (λ a′. eqb a′ p), ← result) refl)
 
-  pub exch-tests : (x y : Entry) → as-entry x ≡ entry-of T p → as-entry y ≡ entry-of T q → Asks (exch-parts T p q) (exch-list T x y)
-  unfolding all
+  pub exch-tests : (x y : Entry) → as-entry x ≡ entry-of T p → as-entry y ≡ entry-of T q → Asks (exch-parts T p q) (exch-list x y)
+  unfolding maps all
   exch-tests x y parameter result =
       by (rw (
-        on-cell-is T p (λ a. on-function T q λ a′ a″. eqb a′ a && (eqb a″ a && is-many T a)),
+        on-cell-is T p (λ a. on-function T q λ a′ a″. eqb a′ a && eqb a″ a),
         ← parameter,
-        on-function-is T q (λ a′ a″. eqb a′ (x .p) && (eqb a″ (x .p) && is-many T (x .p))),
+        on-function-is T q (λ a′ a″. eqb a′ (x .p) && eqb a″ (x .p)),
         ← result,
-        maps-and y (x .p) (x .p) (is-many T (x .p)),
       ) refl)
 
   pub thread-tests : (x : Entry) → as-entry x ≡ entry-of T p → Asks (thread-parts T p q) (thread-list T q x)

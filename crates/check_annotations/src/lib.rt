@@ -37,7 +37,7 @@ fn is_handle_of(entry: Entry, a: u8) -> bool
     entry.q == Type::UNIT_ENTRY
 }
 
-// Fig. 8: a to a ref, with document 01's narrowing: a of multiplicity many. The type of the constant is a function with this entry, here and below.
+// Fig. 8: a to a ref. The type of the constant is a function with this entry, here and below.
 fn is_cell_type(table: &[u8], whole: Entry) -> bool
     ensures { λ r. ⌜ r ≡ cell-parts (table-of (now (table .entry))) (whole .p) (whole .q) ⌝ }
 {
@@ -45,13 +45,10 @@ fn is_cell_type(table: &[u8], whole: Entry) -> bool
     if result.kind != Type::CELL {
         return false;
     }
-    if result.p != whole.p {
-        return false;
-    }
-    check_types::many_at(table, whole.p as usize)
+    result.p == whole.p
 }
 
-// Fig. 8: a ref to (a to a), with document 01's narrowing.
+// Fig. 8: a ref to (a to a).
 fn is_exch_type(table: &[u8], whole: Entry) -> bool
     ensures { λ r. ⌜ r ≡ exch-parts (table-of (now (table .entry))) (whole .p) (whole .q) ⌝ }
 {
@@ -60,10 +57,7 @@ fn is_exch_type(table: &[u8], whole: Entry) -> bool
     if parameter.kind != Type::CELL {
         return false;
     }
-    if !is_from_to(result, parameter.p, parameter.p) {
-        return false;
-    }
-    check_types::many_at(table, parameter.p as usize)
+    is_from_to(result, parameter.p, parameter.p)
 }
 
 // Fig. 8: (a to a) to a, a of multiplicity many.

@@ -8,7 +8,6 @@ use lib.ListN.{length}
 use Rattle.calculus.specs.Types.{many, LinType, multiplicity}
 use Rattle.calculus.specs.Syntax.{Exp, thread-of, at}
 use Rattle.calculus.specs.Typing.{Derivation}
-use Rattle.calculus.specs.Narrowing.{Narrow}
 use Rattle.calculus.specs.Limits.{max-nesting, max-recipe-nodes}
 use Rattle.calculus.specs.Image.{nodes-all}
 use Rattle.calculus.specs.Table.{Table, TableRule, type-at}
@@ -22,9 +21,9 @@ unfoldable pub entry-bytes : Table → List ℕ
 entry-bytes [] = []
 entry-bytes (x ∷ T) = x .kind ∷ x .p ∷ x .q ∷ entry-bytes T
 
--- the paper: a bay's term has a derivation by Figs. 8 and 9, with document 01's handle type, narrowing and a many type
+-- the paper: a bay's term has a derivation by Figs. 8 and 9, with document 01's handle type, under a many type
 abbrev pub Derived : Table → ℕ → Exp → Type 0
-Derived T b e = (α : LinType) × Derivation (type-at T) (setting-types b) [] e α × (multiplicity α ≡ many) × Narrow (type-at T) e
+Derived T b e = (α : LinType) × Derivation (type-at T) (setting-types b) [] e α × (multiplicity α ≡ many)
 
 -- the file s says the table T and the terms es, and they are what the papers ask
 pub record Recipe (s : List ℕ) (T : Table) (es : List Exp) : Type 0 where

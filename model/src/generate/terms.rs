@@ -67,7 +67,7 @@ impl<'a> TermMaker<'a> {
     }
 
     fn some_form(&mut self, goal: u8, duties: &Duties, nesting: usize) -> Option<()> {
-        match self.draw.below(11) {
+        match self.draw.below(14) {
             0 => self.leaf(goal, duties),
             1 | 2 => self.lambda(goal, duties.clone(), nesting),
             3 => self.let_form(goal, duties, nesting),
@@ -76,7 +76,9 @@ impl<'a> TermMaker<'a> {
             7 => self.new_thread(goal, duties, nesting),
             8 => self.new_handle(goal, duties, nesting),
             9 => self.new_cell(goal, duties, nesting),
-            _ => self.exchange(goal, duties, nesting),
+            10 => self.exchange(goal, duties, nesting),
+            11 => self.new_port(goal, duties, nesting),
+            _ => self.put(goal, duties, nesting),
         }
     }
 
@@ -124,12 +126,12 @@ impl<'a> TermMaker<'a> {
     /// A constant that this type is an instance of.
     fn constant_of(&self, goal: u8) -> Option<Constant> {
         let (_, p, q) = self.table.function_parts(goal)?;
-        let many = |t: u8| self.may_be_contents(t);
-        if self.table.contents(q) == Some(p) && many(p) {
+        let many = |t: u8| self.may_be_future(t);
+        if self.table.contents(q) == Some(p) {
             return Some(Constant::Cell);
         }
         if let (Some(a), Some((_, b, c))) = (self.table.contents(p), self.table.function_parts(q)) {
-            return (a == b && b == c && many(a)).then_some(Constant::Exch);
+            return (a == b && b == c).then_some(Constant::Exch);
         }
         let (_, a, rest) = self.table.function_parts(p)?;
         if a == q && rest == q && many(q) {
@@ -205,7 +207,7 @@ impl<'a> TermMaker<'a> {
 
     /// thread e
     fn new_thread(&mut self, goal: u8, duties: &Duties, nesting: usize) -> Option<()> {
-        if !self.may_be_contents(goal) {
+        if !self.may_be_future(goal) {
             return None;
         }
         let (inner, outer) = (self.any_multiplicity(), self.any_multiplicity());
@@ -231,9 +233,6 @@ impl<'a> TermMaker<'a> {
     /// cell e
     fn new_cell(&mut self, goal: u8, duties: &Duties, nesting: usize) -> Option<()> {
         let contents = self.table.contents(goal)?;
-        if !self.may_be_contents(contents) {
-            return None;
-        }
         let multiplicity = self.any_multiplicity();
         let whole = self.table.function(multiplicity, contents, goal)?;
         self.apply_constant(Constant::Cell, whole, contents, duties, nesting)
@@ -254,9 +253,6 @@ impl<'a> TermMaker<'a> {
 
     /// exch e e'
     fn exchange(&mut self, goal: u8, duties: &Duties, nesting: usize) -> Option<()> {
-        if !self.may_be_contents(goal) {
-            return None;
-        }
         let cell = self.table.cell(goal)?;
         let (inner, outer) = (self.any_multiplicity(), self.any_multiplicity());
         let rest = self.table.function(inner, goal, goal)?;
@@ -269,8 +265,65 @@ impl<'a> TermMaker<'a> {
         self.term(goal, right, nesting + 1)
     }
 
-    /// Whether a cell, a thread or a future may hold a value of the type.
-    fn may_be_contents(&self, number: u8) -> bool {
+    /// handle (λx. λh. (λr. e) (cell h)): a cell keeps the handle, as in section 5's port.
+    fn new_port(&mut self, goal: u8, duties: &Duties, nesting: usize) -> Option<()> {
+        let alpha = self.future_type();
+        let handle = self.table.function(Multiplicity::Once, alpha, UNIT_ENTRY)?;
+        let cell = self.table.cell(handle)?;
+        let new_cell = self.table.function(Multiplicity::Many, handle, cell)?;
+        let multiplicity = self.multiplicity_for(duties);
+        let with_cell = self.table.function(multiplicity, cell, goal)?;
+        let with_handle = self.table.function(multiplicity, handle, goal)?;
+        let body = self.table.function(multiplicity, alpha, with_handle)?;
+        let whole = self.table.function(Multiplicity::Many, body, goal)?;
+        self.nodes.push(Node::Application);
+        self.nodes.push(Node::Constant(Constant::Handle, whole));
+        self.nodes.push(Node::Lambda(body));
+        self.nodes.push(Node::Lambda(with_handle));
+        self.nodes.push(Node::Application);
+        self.scope.extend([alpha, handle]);
+        let made = self.lambda(with_cell, duties.clone(), nesting + 4);
+        self.scope.truncate(self.scope.len() - 2);
+        made?;
+        self.nodes.push(Node::Application);
+        self.nodes.push(Node::Constant(Constant::Cell, new_cell));
+        self.nodes.push(Node::Variable(0));
+        Some(())
+    }
+
+    /// (λy. e) (exch r e' e"), for a variable r that is a cell of functions: the function that it
+    /// held is applied, and a new one is put in.
+    fn put(&mut self, goal: u8, duties: &Duties, nesting: usize) -> Option<()> {
+        let function_in = |place: usize| {
+            let contents = self.table.contents(self.scope[place])?;
+            let (_, parameter, result) = self.table.function_parts(contents)?;
+            Some((place, contents, parameter, result))
+        };
+        let cells: Vec<_> = (0..self.scope.len()).filter_map(function_in).collect();
+        if cells.is_empty() {
+            return self.let_form(goal, duties, nesting);
+        }
+        let (place, contents, parameter, result) = self.draw.pick(&cells);
+        let rest = self
+            .table
+            .function(Multiplicity::Many, contents, contents)?;
+        let whole = self
+            .table
+            .function(Multiplicity::Many, self.scope[place], rest)?;
+        let (left, right) = self.share_out(duties);
+        let multiplicity = self.multiplicity_for(&left);
+        let then = self.table.function(multiplicity, result, goal)?;
+        self.nodes.push(Node::Application);
+        self.lambda(then, left, nesting + 1)?;
+        self.nodes.extend([Node::Application; 3]);
+        self.nodes.push(Node::Constant(Constant::Exch, whole));
+        self.nodes.push(self.variable_node(place));
+        self.term(contents, right, nesting + 3)?;
+        self.term(parameter, Vec::new(), nesting + 2)
+    }
+
+    /// Whether a future may have the type: many, unless the maker goes beyond.
+    fn may_be_future(&self, number: u8) -> bool {
         self.beyond || !self.table.is_once(number)
     }
 
@@ -379,9 +432,6 @@ impl<'a> TermMaker<'a> {
 
     fn simplest_cell(&mut self, goal: u8, nesting: usize) -> Option<()> {
         let contents = self.table.contents(goal)?;
-        if self.table.is_once(contents) {
-            return None;
-        }
         let whole = self.table.function(Multiplicity::Many, contents, goal)?;
         self.nodes.push(Node::Application);
         self.nodes.push(Node::Constant(Constant::Cell, whole));

@@ -73,11 +73,11 @@ fn fits(table: PlainTable, tag: u8, number: u8) -> bool {
     let many = |t: u8| table.entry(t).0 != ONCE;
     match tag {
         tags::LAMBDA => true,
-        tags::CELL => table.entry(q) == (CELL, p, 0) && many(p),
+        tags::CELL => table.entry(q) == (CELL, p, 0),
         tags::EXCH => {
             let (cell, contents, _) = table.entry(p);
             let (function, new, old) = table.entry(q);
-            cell == CELL && function >= ONCE && new == contents && old == contents && many(contents)
+            cell == CELL && function >= ONCE && new == contents && old == contents
         }
         tags::THREAD => {
             let (function, future, value) = table.entry(p);

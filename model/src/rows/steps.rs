@@ -7,7 +7,7 @@ use crate::draw::Draw;
 use crate::expression::Expression;
 use crate::generate::configurations::configuration_of;
 use crate::generate::{images, recipes};
-use crate::image::write_image;
+use crate::image::{read_image, write_image};
 use crate::limits;
 use crate::nodes::Node;
 use crate::rows::quota::fill;
@@ -26,6 +26,8 @@ const TURNS: usize = 12;
 #[derive(Debug, Clone, Copy, PartialEq, Eq, PartialOrd, Ord)]
 enum Origin {
     Run,
+    /// a run in which a cell holds an open handle now
+    Keeping,
     Drawn,
     Damaged,
     Copying,
@@ -57,6 +59,9 @@ fn wanted() -> BTreeMap<Class, usize> {
         wanted.insert((origin, REFUSED, causes::BUFFER), 4);
         wanted.insert((origin, REFUSED, causes::NO_THREAD), 5);
     }
+    for rule in [rules::BETA, rules::CELL_EXCH] {
+        wanted.insert((Origin::Keeping, RULE, u32::from(rule)), 3);
+    }
     wanted.insert((Origin::Damaged, REFUSED, causes::IMAGE), 14);
     wanted.insert((Origin::Copying, REFUSED, causes::ROOM), 8);
     wanted.insert((Origin::Crowded, REFUSED, causes::ROOM), 1);
@@ -66,7 +71,7 @@ fn wanted() -> BTreeMap<Class, usize> {
 }
 
 /// The image after some turns of a small recipe.
-fn of_a_run(draw: &mut Draw) -> Option<Vec<u8>> {
+fn of_a_run(draw: &mut Draw) -> Option<(Origin, Vec<u8>)> {
     let file = recipes::small(draw).write();
     let mut out = vec![FILLER; limits::MAX_IMAGE];
     let loaded = Model.load(&file, &mut out)?;
@@ -78,7 +83,12 @@ fn of_a_run(draw: &mut Draw) -> Option<Vec<u8>> {
             image = out[..answer.length as usize].to_vec();
         }
     }
-    (loaded.refusal == 0).then_some(image)
+    let now = read_image(&image)?;
+    let origin = match now.kept_handles().is_empty() {
+        true => Origin::Run,
+        false => Origin::Keeping,
+    };
+    (loaded.refusal == 0).then_some((origin, image))
 }
 
 fn of_a_configuration(draw: &mut Draw) -> Vec<u8> {
@@ -122,7 +132,7 @@ fn drawn(draw: &mut Draw) -> Option<Call> {
     let (origin, image) = match draw.below(50) {
         0 => (Origin::Copying, copying(draw)),
         1 => (Origin::Crowded, crowded(draw)),
-        2..=20 => (Origin::Run, of_a_run(draw)?),
+        2..=20 => of_a_run(draw)?,
         21..=30 => {
             let mut image = of_a_configuration(draw);
             images::damage(&mut image, draw);

@@ -9,7 +9,7 @@ const CAUSES: [&str; 17] = [
     "a part is not exactly one term: unknown tag, cut, bytes over",
     "nesting or nodes above the limit",
     "index with no lambda, name not below b, type number not below t",
-    "lambda's type no function, constant's type no instance of Fig. 8, narrowing broken",
+    "lambda's type no function, constant's type no instance of Fig. 8",
     "application of a non-function, argument or body of another type",
     "a once-variable not used exactly once, or free under a many-lambda",
     "a bay's type has multiplicity once",

@@ -1,11 +1,11 @@
--- The derivations of document 01's bay cases B and C by Figs. 8 and 9, and why D to H have none of a many type.
+-- The derivations of document 01's bay cases B and C and of document 02's handle in a cell by Figs. 8 and 9, and why D to H have none of a many type.
 use mathlib.Core.Path.{_≡_, refl}
-use mathlib.Core.Option.{some}
+use mathlib.Core.Option.{none, some}
 use mathlib.Core.List.{[], _∷_}
 use Rattle.calculus.specs.Types.{once, LinType, unit-type, num-type, ref, fun, multiplicity}
-use Rattle.calculus.specs.Syntax.{unit, op, thread, var, const, lam, app}
-use Rattle.calculus.specs.Typing.{TypeNumbers, NameTypes, of-unit, of-num, of-op, fig8-thread, fig8-exch, fig8-handle, NoOnce, no-once-nil, no-once-many, split-nil, split-both, split-left, only-here, only-past-gone, Derivation, d-const, d-name, d-var, d-many, d-once, d-app}
-use Rattle.calculus.specs.Table.{cell-reading, function-reading, read-entry, read-at, read-deep, type-at}
+use Rattle.calculus.specs.Syntax.{unit, num, op, cell, exch, thread, handle, Exp, var, const, lam, app}
+use Rattle.calculus.specs.Typing.{TypeNumbers, NameTypes, of-unit, of-num, of-op, fig8-cell, fig8-exch, fig8-thread, fig8-handle, NoOnce, no-once-nil, no-once-gone, no-once-many, Split, split-nil, split-both, split-left, split-right, only-here, only-past-gone, Derivation, d-const, d-name, d-var, d-many, d-once, d-app}
+use Rattle.calculus.specs.Table.{entry, Table, cell-reading, function-reading, read-entry, read-at, read-deep, type-at}
 use Rattle.calculus.specs.Theory.Tests.{clash}
 use Rattle.calculus.specs.Theory.OneType.{closed-one-type}
 use Rattle.calculus.specs.Theory.Cases.{T5, T7, term-B, term-C}
@@ -23,6 +23,33 @@ case-C = d-app split-nil (d-const no-once-nil (of-op refl (fig8-handle refl)))
   where
     future : NoOnce (some num-type ∷ [])
     future = no-once-many refl no-once-nil
+
+-- handle (λ x. λ h. exch (cell h) (λ n. unit) 5) keeps a handle in a cell and takes it out again (document 02, T-02): h goes into the cell, and what exch gives
+-- in its place is usable once too
+abbrev T11 : Table
+T11 = entry 0 0 0 ∷ entry 1 0 0 ∷ entry 2 1 0 ∷ entry 3 1 0 ∷ entry 4 3 0 ∷ entry 4 1 4 ∷ entry 4 5 0 ∷ entry 2 3 0 ∷ entry 4 3 7 ∷ entry 4 3 3 ∷ entry 4 7 9 ∷ []
+
+abbrev kept-handle : Exp
+kept-handle = app (const (op handle 6)) (lam 5 (lam 4
+    (app (app (app (const (op exch 10)) (app (const (op cell 8)) (var 0))) (lam 3 (const unit))) (const (num 5)))))
+
+case-kept-handle : Derivation (type-at T11) (ref num-type ∷ []) [] kept-handle unit-type
+unfolding type-at read-deep read-at read-entry cell-reading function-reading
+case-kept-handle = d-app split-nil (d-const no-once-nil (of-op refl (fig8-handle refl)))
+    (d-many refl no-once-nil (d-many refl future (d-app handle-left
+    (d-app handle-left
+    (d-app handle-right (d-const (no-once-gone future) (of-op refl fig8-exch)) (d-app handle-right (d-const (no-once-gone future) (of-op refl fig8-cell)) (d-var (only-here future))))
+    (d-once refl (d-const (no-once-many refl (no-once-gone future)) of-unit)))
+    (d-const (no-once-gone future) of-num))))
+  where
+    future : NoOnce (some num-type ∷ [])
+    future = no-once-many refl no-once-nil
+
+    handle-left : Split (some (fun once num-type unit-type) ∷ some num-type ∷ []) (some (fun once num-type unit-type) ∷ some num-type ∷ []) (none ∷ some num-type ∷ [])
+    handle-left = split-left refl (split-both refl split-nil)
+
+    handle-right : Split (some (fun once num-type unit-type) ∷ some num-type ∷ []) (none ∷ some num-type ∷ []) (some (fun once num-type unit-type) ∷ some num-type ∷ [])
+    handle-right = split-right refl (split-both refl split-nil)
 
 module _ (Σ : NameTypes) where
   -- D: the parameter is usable once and is not used: once(Γ) = ∅ fails at unit

@@ -13,7 +13,7 @@ use Rattle.calculus.specs.Table.{Table, TableRule, type-at}
 use Rattle.calculus.specs.Verdict.{type-number, verdict}
 use Rattle.calculus.specs.Recipe.{with-type, bay-types, start, Admitted}
 use Rattle.calculus.specs.Theory.Recipes.{Bays, no-bay, bay, BaysTyped, recipe-loaded, recipe-images, recipe-demand}
-use Rattle.calculus.specs.Theory.Verdict.{accepted-iff, verdict-iff, verdict-derived-iff}
+use Rattle.calculus.specs.Theory.Verdict.{accepted-iff, verdict-iff}
 
 -- terms whose numbers have types with derivations have the types computed
 found-typed : (T : Table) {Σ : NameTypes} (es : List Exp) →
@@ -26,14 +26,13 @@ found-typed T (e ∷ es) h = let (n, α, p, q, d, m) = h 0 e refl in rw (p, q) (
 pub bays-typed : {T : Table} → TableRule T → (es : List Exp) → verdict T es ≡ 0 → BaysTyped (type-at T) es (bay-types T es)
 bays-typed {T} R es accepted = found-typed T es λ i e h.
     let (n, a) = verdict-iff T es .0 accepted i e h in
-    let (α, q, d, m, w) = accepted-iff R (length es) e n .0 a in
+    let (α, q, d, m) = accepted-iff R (length es) e n .0 a in
     (n, α, a .no-cause-9, q, d, m)
 
 module _ {T : Table} {es : List Exp} (a : Admitted T es) (run : List ConfigCall) where
   -- the third demand
   pub demand : ConfigDemand (type-at T) (start T es) run
   demand = recipe-demand (bays-typed (a .table) es (a .accepted)) (a .written) (a .bays) (a .size) run
-      (λ i e h. let (α, d, m, w) = verdict-derived-iff (a .table) es .0 (a .accepted) i e h in w)
 
   -- every image, that loaded and those that steps are handed and leave, breaks no rule and no limit, and the node forms can write its indices, type
   -- numbers and nums

@@ -1,21 +1,15 @@
--- No rule makes an index, a lambda's type number or a constant but unit: what is allowed of them at the start stands all through a run.
+-- No rule makes an index, a lambda's type number or a constant but unit: what is allowed of them before a step is allowed after it.
 use mathlib.Core.Path.{_≡_}
 use mathlib.Core.Logic.{inl, inr}
 use mathlib.Core.Bool.{Bool, cond, false, true}
-use mathlib.Core.Option.{some}
-use mathlib.Core.List.{List, [], _++_, _∷_}
+use mathlib.Core.List.{[], _++_, _∷_}
 use Prim.Native.Nat.{suc, zero, ℕ}
 use lib.Dec.{eqb}
 use lib.ListN.{length, set}
 use Rattle.calculus.specs.Syntax.{unit, Exp, var, name, const, lam, app, Component, thread-of, holds, open-for, used, awaited, Config, at, Allowed, Each, each-var, each-name, each-const, each-lam, each-app, EachAll, In}
-use Rattle.calculus.specs.Typing.{TypeNumbers}
 use Rattle.calculus.specs.Reduction.{substitute, Context, hole, in-function, in-argument, plug, Rule, Reduces, beta, thread-new, future-deref, future-deref-exch, handle-new, handle-bind, cell-new, cell-exch}
-use Rattle.calculus.specs.Image.{WithinLimits}
-use Rattle.calculus.specs.State.{State}
-use Rattle.calculus.specs.Theory.ConfigRuns.{ConfigCall, state-grown, state-after, ConfigStep, config-steps}
 use Rattle.calculus.specs.Theory.Tests.{clash}
 use Rattle.calculus.specs.Theory.Lists.{set-cases, append-cases}
-use Rattle.calculus.specs.Theory.Replies.{after-keeps, run-keeps}
 
 pub each-substitute : {Q : Allowed} (depth : ℕ) {v e : Exp} → Each Q v → Each Q e → Each Q (substitute depth v e)
 unfolding substitute
@@ -86,14 +80,3 @@ module _ (Q : Allowed) where
     each-step {C} {x = x} a (cell-exch F t y v w wv h g) =
         let p = each-plug F (a x _ h) in
         each-set (set C x (thread-of (plug F w))) y (holds v) (each-set C x (thread-of (plug F w)) a (p .1 w (a y (holds w) g))) (each-argument (p .0))
-
-    -- in every state of a run, handed to a step or left by it
-    pub run-each : (τ : TypeNumbers) (s : State) → EachAll Q (s .config) → (run : List ConfigCall) (i : ℕ) (n : ConfigStep) →
-        at (config-steps τ s run) i ≡ some n → EachAll Q (n .before .config) × EachAll Q (state-after τ (n .before) (n .call) .config)
-    run-each τ s w run i n h = let b = run-keeps τ P kept s w run i n h in (b, after-keeps τ P kept (n .before) b (n .call))
-      where
-        P : State → Type 0
-        P u = EachAll Q (u .config)
-
-        kept : (u : State) → P u → (x : ℕ) (r : Rule) (C′ : Config) → Reduces (u .config) x r C′ → WithinLimits C′ → P (state-grown τ u x C′)
-        kept u a x r C′ d l = each-step a d

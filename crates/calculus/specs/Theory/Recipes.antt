@@ -8,9 +8,8 @@ use native.Mathlib.Decide.{decLt}
 use native.Mathlib.Omega.{arith}
 use lib.ListN.{length, length-append, length-map, length-replicate, replicate}
 use Rattle.calculus.specs.Types.{many, LinType, num-type, ref, multiplicity}
-use Rattle.calculus.specs.Syntax.{unit, num, Exp, const, is-const, Component, thread-of, holds, open-for, used, at, Allowed, constants, Each, each-const, EachAll, sum-in, sum-all}
+use Rattle.calculus.specs.Syntax.{num, Exp, const, is-const, Component, thread-of, holds, open-for, used, at, Allowed, Each, each-const, EachAll, sum-in, sum-all}
 use Rattle.calculus.specs.Typing.{TypeNumbers, NameTypes, of-num, no-once-nil, Derivation, d-const}
-use Rattle.calculus.specs.Narrowing.{NarrowConst, Narrow}
 use Rattle.calculus.specs.Names.{OnceName}
 use Rattle.calculus.specs.Theory.ConfigRuns.{ConfigCall, state-after, ConfigStep, config-steps, ConfigDemand}
 use Rattle.calculus.specs.Recipe.{setting-types, loaded}
@@ -22,7 +21,7 @@ use Rattle.calculus.specs.Theory.Expressions.{more-names}
 use Rattle.calculus.specs.Theory.Configurations.{types-more, sum-append}
 use Rattle.calculus.specs.Theory.Sound.{Fits}
 use Rattle.calculus.specs.Theory.Runs.{SoundState, run-demand}
-use Rattle.calculus.specs.Theory.Each.{each-append, run-each}
+use Rattle.calculus.specs.Theory.Each.{each-append}
 use Rattle.calculus.specs.Theory.Images.{Good, good-image, run-images}
 
 -- the terms es have the types αs, each of multiplicity many, names being typed by Σ
@@ -72,12 +71,6 @@ start-within es αs p q = record {
   few-names = rw (length-append (replicate (length es) (holds (const (num 0)))) (map thread-of es), length-replicate, length-map) (omega arith);
   few-nodes = rw (sum-append (sum-in nodes) (replicate (length es) (holds (const (num 0)))) (map thread-of es), nodes-settings (length es)) (omega arith);
 }
-
--- what holds of every constant of the terms, of unit and of a setting's first value, holds of every constant all through a run
-recipe-each : (Q : Allowed) → Q .constant unit → Q .constant (num 0) → (τ : TypeNumbers) (es : List Exp) (αs : List LinType) →
-    ((i : ℕ) (e : Exp) → at es i ≡ some e → Each Q e) → (run : List ConfigCall) (i : ℕ) (n : ConfigStep) → at (config-steps τ (loaded es αs) run) i ≡ some n →
-    EachAll Q (n .before .config) × EachAll Q (state-after τ (n .before) (n .call) .config)
-recipe-each Q at-unit zero-too τ es αs f = run-each Q at-unit τ (loaded es αs) (start-each Q zero-too es αs f)
 
 module _ {τ : TypeNumbers} {es : List Exp} {αs : List LinType} (b : BaysTyped τ es αs) where
   no-once-name : (k : ℕ) → ¬ OnceName (setting-types (length es) ++ αs) k
@@ -161,7 +154,5 @@ module _ {τ : TypeNumbers} {es : List Exp} {αs : List LinType} (b : BaysTyped 
         (ImageRule (n .before .config) × EachAll Writable (n .before .config)) × (ImageRule (state-after τ (n .before) (n .call) .config) × EachAll Writable (state-after τ (n .before) (n .call) .config))
     recipe-images = run-images τ (loaded es αs) start-good run
 
-    pub recipe-demand : ((i : ℕ) (e : Exp) → at es i ≡ some e → Narrow τ e) → ConfigDemand τ (loaded es αs) run
-    recipe-demand narrow = run-demand (loaded es αs) start-sound run (λ i n h. recipe-images i n h .0 .0)
-        (start-each (constants (NarrowConst τ)) tt es αs narrow)
-        (λ i n h. recipe-each (constants (NarrowConst τ)) tt tt τ es αs narrow run i n h .1)
+    pub recipe-demand : ConfigDemand τ (loaded es αs) run
+    recipe-demand = run-demand (loaded es αs) start-sound run (λ i n h. recipe-images i n h .0 .0)

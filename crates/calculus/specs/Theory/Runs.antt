@@ -9,9 +9,8 @@ use native.Mathlib.Omega.{arith}
 use lib.ListN.{set}
 use Rattle.calculus.specs.Theory.Configurations.{sum-part}
 use Rattle.calculus.specs.Types.{LinType}
-use Rattle.calculus.specs.Syntax.{Exp, name, is-name, Component, thread-of, holds, open-for, used, awaited, Config, at, constants, EachAll, In, sum-in}
+use Rattle.calculus.specs.Syntax.{Exp, name, is-name, Component, thread-of, holds, open-for, used, awaited, Config, at, In, sum-in}
 use Rattle.calculus.specs.Typing.{TypeNumbers}
-use Rattle.calculus.specs.Narrowing.{NarrowConst}
 use Rattle.calculus.specs.Reduction.{plug, Rule, number, Reduces, beta, thread-new, future-deref, future-deref-exch, handle-new, handle-bind, cell-new, cell-exch}
 use Rattle.calculus.specs.Names.{count, Outside, OnceNamesOnce}
 use Rattle.calculus.specs.Step.{step-of}
@@ -38,17 +37,13 @@ once-names-once {C = C} s x c v h n o = record {
   outside = λ k q. o k (s .outside k q x c h);
 }
 
--- every constant of a state keeps the narrowing
-abbrev pub NarrowState : TypeNumbers → State → Type 0
-NarrowState τ s = EachAll (constants (NarrowConst τ)) (s .config)
-
-pub sound-typed : {τ : TypeNumbers} {s : State} → SoundState τ s → NarrowState τ s → ValuesTyped τ s
+pub sound-typed : {τ : TypeNumbers} {s : State} → SoundState τ s → ValuesTyped τ s
 unfolding sum-in
-sound-typed {s} d w = record {
+sound-typed {s} d = record {
   cells = λ x v h. let f = d .fits x (holds v) h in
-      (f .0, f .1, record { value = f .2; derivation = f .3; narrow = w x (holds v) h; names = once-names-once d x (holds v) v h (λ k. refl) (λ k o. o) });
+      (f .0, f .1, record { value = f .2; derivation = f .3; names = once-names-once d x (holds v) v h (λ k. refl) (λ k o. o) });
   finished = λ x v h u. let f = d .fits x (thread-of v) h in
-      (f .0, f .1, record { value = u; derivation = f .3; narrow = w x (thread-of v) h; names = once-names-once d x (thread-of v) v h (λ k. refl) (λ k o. o) });
+      (f .0, f .1, record { value = u; derivation = f .3; names = once-names-once d x (thread-of v) v h (λ k. refl) (λ k o. o) });
 }
 
 -- a used handle stays used, and a thread a thread
@@ -205,13 +200,12 @@ module _ {τ : TypeNumbers} (s : State) (d : SoundState τ s) (run : List Config
       clash (cc)
 
   -- no step meets a used handle or a wrong kind, whatever the contents of cells
-  pub run-proper : (i : ℕ) (n : ConfigStep) → at (config-steps τ s run) i ≡ some n → Proper (step-of (n .before .config) (n .call .thread))
+  run-proper : (i : ℕ) (n : ConfigStep) → at (config-steps τ s run) i ≡ some n → Proper (step-of (n .before .config) (n .call .thread))
   run-proper i n p = progress (step-sound-state τ s d run i n p) (n .call .thread)
 
-  -- the claim about the whole list, where every step is handed an image that keeps its rules, and every image keeps the narrowing
-  pub run-demand : ((i : ℕ) (n : ConfigStep) → at (config-steps τ s run) i ≡ some n → ImageRule (n .before .config)) → NarrowState τ s →
-      ((i : ℕ) (n : ConfigStep) → at (config-steps τ s run) i ≡ some n → NarrowState τ (state-after τ (n .before) (n .call))) → ConfigDemand τ s run
-  run-demand kept narrow-loaded narrow-after = record {
+  -- the claim about the whole list, where every step is handed an image that keeps its rules
+  pub run-demand : ((i : ℕ) (n : ConfigStep) → at (config-steps τ s run) i ≡ some n → ImageRule (n .before .config)) → ConfigDemand τ s run
+  run-demand kept = record {
     one-application = λ z i j m n p q am an. elim (compare-at i j) [
       | inl e ↦ e
       | inr (inl l) ↦ absurd (applied-then-not z i j m n p q l am an)
@@ -230,8 +224,8 @@ module _ {τ : TypeNumbers} (s : State) (d : SoundState τ s) (run : List Config
     twelve = λ i n p. twelve-iff (n .before .config) (kept i n p) (n .call) (run-proper i n p);
     fourteen = λ i n p. fourteen-iff (n .before .config) (kept i n p) (n .call) (run-proper i n p);
     otherwise = λ i n p. goes (n .before .config) (kept i n p) (n .call) (run-proper i n p);
-    typed-loaded = sound-typed d narrow-loaded;
-    typed-after = λ i n p. sound-typed (after-sound (n .before) (step-sound-state τ s d run i n p) (n .call)) (narrow-after i n p);
+    typed-loaded = sound-typed d;
+    typed-after = λ i n p. sound-typed (after-sound (n .before) (step-sound-state τ s d run i n p) (n .call));
   }
     where
       none-of : (k : ℕ) → (k ≡ 12) ⊎ ((k ≡ 14) ⊎ (k ≡ 15)) → ¬ (k ≡ 12) → ¬ (k ≡ 14) → ¬ (k ≡ 15) → ⊥

@@ -1,4 +1,5 @@
 -- `check_annotations::is_cell_type` meets its contract: the entries are looked up, then tested (proofs/Instances.antt).
+use mathlib.Core.Path.{refl}
 use Prim.Native.Nat.{ℕ}
 use borrow.Author.Needs.{needs}
 use borrow.Author.Tests.{eq-eqb, ne-eqb}
@@ -15,7 +16,7 @@ abbrev Left : ℕ → tie.After-entry-at → Type 0
 Left n l =
     let a = l .before .before .before .args in
     let T = table-of (a .table .now) in
-    Asks (cell-parts T (a .whole .p) (a .whole .q)) (drop n (cell-list T (a .whole .p) (l .entry-at .result)))
+    Asks (cell-parts T (a .whole .p) (a .whole .q)) (drop n (cell-list (a .whole .p) (l .entry-at .result)))
 
 tests : (l : tie.After-entry-at) → Left 0 l
 tests l = cell-tests _ _ _ _ (l .entry-at .ensures)
@@ -30,18 +31,7 @@ returns : tie.Need-returns
 returns c = refuse (tests (c .before .before)) (ne-eqb _ _ (c .if1 .taken))
 
 returns-2 : tie.Need-returns-2
-returns-2 c = refuse (pass (tests (c .before .before .before .before .before)) (eq-eqb _ _ (c .before .before .before .if1 .left))) (ne-eqb _ _ (c .if2 .taken))
-
-cast-many-at : tie.Need-cast-many-at
-cast-many-at c = search needs
-
-many-at-requires : tie.Need-many-at-requires
-many-at-requires c κs = search needs
-
-returns-3 : tie.Need-returns-3
-returns-3 c =
-    let l = c .before .before .before .before .before .before .before in
-    last (pass (pass (tests l) (eq-eqb _ _ (c .before .before .before .before .before .if1 .left))) (eq-eqb _ _ (c .before .before .if2 .left))) (c .many-at .ensures)
+returns-2 c = last (pass (tests (c .before .before .before .before)) (eq-eqb _ _ (c .before .before .if1 .left))) refl
 
 pub is-cell-type-spec : {M : Type 1} → statement M
-is-cell-type-spec = tie.close (tie.spec cast-entry-at entry-at-requires returns returns-2 cast-many-at many-at-requires returns-3)
+is-cell-type-spec = tie.close (tie.spec cast-entry-at entry-at-requires returns returns-2)

@@ -5,7 +5,7 @@ use borrow.Author.Tests.{eq-eqb, ne-eqb}
 use lib.ListN.{drop}
 use Rattle.calculus.specs.Verdict.{exch-parts}
 use Rattle.recipe_table.specs.Entries.{table-of}
-use Rattle.check_annotations.proofs.Tests.{Asks, fails, last, pass, refuse, stands}
+use Rattle.check_annotations.proofs.Tests.{Asks, last, pass, refuse}
 use Rattle.check_annotations.proofs.Instances.{exch-list, exch-tests}
 use Rattle.check_annotations.proofs.is_exch_type.Statement.{statement}
 use Rattle.check_annotations.proofs.is_exch_type.Tie as tie
@@ -15,7 +15,7 @@ abbrev Left : ℕ → tie.After-entry-at2 → Type 0
 Left n l =
     let a = l .before .before .before .before .before .args in
     let T = table-of (a .table .now) in
-    Asks (exch-parts T (a .whole .p) (a .whole .q)) (drop n (exch-list T (l .before .before .entry-at .result) (l .entry-at2 .result)))
+    Asks (exch-parts T (a .whole .p) (a .whole .q)) (drop n (exch-list (l .before .before .entry-at .result) (l .entry-at2 .result)))
 
 tests : (l : tie.After-entry-at2) → Left 0 l
 tests l = exch-tests _ _ _ _ _ (l .before .before .entry-at .ensures) (l .entry-at2 .ensures)
@@ -39,30 +39,7 @@ is-from-to-requires : tie.Need-is-from-to-requires
 is-from-to-requires c κs = search needs
 
 returns-2 : tie.Need-returns-2
-returns-2 c = refuse (pass (tests (c .before .before .before .before)) (eq-eqb _ _ (c .before .before .if1 .left))) (fails (c .before .is-from-to .ensures) (c .if2 .taken))
-
-cast-many-at : tie.Need-cast-many-at
-cast-many-at c = search needs
-
-many-at-requires : tie.Need-many-at-requires
-many-at-requires c κs = search needs
-
-returns-3 : tie.Need-returns-3
-returns-3 c =
-    let l = c .before .before .before .before .before .before in
-    last (pass (pass (tests l) (eq-eqb _ _ (c .before .before .before .before .if1 .left))) (stands (c .before .before .before .is-from-to .ensures) (c .before .before .if2 .left))) (c .many-at .ensures)
+returns-2 c = last (pass (tests (c .before .before .before)) (eq-eqb _ _ (c .before .if1 .left))) (c .is-from-to .ensures)
 
 pub is-exch-type-spec : {M : Type 1} → statement M
-is-exch-type-spec =
-    tie.close
-    (tie.spec
-    cast-entry-at
-    entry-at-requires
-    cast-entry-at-2
-    entry-at-requires-2
-    returns
-    is-from-to-requires
-    returns-2
-    cast-many-at
-    many-at-requires
-    returns-3)
+is-exch-type-spec = tie.close (tie.spec cast-entry-at entry-at-requires cast-entry-at-2 entry-at-requires-2 returns is-from-to-requires returns-2)

@@ -176,7 +176,7 @@ type-answered {s} {T} {es} r bay e h =
     let l : bay < bays s = omega (arith, at-bound es bay h, r .count) in
     let m : bay < max-bays = omega (arith, few-bays r) in
     let (n, a) = verdict-iff T es .0 (admitted r .accepted) bay e h in
-    let (α, q, d, w, z) = accepted-iff (r .table-rule) (length es) e n .0 a in
+    let (α, q, d, w) = accepted-iff (r .table-rule) (length es) e n .0 a in
     let t : getD (tabulate max-bays (bay-type-number s)) bay 0 ≡ n =
     getD-at (tabulate max-bays (bay-type-number s)) bay (tabulate-at max-bays (bay-type-number s) bay m) ∙ rw (ltb-complete bay (bays s) l, table-is r, bay-of r bay e h, a .no-cause-9) refl in
     (α, rw t q, d, w)

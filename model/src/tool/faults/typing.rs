@@ -41,8 +41,8 @@ pub fn fit_types(recipe: &Parts, terms: &[Vec<Node>]) -> Result<(), Fault> {
 
 fn unfit_constant(constant: Constant, given: &str) -> String {
     let due = match constant {
-        Constant::Cell => "a → a ref, a usable many times",
-        Constant::Exch => "a ref → a → a, a usable many times",
+        Constant::Cell => "a → a ref",
+        Constant::Exch => "a ref → a → a",
         Constant::Thread => "(a → a) → a, a usable many times",
         Constant::Handle => "(a → (a →1 unit) → r) → r, a usable many times",
     };
