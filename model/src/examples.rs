@@ -214,6 +214,51 @@ fn mutex_term(types: &mut Types, pass: u8, whole_mutex: u8) -> Term {
     )
 }
 
+/// The types of a port for nums without its stream.
+struct PortTypes {
+    cell: u8,
+    new_cell: u8,
+    exch: u8,
+    with_bind: u8,
+    with_future: u8,
+    handle: u8,
+    put: u8,
+}
+
+fn port_types(types: &mut Types) -> PortTypes {
+    let bind = types.once(NUM, UNIT);
+    let cell = types.cell(bind);
+    let new_cell = types.many(bind, cell);
+    let exchanged = types.many(bind, bind);
+    let exch = types.many(cell, exchanged);
+    let with_bind = types.many(bind, UNIT);
+    let with_future = types.many(NUM, with_bind);
+    PortTypes {
+        cell,
+        new_cell,
+        exch,
+        with_bind,
+        with_future,
+        handle: types.many(with_future, UNIT),
+        put: types.many(NUM, UNIT),
+    }
+}
+
+impl PortTypes {
+    /// handle (λs. λbind. body)
+    fn handled(&self, body: Term) -> Term {
+        let function = lambda(self.with_future, lambda(self.with_bind, body));
+        apply(constant(Constant::Handle, self.handle), function)
+    }
+
+    /// λx. handle (λs. λbind. (exch putr bind) x), putr being variable 0 where it stands.
+    fn put_term(&self) -> Term {
+        let cell = apply(constant(Constant::Exch, self.exch), variable(3));
+        let former = apply(cell, variable(0));
+        lambda(self.put, self.handled(apply(former, variable(2))))
+    }
+}
+
 fn kept_handle() -> Example {
     let text = "A handle kept in a cell, document 02's T-02: the port of section 5 of the paper \
                 without its stream. The vent of bay 0 takes the first reading, which is still to \
@@ -222,42 +267,23 @@ fn kept_handle() -> Example {
                 to 25.0 percent with the first.";
     let mut types = Types::new();
     let exch_setting = setting_exch(&mut types);
-    let bind = types.once(NUM, UNIT);
-    let cell = types.cell(bind);
-    let with_bind = types.many(bind, UNIT);
-    let with_future = types.many(NUM, with_bind);
-    let handle = types.many(with_future, UNIT);
-    let put = types.many(NUM, UNIT);
-    let exchanged = types.many(bind, bind);
-    let exch = types.many(cell, exchanged);
-    // under putr, x, s, bind: putr is 3, x is 2, bind is 0
-    let former = apply(
-        apply(constant(Constant::Exch, exch), variable(3)),
-        variable(0),
-    );
-    let new_end = lambda(with_future, lambda(with_bind, apply(former, variable(2))));
-    let put_term = lambda(put, apply(constant(Constant::Handle, handle), new_end));
+    let t = port_types(&mut types);
     let then = types.many(UNIT, UNIT);
     let both = apply(
         lambda(then, apply(variable(1), num(400))),
         apply(variable(0), num(250)),
     );
-    let with_put = types.many(put, UNIT);
-    let with_cell = types.many(cell, UNIT);
-    let new_cell = types.many(bind, cell);
-    let port = lambda(with_cell, apply(lambda(with_put, both), put_term));
+    let with_put = types.many(t.put, UNIT);
+    let with_cell = types.many(t.cell, UNIT);
+    let port = lambda(with_cell, apply(lambda(with_put, both), t.put_term()));
     // under s, bind and the former setting: bind is 1
-    let kept = apply(constant(Constant::Cell, new_cell), variable(1));
+    let kept = apply(constant(Constant::Cell, t.new_cell), variable(1));
     let with_former = types.once(NUM, UNIT);
     let vent = apply(
         apply(constant(Constant::Exch, exch_setting), setting(0)),
         variable(1),
     );
-    let body = apply(lambda(with_former, apply(port, kept)), vent);
-    let term = apply(
-        constant(Constant::Handle, handle),
-        lambda(with_future, lambda(with_bind, body)),
-    );
+    let term = t.handled(apply(lambda(with_former, apply(port, kept)), vent));
     example("kept-handle", text, types.recipe(vec![term]))
 }
 

@@ -84,9 +84,10 @@ fn of_a_run(draw: &mut Draw) -> Option<(Origin, Vec<u8>)> {
         }
     }
     let now = read_image(&image)?;
-    let origin = match now.kept_handles().is_empty() {
-        true => Origin::Run,
-        false => Origin::Keeping,
+    let origin = if now.kept_handles().is_empty() {
+        Origin::Run
+    } else {
+        Origin::Keeping
     };
     (loaded.refusal == 0).then_some((origin, image))
 }
