@@ -214,49 +214,40 @@ fn mutex_term(types: &mut Types, pass: u8, whole_mutex: u8) -> Term {
     )
 }
 
-/// The types of a port for nums without its stream.
-struct PortTypes {
-    cell: u8,
-    new_cell: u8,
-    exch: u8,
+/// The type of handle for a future of some type, where the body is of type unit, and those inside.
+struct HandleTypes {
+    future: u8,
+    bind: u8,
     with_bind: u8,
     with_future: u8,
     handle: u8,
-    put: u8,
 }
 
-fn port_types(types: &mut Types) -> PortTypes {
-    let bind = types.once(NUM, UNIT);
-    let cell = types.cell(bind);
-    let new_cell = types.many(bind, cell);
-    let exchanged = types.many(bind, bind);
-    let exch = types.many(cell, exchanged);
+fn handle_types(types: &mut Types, future: u8) -> HandleTypes {
+    let bind = types.once(future, UNIT);
     let with_bind = types.many(bind, UNIT);
-    let with_future = types.many(NUM, with_bind);
-    PortTypes {
-        cell,
-        new_cell,
-        exch,
+    let with_future = types.many(future, with_bind);
+    HandleTypes {
+        future,
+        bind,
         with_bind,
         with_future,
         handle: types.many(with_future, UNIT),
-        put: types.many(NUM, UNIT),
     }
 }
 
-impl PortTypes {
-    /// handle (λs. λbind. body)
-    fn handled(&self, body: Term) -> Term {
-        let function = lambda(self.with_future, lambda(self.with_bind, body));
-        apply(constant(Constant::Handle, self.handle), function)
-    }
+/// handle (λx. λbind. body)
+fn handled(t: &HandleTypes, body: Term) -> Term {
+    let function = lambda(t.with_future, lambda(t.with_bind, body));
+    apply(constant(Constant::Handle, t.handle), function)
+}
 
-    /// λx. handle (λs. λbind. (exch putr bind) x), putr being variable 0 where it stands.
-    fn put_term(&self) -> Term {
-        let cell = apply(constant(Constant::Exch, self.exch), variable(3));
-        let former = apply(cell, variable(0));
-        lambda(self.put, self.handled(apply(former, variable(2))))
-    }
+/// λx. handle (λs. λbind. (exch putr bind) x), putr being variable 0 where it stands: of type
+/// `put`, with exch of type `exch`.
+fn put_term(t: &HandleTypes, put: u8, exch: u8) -> Term {
+    let putr = apply(constant(Constant::Exch, exch), variable(3));
+    let former = apply(putr, variable(0));
+    lambda(put, handled(t, apply(former, variable(2))))
 }
 
 fn kept_handle() -> Example {
@@ -267,23 +258,29 @@ fn kept_handle() -> Example {
                 to 25.0 percent with the first.";
     let mut types = Types::new();
     let exch_setting = setting_exch(&mut types);
-    let t = port_types(&mut types);
+    let t = handle_types(&mut types, NUM);
+    let cell = types.cell(t.bind);
+    let new_cell = types.many(t.bind, cell);
+    let exchanged = types.many(t.bind, t.bind);
+    let exch = types.many(cell, exchanged);
+    let put = types.many(t.future, UNIT);
     let then = types.many(UNIT, UNIT);
     let both = apply(
         lambda(then, apply(variable(1), num(400))),
         apply(variable(0), num(250)),
     );
-    let with_put = types.many(t.put, UNIT);
-    let with_cell = types.many(t.cell, UNIT);
-    let port = lambda(with_cell, apply(lambda(with_put, both), t.put_term()));
+    let with_put = types.many(put, UNIT);
+    let with_cell = types.many(cell, UNIT);
+    let port = apply(lambda(with_put, both), put_term(&t, put, exch));
     // under s, bind and the former setting: bind is 1
-    let kept = apply(constant(Constant::Cell, t.new_cell), variable(1));
+    let kept = apply(constant(Constant::Cell, new_cell), variable(1));
     let with_former = types.once(NUM, UNIT);
     let vent = apply(
         apply(constant(Constant::Exch, exch_setting), setting(0)),
         variable(1),
     );
-    let term = t.handled(apply(lambda(with_former, apply(port, kept)), vent));
+    let all = apply(lambda(with_cell, port), kept);
+    let term = handled(&t, apply(lambda(with_former, all), vent));
     example("kept-handle", text, types.recipe(vec![term]))
 }
 
@@ -304,45 +301,19 @@ fn recursion() -> Example {
     example("recursion", text, types.recipe(vec![apply(made, unit())]))
 }
 
-/// The type of handle for a future that is a function from unit to unit, and those inside it.
-struct HandleTypes {
-    function: u8,
-    with_bind: u8,
-    with_future: u8,
-    handle: u8,
-}
-
-fn handle_types(types: &mut Types) -> HandleTypes {
-    let function = types.many(UNIT, UNIT);
-    let bind = types.once(function, UNIT);
-    let with_bind = types.many(bind, UNIT);
-    let with_future = types.many(function, with_bind);
-    HandleTypes {
-        function,
-        with_bind,
-        with_future,
-        handle: types.many(with_future, UNIT),
-    }
-}
-
-/// handle (λx. λbind. body)
-fn handled(t: &HandleTypes, body: Term) -> Term {
-    let function = lambda(t.with_future, lambda(t.with_bind, body));
-    apply(constant(Constant::Handle, t.handle), function)
-}
-
 fn waiting() -> Example {
     let text = "A thread that waits: the new thread applies a future that is not bound yet and \
                 answers waiting, until bay 0 binds the future by its handle.";
     let mut types = Types::new();
-    let t = handle_types(&mut types);
+    let function = types.many(UNIT, UNIT);
+    let t = handle_types(&mut types, function);
     let spawned = types.many(UNIT, UNIT);
     let thread = types.many(spawned, UNIT);
     let then = types.once(UNIT, UNIT);
     let needs = lambda(spawned, apply(variable(2), unit()));
     let spawn = apply(constant(Constant::Thread, thread), needs);
-    let bind = apply(variable(2), lambda(t.function, variable(0)));
-    let pause = apply(lambda(t.function, variable(0)), unit());
+    let bind = apply(variable(2), lambda(t.future, variable(0)));
+    let pause = apply(lambda(t.future, variable(0)), unit());
     let later = apply(lambda(then, bind), pause);
     let term = handled(&t, apply(lambda(then, later), spawn));
     example("waiting", text, types.recipe(vec![term]))
@@ -353,9 +324,10 @@ fn waiting_for_ever() -> Example {
         "A thread that waits for ever: it needs the future before it gets to the handle that \
                 would bind it. That is no fault; every step of it answers waiting.";
     let mut types = Types::new();
-    let t = handle_types(&mut types);
+    let function = types.many(UNIT, UNIT);
+    let t = handle_types(&mut types, function);
     let then = types.once(UNIT, UNIT);
-    let bind = apply(variable(1), lambda(t.function, variable(0)));
+    let bind = apply(variable(1), lambda(t.future, variable(0)));
     let term = handled(&t, apply(lambda(then, bind), apply(variable(1), unit())));
     example("waiting-for-ever", text, types.recipe(vec![term]))
 }
@@ -365,13 +337,8 @@ fn bound_to_itself() -> Example {
         "Case C: a future bound to itself. It is bound; its thread is done and holds its own \
                 name.";
     let mut types = Types::new();
-    let bind = types.once(NUM, UNIT);
-    let with_bind = types.many(bind, UNIT);
-    let with_future = types.many(NUM, with_bind);
-    let handle = types.many(with_future, UNIT);
-    let body = apply(variable(0), variable(1));
-    let function = lambda(with_future, lambda(with_bind, body));
-    let term = apply(constant(Constant::Handle, handle), function);
+    let t = handle_types(&mut types, NUM);
+    let term = handled(&t, apply(variable(0), variable(1)));
     example("bound-to-itself", text, types.recipe(vec![term]))
 }
 

@@ -52,6 +52,13 @@ fn step(image: &[u8], thread: u64, out: &mut [u8]) -> SteppedAnswer {
     Model.step(image, thread, out).unwrap_or_default()
 }
 
+/// "image breaks a rule or limit"
+const BROKEN: SteppedAnswer = SteppedAnswer {
+    outcome: REFUSED,
+    number: causes::IMAGE,
+    length: 0,
+};
+
 const HONEST: Impostor = Impostor { check, load, step };
 
 fn is_found(impostor: &Impostor) -> bool {
@@ -245,11 +252,7 @@ fn a_stepper_that_refuses_an_image_with_num_65535() {
     let bounded: Step = |image, thread, out| {
         let highest = [tags::NUM, 0xFF, 0xFF];
         if image.windows(highest.len()).any(|bytes| bytes == highest) {
-            return SteppedAnswer {
-                outcome: REFUSED,
-                number: causes::IMAGE,
-                length: 0,
-            };
+            return BROKEN;
         }
         step(image, thread, out)
     };
@@ -310,11 +313,7 @@ fn keeps_a_handle(image: &[u8]) -> bool {
 fn a_stepper_that_refuses_an_image_whose_cell_holds_a_handle() {
     let narrow: Step = |image, thread, out| {
         if keeps_a_handle(image) {
-            return SteppedAnswer {
-                outcome: REFUSED,
-                number: causes::IMAGE,
-                length: 0,
-            };
+            return BROKEN;
         }
         step(image, thread, out)
     };
