@@ -57,10 +57,10 @@ abbrev refused-row : List ℕ → ℕ → Row
 refused-row file refusal = record { file = file; refusal = refusal; types = []; threads = []; starting = []; answers = []; images = [] }
 
 -- an out buffer that is just long enough
-abbrev out : List ℕ
+abbrev pub out : List ℕ
 out = replicate max-image-length 0xAA
 
-abbrev call : ℕ → Call
+abbrev pub call : ℕ → Call
 call thread = record { thread = thread; out = out }
 
 -- the run of a row
@@ -665,7 +665,8 @@ pub record Proved : Type 0 where
   images : (n : ℕ) → n < two-byte-values → computed (setting-row (two-bytes n)) ≡ setting-row (two-bytes n)
   -- case C's step by rule 5 applies handle 3, and binds future 2
   binds : Binds fourth-of-C 2
-  -- document 02, T-02: the step of kept-handle by rule 6 leaves handle 3 in cell 4
+  -- document 02, T-02: kept-handle is accepted, and its step by rule 6 leaves handle 3 in cell 4
+  pub kept-accepted : verdict-of (kept-handle .file) .refusal ≡ 0
   pub holds-once : (n : Step) × (at (run-of kept-handle) 3 ≡ some n) × HoldsOnce (type-at (type-table (kept-handle .file))) n 4
 
 pub cases : Proved
@@ -675,5 +676,6 @@ cases = record {
   recipes = λ n h. ap (λ m. num-at (two-bytes n) (two-bytes m)) (number-of-bytes n);
   images = λ n h. ap₂ (λ m k. setting-at (two-bytes n) (two-bytes m) (two-bytes k)) (number-of-bytes n) (number-of-bytes _ ∙ number-of-bytes n);
   binds = (3, (32, refl, refl), refl);
+  kept-accepted = refl;
   holds-once = (_, refl, (name 3, fun once num-type unit-type, refl, refl, refl));
 }
