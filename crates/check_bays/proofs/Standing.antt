@@ -18,7 +18,7 @@ use Rattle.recipe_file.specs.FileRule.{FileRule}
 use Rattle.term_scan.specs.declared.Part.the-variants.{Nodes, NoTerm}
 use Rattle.term_scan.specs.Extents as extents
 use Rattle.recipe_table.specs.Entries.{table-of, type-table}
-use Rattle.check_prescan.specs.Stands.{exactly, glance, leaf-stands, stands}
+use Rattle.check_prescan.specs.Stands.{exactly, glance, stands}
 use Rattle.check_spec.specs.Bays.{bay-term}
 use Rattle.check_bays.specs.declared.Test.the-variants.{Nesting, Scope}
 use Rattle.check_bays.specs.Terms.{bay-nodes, bay-single}
@@ -38,16 +38,14 @@ whole-term l e = ap (λ (x : Got). exp-of (tree-in x)) e
 
 -- the tests of one bay
 pub bay-tests : (s : List ℕ) (bay : ℕ) → bay-stands s bay ≡ (bay-single s bay && (bay-passes s Nesting bay && (bay-passes s Scope bay && bay-annotated s bay)))
-unfolding bay-stands bay-single bay-passes passes bay-annotated bay-term glance stands leaf-stands one-term
+unfolding bay-stands bay-single bay-passes passes bay-annotated bay-term glance stands one-term
 bay-tests s bay = by (read-term (term-bytes s bay)) refl
   where
     by : (g : Got) → read-term (term-bytes s bay) ≡ g → is-term (exactly (type-table s) (bays s) g) ≡ (one-term g && (leb (nesting (term-at (term-bytes s bay) 0)) max-nesting
         && (scoped (length (type-table s)) (bays s) 0 (term-at (term-bytes s bay) 0) && annotated (type-table s) (term-at (term-bytes s bay) 0))))
     by none e = refl
     by (got t []) e =
-        let z : 0 + nesting (exp-of t) ≡ nesting (exp-of t) = omega arith in
-        rw (whole-term (term-bytes s bay) e)
-        (is-term-cond (stands (type-table s) (bays s) 0 0 (exp-of t)) (tree-nodes t) ∙ ap (λ (x : ℕ). leb x max-nesting && leaf-stands (type-table s) (bays s) 0 (exp-of t)) z)
+        rw (whole-term (term-bytes s bay) e) (is-term-cond (stands (type-table s) (bays s) (exp-of t)) (tree-nodes t))
     by (got t (x ∷ r)) e = refl
 
 -- of all bays
@@ -94,7 +92,7 @@ is-part T names n l e = by (read-term l) e
   where
     by : (g : Got) → Nodes n ≡ exactly T names g → Nodes n ≡ extents.exactly g
     by none e = absurd (clash (cc))
-    by (got t []) e = go (stands T names 0 0 (exp-of t)) e
+    by (got t []) e = go (stands T names (exp-of t)) e
       where
         go : (b : Bool) → Nodes n ≡ cond b (Nodes (tree-nodes t)) NoTerm → Nodes n ≡ Nodes (tree-nodes t)
         go true e = e

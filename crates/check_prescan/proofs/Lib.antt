@@ -1,6 +1,4 @@
--- leaves and lambdas
+-- causes 6 to 8 of a node
 mod Tests
--- terms to come, and the law of the loop
-mod Coming
 -- what the loop knows
-mod Seen
+mod Glancing

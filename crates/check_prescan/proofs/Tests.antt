@@ -1,106 +1,106 @@
--- Leaves and lambdas, by the tests of the code.
-use mathlib.Core.Path.{_≡_, ap, refl, sym, _∙_}
-use mathlib.Core.Bool.{Bool, _&&_, and-true, false, true, cond}
-use Prim.Native.Nat.{_-_, _<_, _≤_, suc, zero, ℕ}
+-- Causes 6 to 8 of a node, by the tests of the code.
+use mathlib.Core.Path.{_≡_, ap, refl, subst, sym, _∙_}
+use mathlib.Core.Bool.{Bool, _&&_, and-true, cond, false, not, true}
+use Prim.Native.Nat.{_<_, _≤_, ℕ}
 use native.Mathlib.Omega.{arith}
-use borrow.Author.Tests.{le-ltb, lt-ltb}
-use lib.Dec.{ltb}
+use borrow.Author.Tests.{eq-eqb, le-ltb, lt-ltb, ne-eqb}
+use lib.Dec.{T as So, eqb, leb, ltb}
 use lib.ListN.{length}
-use Rattle.calculus.specs.Limits.{max-nesting}
+use Rattle.calculus.specs.Bytes.{two-byte-values}
+use Rattle.calculus.specs.Limits.{byte-values, max-entries, max-nesting}
+use Rattle.calculus.specs.Table as calculus
+use Rattle.calculus.specs.Table.{Table}
+use Rattle.calculus.specs.Verdict.{annotated, annotated-const, is-function-kind}
+use Rattle.calculus.specs.Theory.Tests.{and-parts, leb-sound, ltb-sound, true-of}
 use Rattle.term.specs.declared.Front.{Front}
 use Rattle.term.specs.declared.Front.the-variants.{Bad, Is}
 use Rattle.term.specs.declared.Node.{Node}
-use Rattle.term.specs.Forms.{variable-tag, cell-tag, handle-tag, name-tag}
-use Rattle.calculus.specs.Table as calculus
-use Rattle.calculus.specs.Table.{Table}
-use Rattle.calculus.specs.Verdict.{annotated, is-function-kind, scoped}
-use Rattle.term.specs.Expressions.{leaf-exp}
+use Rattle.term.specs.Forms.{cell-tag, exch-tag, form-of, forms, handle-tag, lambda-tag, refers-of, tags, to-name, to-nothing, thread-tag, to-type, to-variable}
+use Rattle.term.specs.Expressions.{leaf-exp, leaf-forms}
+use Rattle.term.proofs.Table.{below, end-of-row, Row, _∣_}
+use Rattle.term_scan.specs.Scopes.{bound-of, operand-scoped}
 use Rattle.recipe_table.specs.declared.Entry.{Entry}
 use Rattle.recipe_table.specs.Filled.{as-entry}
 use Rattle.check_types.specs.Entries.{entry-of}
 use Rattle.check_types.proofs.Entries.{on-function-is}
-use Rattle.check_annotations.proofs.Leaves.{plain-leaf}
-use Rattle.term_scan.proofs.Scopes.{scoped-name, scoped-op, scoped-plain, scoped-unknown, scoped-variable}
-use Rattle.check_prescan.specs.Stands.{lambda-stands, leaf-stands, next-node, node-stands, node-test}
+use Rattle.check_prescan.specs.Stands.{around-of, level-of, next-node, node-annotated, node-stands}
+use Rattle.check_prescan.specs.Nodes.{Known, TypedNode}
 
-module _ (T : Table) (names lambdas tag arg : ℕ) where
-  abbrev leaf-test : Bool
-  leaf-test = leaf-stands T names lambdas (leaf-exp tag arg)
+-- a node that refers to a type is a lambda or a constant with a type
+pub typed-constant : {tag arg : ℕ} → TypedNode tag arg → (tag ≡ lambda-tag → ⊥) → (cell-tag ≤ tag) × (tag ≤ handle-tag)
+unfolding form-of forms
+typed-constant {tag} t = below row tag (t .known) (t .typed)
+  where
+    other : {P : Type 0} (n : ℕ) → So (not (eqb n to-type)) → n ≡ to-type → P
+    other n f e = absurd (subst So (ap not (eq-eqb n to-type e)) f)
 
-  -- a leaf that has no annotation
-  plain : {b : Bool} → (cell-tag ≤ tag → tag ≤ handle-tag → ⊥) → b ≡ scoped (length T) names lambdas (leaf-exp tag arg) → b ≡ leaf-test
-  unfolding leaf-stands
-  plain apart e =
-      e
-      ∙ sym (and-true _)
-      ∙ ap (λ x. scoped (length T) names lambdas (leaf-exp tag arg) && x)
-      (plain-leaf T tag arg (λ z. apart (omega arith) (omega arith)) (λ z. apart (omega arith) (omega arith)) (λ z. apart (omega arith) (omega arith)) (λ z. apart (omega arith) (omega arith)))
+    constant : (tag : ℕ) → So (leb cell-tag tag && leb tag handle-tag) → (cell-tag ≤ tag) × (tag ≤ handle-tag)
+    constant tag t = let (low, high) = and-parts (leb cell-tag tag) (leb tag handle-tag) (true-of _ t) in (leb-sound cell-tag tag low, leb-sound tag handle-tag high)
 
-  pub variable-stands : tag ≡ variable-tag → ltb arg lambdas ≡ leaf-test
-  variable-stands z = plain (λ low high. omega arith) (scoped-variable (length T) names lambdas arg tag z)
+    row : Row (λ tag. refers-of tag ≡ to-type → (tag ≡ lambda-tag → ⊥) → (cell-tag ≤ tag) × (tag ≤ handle-tag)) 0 tags
+    row =
+        (λ e l. other to-variable tt e) ∣
+        (λ e l. absurd (l refl)) ∣
+        (λ e l. other to-nothing tt e) ∣
+        (λ e l. other to-nothing tt e) ∣
+        (λ e l. other to-nothing tt e) ∣
+        (λ e l. constant cell-tag tt) ∣
+        (λ e l. constant exch-tag tt) ∣
+        (λ e l. constant thread-tag tt) ∣
+        (λ e l. constant handle-tag tt) ∣
+        (λ e l. other to-name tt e) ∣
+        end-of-row
 
-  pub name-stands : tag ≡ name-tag → ltb arg names ≡ leaf-test
-  name-stands z = plain (λ low high. omega arith) (scoped-name (length T) names lambdas arg tag z)
+module _ (T : Table) (tag arg : ℕ) where
+  pub lambda-annotated : (x : Entry) → as-entry x ≡ entry-of T arg → tag ≡ lambda-tag → is-function-kind (x .kind) ≡ node-annotated T tag arg
+  unfolding node-annotated
+  lambda-annotated x e t =
+      rw (t, on-function-is T arg (λ p q. true)) (ap (λ (y : calculus.Entry). is-function-kind (y .kind)) e ∙ sym (and-true (is-function-kind (entry-of T arg .kind))))
 
-  pub low-stands : (tag ≡ variable-tag → ⊥) → tag < cell-tag → true ≡ leaf-test
-  low-stands not-0 h = plain (λ low high. omega arith) (scoped-plain (length T) names lambdas arg tag not-0 h)
+  pub constant-annotated : (tag ≡ lambda-tag → ⊥) → annotated T (leaf-exp tag arg) ≡ node-annotated T tag arg
+  unfolding node-annotated
+  constant-annotated l = rw (ne-eqb tag lambda-tag l) refl
 
-  pub high-stands : (tag ≡ name-tag → ⊥) → handle-tag < tag → true ≡ leaf-test
-  high-stands not-9 h = plain (λ low high. omega arith) (scoped-unknown (length T) names lambdas arg tag (omega arith))
-
-  pub op-fails : cell-tag ≤ tag → tag ≤ handle-tag → length T ≤ arg → false ≡ leaf-test
-  unfolding leaf-stands
-  op-fails low high h = rw (← (scoped-op (length T) names lambdas arg tag low high), le-ltb arg (length T) h) refl
-
-  pub op-stands : cell-tag ≤ tag → tag ≤ handle-tag → arg < length T → annotated T (leaf-exp tag arg) ≡ leaf-test
-  unfolding leaf-stands
-  op-stands low high h = rw (← (scoped-op (length T) names lambdas arg tag low high), lt-ltb arg (length T) h) refl
-
--- a lambda
-pub lambda-fails : (T : Table) (arg : ℕ) → length T ≤ arg → false ≡ lambda-stands T arg
-unfolding lambda-stands
-lambda-fails T arg h = rw (le-ltb arg (length T) h) refl
-
-pub lambda-entry : (T : Table) (arg : ℕ) (x : Entry) → as-entry x ≡ entry-of T arg → arg < length T → is-function-kind (x .kind) ≡ lambda-stands T arg
-unfolding lambda-stands
-lambda-entry T arg x e h =
-    rw (lt-ltb arg (length T) h, on-function-is T arg (λ p q. true)) (ap (λ (y : calculus.Entry). is-function-kind (y .kind)) e ∙ sym (and-true (is-function-kind (entry-of T arg .kind))))
-
--- a node, by its subterms
-module _ (T : Table) (names level lambdas : ℕ) (h : Node) where
-  pub node-leaf : h .subterms ≡ 0 → leaf-stands T names lambdas (leaf-exp (h .tag) (h .arg)) ≡ node-stands T names level lambdas h
-  unfolding node-stands
-  node-leaf e = rw e refl
-
-  pub node-deep : (h .subterms ≡ 0 → ⊥) → max-nesting - 1 ≤ level → false ≡ node-stands T names level lambdas h
-  unfolding node-stands
-  node-deep some low = by (h .subterms) refl
+  -- a node that refers to no type has no annotation
+  pub not-annotated : tag < tags → (refers-of tag ≡ to-type → ⊥) → node-annotated T tag arg ≡ true
+  unfolding node-annotated annotated annotated-const leaf-exp leaf-forms form-of forms
+  not-annotated known = below row tag known
     where
-      by : (k : ℕ) → h .subterms ≡ k → false ≡ node-test T names level lambdas h k
-      by zero e = absurd (some e)
-      by (suc zero) e = rw (le-ltb (suc level) max-nesting (omega arith)) refl
-      by (suc (suc k)) e = sym (le-ltb (suc level) max-nesting (omega arith))
+      row : Row (λ tag. (refers-of tag ≡ to-type → ⊥) → node-annotated T tag arg ≡ true) 0 tags
+      row =
+          (λ f. refl) ∣ (λ f. absurd (f refl)) ∣ (λ f. refl) ∣ (λ f. refl) ∣ (λ f. refl) ∣ (λ f. absurd (f refl)) ∣ (λ f. absurd (f refl)) ∣ (λ f. absurd (f refl))
+          ∣ (λ f. absurd (f refl)) ∣ (λ f. refl) ∣ end-of-row
 
-  module _ (high : level < max-nesting - 1) where
-    pub node-lambda : h .subterms ≡ 1 → lambda-stands T (h .arg) ≡ node-stands T names level lambdas h
-    unfolding node-stands
-    node-lambda e = rw (e, lt-ltb (suc level) max-nesting (omega arith)) refl
+-- the tests of a node in the order of the code
+module _ (T : Table) (names frame : ℕ) (h : Node) where
+  pub node-deep : max-nesting ≤ level-of frame → false ≡ node-stands T names frame h
+  unfolding node-stands
+  node-deep low = rw (le-ltb (level-of frame) max-nesting low) refl
 
-    pub node-two : (h .subterms ≡ 0 → ⊥) → (h .subterms ≡ 1 → ⊥) → true ≡ node-stands T names level lambdas h
+  module _ (high : level-of frame < max-nesting) where
+    pub node-loose : operand-scoped (length T) names (around-of frame) (h .refers) (h .arg) ≡ false → false ≡ node-stands T names frame h
     unfolding node-stands
-    node-two not-0 not-1 = by (h .subterms) refl
-      where
-        by : (k : ℕ) → h .subterms ≡ k → true ≡ node-test T names level lambdas h k
-        by zero e = absurd (not-0 e)
-        by (suc zero) e = absurd (not-1 e)
-        by (suc (suc k)) e = sym (lt-ltb (suc level) max-nesting (omega arith))
+    node-loose f = rw (lt-ltb (level-of frame) max-nesting high, f) refl
+
+    module _ (there : operand-scoped (length T) names (around-of frame) (h .refers) (h .arg) ≡ true) where
+      pub node-typed : node-annotated T (h .tag) (h .arg) ≡ node-stands T names frame h
+      unfolding node-stands
+      node-typed = rw (lt-ltb (level-of frame) max-nesting high, there) refl
+
+      pub node-plain : Known h → (h .refers ≡ to-type → ⊥) → true ≡ node-stands T names frame h
+      node-plain k f = sym (not-annotated T (h .tag) (h .arg) (k .known) (λ z. f (sym (k .refers) ∙ z))) ∙ node-typed
+
+      pub node-type : Known h → h .refers ≡ to-type → length T ≤ max-entries → TypedNode (h .tag) (h .arg)
+      unfolding operand-scoped bound-of
+      node-type k t few =
+          record { known = k .known; typed = k .refers ∙ t; small = omega (arith, few, ltb-sound (h .arg) (length T) (rw t at there)) }
 
 -- the next node
-module _ (T : Table) (names level lambdas : ℕ) {front : Front} where
-  pub next-bad : front ≡ Bad → Bad ≡ next-node T names level lambdas front
+module _ (T : Table) (names frame : ℕ) {front : Front} where
+  pub next-bad : front ≡ Bad → Bad ≡ next-node T names frame front
   unfolding next-node
   next-bad e = rw e refl
 
-  pub next-picked : {h : Node} {b : Bool} → front ≡ Is h → node-stands T names level lambdas h ≡ b → cond b (Is h) Bad ≡ next-node T names level lambdas front
+  pub next-picked : {h : Node} {b : Bool} → front ≡ Is h → node-stands T names frame h ≡ b → cond b (Is h) Bad ≡ next-node T names frame front
   unfolding next-node
   next-picked e f = rw (e, f) refl

@@ -1,91 +1,70 @@
-// Causes 5 to 8 of a part in one pass: whether it is exactly one term, nests within the limit, and has its variables, names and types. The loop reads one
-// node after the other; of an application whose function is read, the argument is still to come.
+// Causes 5 to 8 of a part in one pass: whether it is exactly one term, nests within the limit, and has its variables, names and types. It is a walk (crate
+// term_walk), whose frames are the numbers of nodes above and of variables around the terms still to come.
+use numbers::Byte;
 use numbers::Recipe;
 use recipe_file::ENTRY_LENGTH;
+use term::Form;
 use term::Front;
 use term::Node;
 use term_scan::Part;
+use term_walk::pass;
 ghost use mathlib.Core.Path.{_≡_};
-ghost use Prim.Native.Nat.{_≤_};
+ghost use Prim.Native.Nat.{_<_, _≤_};
 ghost use lib.ListN.{length};
 ghost use Rattle.calculus.specs.Limits.{max-entries};
+ghost use Rattle.calculus.specs.Bytes.{two-byte-values};
 ghost use Rattle.term.specs.Reader.{node-at};
-ghost use Rattle.term.specs.Expressions.{leaf-exp};
 ghost use Rattle.recipe_table.specs.Entries.{table-of};
-ghost use Rattle.check_prescan.specs.Stands.{ended, glance, lambda-stands, leaf-stands, next-node, node-stands};
+ghost use Rattle.check_prescan.specs.Nodes.{Known, TypedNode};
+ghost use Rattle.check_prescan.specs.Stands.{ended, glance, next-node, node-annotated, node-stands};
 
-// The deepest level whose nodes have subterms.
-const LAST_LEVEL: u8 = (Recipe::MAX_NESTING - 1) as u8;
+// What a node above a term adds to its frame; a variable around it adds 1.
+const LEVEL: u16 = Byte::VALUES as u16;
 
-// Causes 7 and 8 of a term with no subterm, below so many lambdas.
-fn leaf_stands(
-    table: &[u8],
-    types: usize,
-    names: usize,
-    tag: u8,
-    arg: usize,
-    lambdas: usize,
-) -> bool
-    requires { ⌜ (types ≡ length (table-of (now table))) × (types ≤ max-entries) ⌝ }
-    ensures { λ r. ⌜ r ≡ leaf-stands (table-of (now (table .entry))) names lambdas (leaf-exp tag arg) ⌝ }
+// The terms still to come: no more than there are nodes above the next one, and that one.
+const MAX_WAITS: usize = Recipe::MAX_NESTING + 1;
+
+// Cause 8 of a node whose number is that of a type, its subterms apart.
+fn type_stands(table: &[u8], tag: u8, arg: usize) -> bool
+    requires { ⌜ TypedNode tag arg ⌝ }
+    ensures { λ r. ⌜ r ≡ node-annotated (table-of (now (table .entry))) tag arg ⌝ }
 {
-    if tag == Node::VARIABLE {
-        return arg < lambdas;
-    }
-    if tag == Node::NAME {
-        return arg < names;
-    }
-    if tag < Node::CELL {
-        return true;
-    }
-    if Node::HANDLE < tag {
-        return true;
-    }
-    if types <= arg {
-        return false;
+    if tag == Node::LAMBDA {
+        let entry = check_types::entry_at(table, arg);
+        return check_types::is_function(entry.kind);
     }
     check_annotations::constant_annotated(table, tag, arg)
 }
 
-// Causes 7 and 8 of a lambda, its body apart.
-fn lambda_stands(table: &[u8], types: usize, arg: usize) -> bool
-    requires { ⌜ (types ≡ length (table-of (now table))) × (types ≤ max-entries) ⌝ }
-    ensures { λ r. ⌜ r ≡ lambda-stands (table-of (now (table .entry))) arg ⌝ }
+// Causes 6 to 8 of a node with this frame, its subterms apart.
+fn node_stands(table: &[u8], names: usize, node: Node, frame: u16) -> bool
+    requires { ⌜ (length (table-of (now table)) ≤ max-entries) × Known node ⌝ }
+    ensures { λ r. ⌜ r ≡ node-stands (table-of (now (table .entry))) names frame node ⌝ }
 {
-    if types <= arg {
+    if Recipe::MAX_NESTING <= ((frame / LEVEL) as usize) {
         return false;
     }
-    let entry = check_types::entry_at(table, arg);
-    check_types::is_function(entry.kind)
-}
-
-// Causes 6 to 8 of a node, its subterms apart, below so many nodes and lambdas.
-fn node_stands(table: &[u8], names: usize, node: Node, level: u8, lambdas: u8) -> bool
-    requires { ⌜ length (table-of (now table)) ≤ max-entries ⌝ }
-    ensures { λ r. ⌜ r ≡ node-stands (table-of (now (table .entry))) names level lambdas node ⌝ }
-{
     let types = table.len() / ENTRY_LENGTH;
-    if node.subterms == 0 {
-        return leaf_stands(table, types, names, node.tag, node.arg, lambdas as usize);
-    }
-    if LAST_LEVEL <= level {
+    let refers = node.refers;
+    let arg = node.arg;
+    if !term_scan::is_there(refers, arg, types, names, (frame % LEVEL) as usize) {
         return false;
     }
-    if node.subterms == 1 {
-        return lambda_stands(table, types, node.arg);
+    if refers != Form::TO_TYPE {
+        return true;
     }
-    true
+    type_stands(table, node.tag, arg)
 }
 
 // The next node, where none of causes 5 to 8 fits it.
-fn next_node(table: &[u8], names: usize, s: &[u8], here: usize, level: u8, lambdas: u8) -> Front
+fn next_node(table: &[u8], names: usize, s: &[u8], here: usize, frame: u16) -> Front
     requires { ⌜ (length (table-of (now table)) ≤ max-entries) × (here ≤ length (now s)) ⌝ }
-    ensures { λ r. ⌜ r ≡ next-node (table-of (now (table .entry))) names level lambdas (node-at (now (s .entry)) here) ⌝ }
+    ensures { λ r. ⌜ r ≡ next-node (table-of (now (table .entry))) names frame (node-at (now (s .entry)) here) ⌝ }
 {
     let Front::Is(node) = term::node_at(s, here) else {
         return Front::Bad;
     };
-    if !node_stands(table, names, node, level, lambdas) {
+    if !node_stands(table, names, node, frame) {
         return Front::Bad;
     }
     Front::Is(node)
@@ -106,37 +85,28 @@ pub fn glance(table: &[u8], names: usize, s: &[u8]) -> Part
     requires { ⌜ length (table-of (now table)) ≤ max-entries ⌝ }
     ensures { λ r. ⌜ r ≡ glance (table-of (now (table .entry))) names (now (s .entry)) ⌝ }
 {
-    let mut levels = [0u8; Recipe::MAX_NESTING];
-    let mut arounds = [0u8; Recipe::MAX_NESTING];
-    let mut waits: usize = 0;
-    let mut level: u8 = 0;
-    let mut lambdas: u8 = 0;
+    let mut frames = [0u16; MAX_WAITS];
+    let mut waits: usize = 1;
     let mut here: usize = 0;
     let mut nodes: usize = 0;
-    loop {
-        let Front::Is(node) = next_node(table, names, s, here, level, lambdas) else {
+    while 0 < waits {
+        let frame = frames[waits - 1];
+        let Front::Is(node) = next_node(table, names, s, here, frame) else {
             return Part::NoTerm;
         };
         let size = node.size;
         let subterms = node.subterms;
+        let below = frame + LEVEL;
+        let binders = node.binders;
+        waits = pass(
+            &mut frames,
+            waits,
+            subterms,
+            below,
+            below + (binders as u16),
+        );
         here += size;
         nodes += 1;
-        if subterms == 0 {
-            if waits == 0 {
-                return ended(s, here, nodes);
-            }
-            waits -= 1;
-            level = levels[waits];
-            lambdas = arounds[waits];
-            continue;
-        }
-        level += 1;
-        if subterms == 1 {
-            lambdas += 1;
-            continue;
-        }
-        levels[waits] = level;
-        arounds[waits] = lambdas;
-        waits += 1;
     }
+    ended(s, here, nodes)
 }

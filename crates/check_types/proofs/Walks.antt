@@ -11,7 +11,7 @@ use Rattle.calculus.specs.Theory.Tests.{clash}
 use Rattle.term.specs.declared.Node.{Node}
 use Rattle.term.specs.Reader.{end-at}
 use Rattle.term.specs.Expressions.{leaf-exp, term-at}
-use Rattle.term.proofs.Views.{LeafAt, OneAt, past-first, TwoAt}
+use Rattle.term.proofs.Views.{AppAt, LeafAt, OneAt, past-first}
 use Rattle.check_types.specs.declared.Typed.the-variants.{Has, Nothing}
 use Rattle.check_types.specs.Entries.{entry-of}
 use Rattle.check_types.specs.Walk.{HasNumber, typed-at, typed}
@@ -64,7 +64,7 @@ module _ (T : Table) (Δ l : List ℕ) (at : ℕ) (h : Node) where
         let f = found (body (entry-of T (h .arg) .p)) b (end-at l (at + h .size)) end e in
         rw (lambda, body-is (entry-of T (h .arg)) (h .arg) b body (f .number), o .ends, f .ends) refl
 
-  module _ (o : TwoAt l at h) where
+  module _ (o : AppAt l at h) where
     abbrev function : Option ℕ
     function = type-number T Δ (term-at l (at + h .size))
 
@@ -99,4 +99,4 @@ module _ (T : Table) (Δ l : List ℕ) (at : ℕ) (h : Node) where
       two-type a end e =
           let e′ : Has a end ≡ typed-at T Δ l (past-first l at h) = subst (λ x. Has a end ≡ typed-at T Δ l x) (sym second-at) e in
           let g = found argument a (end-at l (past-first l at h)) end e′ in
-          rw (application, first-found .number, g .number, result-is (entry-at T f) a, o .ends, g .ends) refl
+          rw (application, first-found .number, g .number, result-is (entry-at T f) a, o .two .ends, g .ends) refl

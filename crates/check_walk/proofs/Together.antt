@@ -13,7 +13,7 @@ use Rattle.calculus.specs.Verdict.{is-function-kind, lambda-number, on-number, 
 use Rattle.calculus.specs.Theory.Tests.{clash}
 use Rattle.term.specs.declared.Node.{Node}
 use Rattle.term.specs.Expressions.{leaf-exp}
-use Rattle.term.proofs.Views.{LeafAt, OneAt, past-first, TwoAt}
+use Rattle.term.proofs.Views.{AppAt, LeafAt, OneAt, past-first}
 use Rattle.recipe_table.specs.declared.Entry.{Entry}
 use Rattle.recipe_table.specs.Filled.{as-entry}
 use Rattle.check_linearity.specs.Spend.{due-mark, new-mark}
@@ -113,7 +113,7 @@ module _ (T : calculus.Table) (s : List ℕ) (at above floor : ℕ) (env marks :
         }))
 
   -- an application
-  module _ (o : TwoAt s at h) (env₁ marks₁ : List ℕ) {r : Answer} (w : WalkedAt T s (at + h .size) above floor env env₁ marks marks₁ r) where
+  module _ (o : AppAt s at h) (env₁ marks₁ : List ℕ) {r : Answer} (w : WalkedAt T s (at + h .size) above floor env env₁ marks marks₁ r) where
     pub walked-no-first : {env′ marks′ : List ℕ} → r ≡ Nothing → WalkedAt T s at above floor env env′ marks marks′ Nothing
     walked-no-first e = nothing-at (two-nothing T (environment above env) s at h o (none-of w e))
 

@@ -15,7 +15,7 @@ use Rattle.term.specs.Forms.{variable-tag}
 use Rattle.term.specs.Expressions.{leaf-exp, leaf-forms, term-at}
 use Rattle.term.proofs.Leaves.{leaf-variable}
 use Rattle.term.proofs.Table.{every-at}
-use Rattle.term.proofs.Views.{OneAt, past-first, TwoAt}
+use Rattle.term.proofs.Views.{AppAt, OneAt, past-first}
 use Rattle.check_linearity.specs.Spend.{due-mark, new-mark}
 use Rattle.check_linearity.specs.Levels.{floor-under, LinearWalk}
 use Rattle.check_linearity.specs.Theory.Walks.{walked-application, walked-body, walked-const, walked-function, walked-lambda, walked-name, walked-unused}
@@ -50,7 +50,7 @@ variable-leaf tag arg z w same = record { walked = λ T. rw (leaf-variable tag a
 
 module _ {T : Table} {s : List ℕ} {at above floor : ℕ} {marks marks₁ : List ℕ} {h : Node} where
   -- an application: its function breaks the rule, or its argument decides
-  pub application-spent : {marks₂ : List ℕ} (k k₂ : Bool) → TwoAt s at h → LinearWalk T floor above marks (term-at s (at + h .size)) k marks₁ →
+  pub application-spent : {marks₂ : List ℕ} (k k₂ : Bool) → AppAt s at h → LinearWalk T floor above marks (term-at s (at + h .size)) k marks₁ →
       LinearWalk T floor above marks₁ (term-at s (past-first s at h)) k₂ marks₂ → LinearWalk T floor above marks (term-at s at) (k && k₂) marks₂
   application-spent true k₂ o w v = rw (o .term) (walked-application w v)
   application-spent false k₂ o w v = rw (o .term) (walked-function _ w)

@@ -13,7 +13,7 @@ use Rattle.calculus.specs.Theory.Tests.{and-parts, ltb-sound}
 use Rattle.term.specs.declared.Node.{Node}
 use Rattle.term.specs.Expressions.{leaf-exp, nesting, term-at}
 use Rattle.term.proofs.Leaves.{leaf-variable}
-use Rattle.term.proofs.Views.{LeafAt, OneAt, past-first, TwoAt}
+use Rattle.term.proofs.Views.{AppAt, LeafAt, OneAt, past-first}
 use Rattle.check_types.specs.Walk.{LeafScoped}
 use Rattle.check_walk.specs.Walk.{InScope, WalkReady, Whole}
 
@@ -77,7 +77,7 @@ module _ {s : List ℕ} {at above floor : ℕ} {env marks : List ℕ} {h : Node}
     }
 
   -- function and argument of an application
-  module _ (o : TwoAt s at h) where
+  module _ (o : AppAt s at h) where
     in-both : (scoped (r .types) (r .names) above (term-at s (at + h .size)) && scoped (r .types) (r .names) above (term-at s (past-first s at h))) ≡ true
     unfolding scoped
     in-both = rw (o .term) at (r .scope)
@@ -88,7 +88,7 @@ module _ {s : List ℕ} {at above floor : ℕ} {env marks : List ℕ} {h : Node}
 
     pub ready-function : WalkReady s (at + h .size) above floor env marks
     ready-function = record {
-      good = o .good;
+      good = o .two .good;
       shallow = omega (arith, r .shallow, both-nesting);
       types = r .types;
       few = r .few;
@@ -102,7 +102,7 @@ module _ {s : List ℕ} {at above floor : ℕ} {env marks : List ℕ} {h : Node}
     pub ready-argument : {second : ℕ} {env′ marks′ : List ℕ} → second ≡ past-first s at h → length env′ ≡ length env → length marks′ ≡ length marks →
         WalkReady s second above floor env′ marks′
     ready-argument e wide same = rw e record {
-      good = o .second;
+      good = o .two .second;
       shallow = omega (arith, r .shallow, both-nesting);
       types = r .types;
       few = r .few;

@@ -133,7 +133,7 @@ fn walk_at(
         let number = check_types::leaf_type(tag, arg, env, above);
         return Walked::Has(number, next, spend_leaf(marks, tag, arg, above, floor));
     }
-    if subterms == 1 {
+    if tag == Node::LAMBDA {
         let entry = check_types::entry_at(table, arg);
         let under = floor_under(entry.kind, floor, above);
         marks[above] = new_mark(table, entry.p);

@@ -11,7 +11,7 @@ use Rattle.calculus.specs.Reply.{reply-of}
 use Rattle.term.specs.Numbers.{little-endian, value-of}
 use Rattle.term.specs.Forms.{form-of, forms}
 use Rattle.term.specs.Reader.{one-term, read, read-term}
-use Rattle.term.specs.Expressions.{bytes, const-bytes, op-tag, exp-of, leaf-exp, leaf-forms, term-of}
+use Rattle.term.specs.Expressions.{bytes, const-bytes, op-tag, exp-of, leaf-exp, leaf-forms, term-of, two-exp}
 use Rattle.image_layout.specs.Encoded.{head, heads, expressions, image-bytes}
 use Rattle.image_layout.specs.Slice.{names, kind-at, companion-at, offset-at as offset-in, length-at, expression-at, encoded-at, encoded-all}
 use Rattle.image_layout.specs.Layout.{kind-test, companion-test, length-test, head-agrees, head-stands, stand-from, heads-stand}
@@ -86,7 +86,7 @@ rows =
     ∷ []
 
 computed : map restepped rows ≡ rows
-unfolding restepped new-image step-reply outcome-of-reply config-of decode components image-of encode terms-stand image-stands kind-test companion-test length-test head-agrees head-stands stand-from heads-stand names kind-at companion-at offset-in length-at expression-at encoded-at encoded-all head heads expressions image-bytes bytes const-bytes op-tag exp-of leaf-exp leaf-forms one-term read read-term form-of forms little-endian value-of reply-of nodes sum-in sum-all expression-test is-settled is-awaited handle-for component-test each-test limits-test image-test beside place-app place when-done step-call step-exchange step-meeting step-place step-of substitute plug two-bytes word tabulate each-below sum-below term-of
+unfolding restepped new-image step-reply outcome-of-reply config-of decode components image-of encode terms-stand image-stands kind-test companion-test length-test head-agrees head-stands stand-from heads-stand names kind-at companion-at offset-in length-at expression-at encoded-at encoded-all head heads expressions image-bytes bytes const-bytes op-tag exp-of leaf-exp leaf-forms two-exp one-term read read-term form-of forms little-endian value-of reply-of nodes sum-in sum-all expression-test is-settled is-awaited handle-for component-test each-test limits-test image-test beside place-app place when-done step-call step-exchange step-meeting step-place step-of substitute plug two-bytes word tabulate each-below sum-below term-of
 computed = refl
 
 -- each row holds of every out buffer of its length, whatever that holds

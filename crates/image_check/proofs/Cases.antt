@@ -10,7 +10,7 @@ use Rattle.calculus.specs.Image.{component-test, each-test, expression-test, ha
 use Rattle.term.specs.Forms.{form-of, forms}
 use Rattle.term.specs.Numbers.{value-of}
 use Rattle.term.specs.Reader.{one-term, read, read-term}
-use Rattle.term.specs.Expressions.{exp-of, leaf-exp, leaf-forms, term-of}
+use Rattle.term.specs.Expressions.{exp-of, leaf-exp, leaf-forms, term-of, two-exp}
 use Rattle.image_layout.specs.Slice.{companion-at, encoded-all, encoded-at, expression-at, kind-at, length-at, names, offset-at}
 use Rattle.image_layout.specs.Layout.{companion-test, head-agrees, head-stands, heads-stand, kind-test, length-test, stand-from}
 use Rattle.image.specs.Configuration.{components, config-of, decode}
@@ -59,5 +59,5 @@ Hold [] = Unit {0}
 Hold (r ∷ rs) = (checked (r .slice) ≡ r .answer) × Hold rs
 
 pub cases : Hold rows
-unfolding checked image-stands heads-stand stand-from head-stands head-agrees kind-test companion-test length-test names kind-at companion-at offset-at length-at expression-at encoded-at encoded-all word tabulate each-below terms-stand one-term read-term read form-of forms value-of exp-of leaf-exp leaf-forms config-of decode components image-test each-test component-test limits-test expression-test is-settled place place-app beside is-awaited sum-all handle-for nodes sum-in term-of
+unfolding checked image-stands heads-stand stand-from head-stands head-agrees kind-test companion-test length-test names kind-at companion-at offset-at length-at expression-at encoded-at encoded-all word tabulate each-below terms-stand one-term read-term read form-of forms value-of exp-of leaf-exp leaf-forms two-exp config-of decode components image-test each-test component-test limits-test expression-test is-settled place place-app beside is-awaited sum-all handle-for nodes sum-in term-of
 cases = (refl, (refl, (refl, (refl, (refl, (refl, (refl, (refl, (refl, (refl, (refl, (refl, (refl, (refl, (refl, (refl, (refl, (refl, (refl, tt)))))))))))))))))))

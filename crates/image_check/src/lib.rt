@@ -4,11 +4,13 @@ use numbers::Byte;
 use numbers::Image;
 use term_scan::Extent;
 use term_scan::Part;
+use term_walk::Frames;
 ghost use mathlib.Core.Path.{_≡_};
 ghost use mathlib.Core.Bool.{true};
 ghost use Prim.Native.Nat.{_≤_};
 ghost use lib.ListN.{length};
 ghost use Rattle.calculus.specs.Limits.{max-names, max-nodes};
+ghost use Rattle.term_walk.specs.Frames.{max-waits};
 ghost use Rattle.image_layout.specs.Slice.{names};
 ghost use Rattle.image_layout.specs.Layout.{heads-stand};
 ghost use Rattle.image_check.specs.Parts.{all-part, component-part, HandlesCounted, expression-part, Named, pair-stands, pairs-stand, Tally};
@@ -21,9 +23,9 @@ pub enum Checked {
 }
 
 // The nodes of an expression that is exactly one term with at most `left` of them, whose variables are bound and whose names are below `names`.
-// `outer` is lent to the scan.
-fn expression_nodes(expression: &[u8], names: usize, left: usize, outer: &mut [u16]) -> Part
-    requires { ⌜ (left ≤ max-nodes) × (length (now outer) ≡ max-nodes) ⌝ }
+// `frames` is lent to the scan.
+fn expression_nodes(expression: &[u8], names: usize, left: usize, frames: &mut [u16]) -> Part
+    requires { ⌜ (left ≤ max-nodes) × (length (now frames) ≡ max-waits) ⌝ }
     ensures { λ r. ⌜ r ≡ expression-part names left (now (expression .entry)) ⌝ }
 {
     let Extent::Ends(end, nodes) = term_scan::scan_scoped(
@@ -32,7 +34,7 @@ fn expression_nodes(expression: &[u8], names: usize, left: usize, outer: &mut [u
         left,
         Byte::VALUES,
         names,
-        outer,
+        frames,
     ) else {
         return Part::NoTerm;
     };
@@ -43,8 +45,8 @@ fn expression_nodes(expression: &[u8], names: usize, left: usize, outer: &mut [u
 }
 
 // The same of the expression of name k, where it has one; a cell's is a value.
-fn component_nodes(image: &[u8], names: usize, k: usize, left: usize, outer: &mut [u16]) -> Part
-    requires { ⌜ Named (now image) k × ((left ≤ max-nodes) × (length (now outer) ≡ max-nodes)) ⌝ }
+fn component_nodes(image: &[u8], names: usize, k: usize, left: usize, frames: &mut [u16]) -> Part
+    requires { ⌜ Named (now image) k × ((left ≤ max-nodes) × (length (now frames) ≡ max-waits)) ⌝ }
     ensures { λ r. ⌜ r ≡ component-part (now (image .entry)) names left k ⌝ }
 {
     let kind = image_layout::kind_at(image, k);
@@ -52,7 +54,7 @@ fn component_nodes(image: &[u8], names: usize, k: usize, left: usize, outer: &mu
         return Part::Nodes(0);
     }
     let expression = image_layout::expression_at(image, k);
-    let Part::Nodes(nodes) = expression_nodes(expression, names, left, outer) else {
+    let Part::Nodes(nodes) = expression_nodes(expression, names, left, frames) else {
         return Part::NoTerm;
     };
     if kind == Image::THREAD {
@@ -70,11 +72,11 @@ fn all_nodes(image: &[u8]) -> Part
     ensures { λ r. ⌜ r ≡ all-part (now (image .entry)) ⌝ }
 {
     let names = image_layout::names_of(image);
-    let mut outer = [0u16; Image::MAX_NODES];
+    let mut frames = [0u16; Frames::MAX_WAITS];
     let mut left = Image::MAX_NODES;
     let mut k = 0;
     while k < names {
-        let Part::Nodes(nodes) = component_nodes(image, names, k, left, &mut outer) else {
+        let Part::Nodes(nodes) = component_nodes(image, names, k, left, &mut frames) else {
             return Part::NoTerm;
         };
         left -= nodes;

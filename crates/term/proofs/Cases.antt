@@ -9,9 +9,9 @@ use Rattle.calculus.specs.Bytes.{two-bytes, word}
 use Rattle.calculus.specs.Syntax.{num, op, exch, handle, app, const, Exp, lam, name, var}
 use Rattle.term.specs.declared.Front.the-variants.{Is}
 use Rattle.term.specs.Numbers.{value-of}
-use Rattle.term.specs.Forms.{form-of, forms, num-tag}
+use Rattle.term.specs.Forms.{form-of, forms, num-tag, to-nothing}
 use Rattle.term.specs.Reader.{node-of, one-term, read, read-term}
-use Rattle.term.specs.Expressions.{bytes, const-bytes, exp-of, leaf-exp, leaf-forms, op-tag, term-at, term-of}
+use Rattle.term.specs.Expressions.{bytes, const-bytes, exp-of, leaf-exp, leaf-forms, op-tag, term-at, term-of, two-exp}
 use Rattle.term.proofs.Nodes.{head-node}
 
 -- case B: exch applied to the setting and to 250
@@ -26,7 +26,7 @@ unfolding bytes const-bytes op-tag two-bytes
 case-B = refl
 
 case-B-back : term-at bytes-B 0 ≡ term-B
-unfolding term-of read-term read form-of forms value-of word exp-of leaf-exp leaf-forms
+unfolding term-of read-term read form-of forms value-of word exp-of leaf-exp leaf-forms two-exp
 case-B-back = refl
 
 -- case C: handle applied to a function that binds its future to itself
@@ -41,7 +41,7 @@ unfolding bytes const-bytes op-tag two-bytes
 case-C = refl
 
 case-C-back : term-at bytes-C 0 ≡ term-C
-unfolding term-of read-term read form-of forms value-of word exp-of leaf-exp leaf-forms
+unfolding term-of read-term read form-of forms value-of word exp-of leaf-exp leaf-forms two-exp
 case-C-back = refl
 
 -- cause 5: exactly one term, or not
@@ -78,6 +78,6 @@ unfolding one-term read-term read form-of forms value-of word
 are-damaged = tt
 
 -- document 02, T-01, "Refusal 5 no longer has a cause in a num's size": any two bytes after its tag are a num, whatever follows
-every-num : (low high : ℕ) (rest : List ℕ) → node-of (num-tag ∷ low ∷ high ∷ rest) ≡ Is (record { tag = num-tag; arg = low + 256 * high; size = 3; subterms = 0 })
+every-num : (low high : ℕ) (rest : List ℕ) → node-of (num-tag ∷ low ∷ high ∷ rest) ≡ Is (record { tag = num-tag; arg = low + 256 * high; size = 3; subterms = 0; binders = 0; refers = to-nothing })
 unfolding form-of forms value-of word
 every-num low high rest = sym (head-node (num-tag ∷ low ∷ high ∷ rest) (omega arith) (omega arith) (omega arith))

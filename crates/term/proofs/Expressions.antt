@@ -9,7 +9,7 @@ use lib.Seq.{drop-drop}
 use Rattle.calculus.specs.Bytes.{Bytes}
 use Rattle.calculus.specs.Syntax.{Exp}
 use Rattle.calculus.specs.Image.{size}
-use Rattle.term.specs.Tree.{Tree, tree-size}
+use Rattle.term.specs.Tree.{Tree, tree-size, WellFormed}
 use Rattle.term.specs.Reader.{end-at, first-rest, first-tree, Got, none, got, GoodAt, one-term, read-term, tree-at}
 use Rattle.term.specs.Expressions.{bytes, exp-of, term-at, TermAt, tree-of, FitsBytes, term-of}
 use Rattle.term.proofs.Trees.{bytes-tree, exp-bytes, exp-fits, exp-size, exp-tree, tree-well-formed}
@@ -71,6 +71,11 @@ term-stands {l} {at} b g =
     let r : first-rest (drop at l) ≡ drop (at + size (exp-of t)) l =
     past-term (drop at l) t (first-rest (drop at l)) (g .good) .rest ∙ drop-drop (tree-size t) at l ∙ ap (λ n. drop (at + n) l) s in
     (record { inside = g .inside; stands = p ∙ ap₂ _++_ (sym (exp-bytes t w)) r; fits = exp-fits t w }, ap (λ n. at + n) s)
+
+-- and the tree is the table's
+pub well-formed-at : {l : List ℕ} {at : ℕ} → Bytes l → GoodAt l at → WellFormed (tree-at l at)
+unfolding tree-at
+well-formed-at {l} {at} b g = read-stands (drop at l) (first-tree (drop at l)) (first-rest (drop at l)) (bytes-drop at l b) (g .good) .1
 
 -- and where they stand, the expression is found
 pub record Found (l : List ℕ) (at : ℕ) (e : Exp) : Type 0 where

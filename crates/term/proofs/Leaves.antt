@@ -1,5 +1,5 @@
--- Leaves by their tag, and the tags of the nodes that have subterms. What is said of every tag is one test or one row of proofs, tag by tag.
-use mathlib.Core.Path.{_≡_, ap, refl, subst, sym}
+-- Leaves by their tag. What is said of every tag is one test or one row of proofs, tag by tag.
+use mathlib.Core.Path.{_≡_, ap, refl, subst}
 use mathlib.Core.Bool.{Bool}
 use mathlib.Core.List.{List, [], _∷_}
 use Prim.Native.Nat.{_+_, _-_, _<_, _≤_, suc, zero, ℕ}
@@ -10,12 +10,12 @@ use Rattle.calculus.specs.Syntax.{Const, unit, num, Op, op, cell, exch, thread,
 use Rattle.calculus.specs.Names.{count}
 use Rattle.calculus.specs.Limits.{byte-values}
 use Rattle.calculus.specs.Image.{nodes, WritableConst}
-use Rattle.calculus.specs.Theory.Tests.{clash}
 use Rattle.calculus.specs.Theory.Expressions.{count-other}
-use Rattle.term.specs.Forms.{form-of, forms, variable-tag, lambda-tag, application-tag, unit-tag, num-tag, cell-tag, handle-tag, name-tag, subterms-of, tags}
+use Rattle.term.specs.Forms.{form-of, forms, variable-tag, unit-tag, num-tag, cell-tag, handle-tag, name-tag, tags}
 use Rattle.term.specs.Tree.{InTable, leaf}
 use Rattle.term.specs.Expressions.{const-tree, leaf-exp, leaf-forms, nesting, op-tag, tree-of, FitsBytes}
 use Rattle.term.proofs.Table.{below, end-of-row, every, every-at, Row, _∣_}
+use Rattle.term.proofs.Shapes.{leaf-tag}
 
 -- a rule of leaves, by one test
 leaf-rule : (test : Exp → Bool) (tag arg : ℕ) → T (every test (leaf-forms arg)) → T (test (const unit)) → T (test (leaf-exp tag arg))
@@ -72,30 +72,12 @@ leaf-op tag arg low high = let e : cell-tag + (tag - cell-tag) ≡ tag = omega a
 -- a node with no subterm is the leaf that is written so
 pub leaf-tree : (tag arg : ℕ) → InTable tag arg 0 → tree-of (leaf-exp tag arg) ≡ leaf tag arg
 unfolding leaf-exp leaf-forms tree-of const-tree op-tag form-of forms
-leaf-tree tag arg w = below row tag (w .known) w
+leaf-tree tag arg w =
+    leaf-tag (λ tag. InTable tag arg 0 → tree-of (leaf-exp tag arg) ≡ leaf tag arg)
+    (λ w. refl) unit-operand (λ w. refl) (λ w. refl) (λ w. refl) (λ w. refl) (λ w. refl) (λ w. refl) tag (w .form) w
   where
-    not-one : InTable lambda-tag arg 0 → ⊥
-    not-one w = clash (sym (w .shape))
-
-    not-two : InTable application-tag arg 0 → ⊥
-    not-two w = omega (arith, w .shape)
-
-    unit-operand : InTable unit-tag arg 0 → arg ≡ 0
-    unit-operand w = omega (arith, w .fits)
-
-    row : Row (λ tag. InTable tag arg 0 → tree-of (leaf-exp tag arg) ≡ leaf tag arg) 0 tags
-    row =
-        (λ w. refl) ∣
-        (λ w. absurd (not-one w)) ∣
-        (λ w. absurd (not-two w)) ∣
-        (λ w. ap (leaf unit-tag) (sym (unit-operand w))) ∣
-        (λ w. refl) ∣
-        (λ w. refl) ∣
-        (λ w. refl) ∣
-        (λ w. refl) ∣
-        (λ w. refl) ∣
-        (λ w. refl) ∣
-        end-of-row
+    unit-operand : InTable unit-tag arg 0 → leaf unit-tag 0 ≡ leaf unit-tag arg
+    unit-operand w = let z : 0 ≡ arg = omega (arith, w .fits) in ap (leaf unit-tag) z
 
 pub const-fits : {c : Const} → WritableConst c → FitsBytes (const c)
 unfolding count
@@ -106,54 +88,14 @@ name-fits k h = record { writable = each-name; names = λ j le. count-other j k 
 
 pub leaf-fits : (tag arg : ℕ) → InTable tag arg 0 → FitsBytes (leaf-exp tag arg)
 unfolding leaf-exp leaf-forms form-of forms count
-leaf-fits tag arg w = below row tag (w .known) w
-  where
-    row : Row (λ tag. InTable tag arg 0 → FitsBytes (leaf-exp tag arg)) 0 tags
-    row =
-        (λ w. record { writable = each-var (w .fits); names = λ k le. refl }) ∣
-        (λ w. const-fits {c = unit} tt) ∣
-        (λ w. const-fits {c = unit} tt) ∣
-        (λ w. const-fits {c = unit} tt) ∣
-        (λ w. const-fits {c = num arg} (w .fits)) ∣
-        (λ w. const-fits {c = op cell arg} (w .fits)) ∣
-        (λ w. const-fits {c = op exch arg} (w .fits)) ∣
-        (λ w. const-fits {c = op thread arg} (w .fits)) ∣
-        (λ w. const-fits {c = op handle arg} (w .fits)) ∣
-        (λ w. name-fits arg (w .fits)) ∣
-        end-of-row
-
--- the node with one subterm is the lambda
-one-is-lambda : (tag : ℕ) → tag < tags → subterms-of tag ≡ 1 → tag ≡ lambda-tag
-unfolding form-of forms
-one-is-lambda = below row
-  where
-    none : (tag : ℕ) → _≡_ {A = ℕ} 0 1 → tag ≡ lambda-tag
-    none tag e = absurd (clash e)
-
-    row : Row (λ tag. subterms-of tag ≡ 1 → tag ≡ lambda-tag) 0 tags
-    row = (none 0) ∣ (λ e. refl) ∣ (λ e. e) ∣ (none 3) ∣ (none 4) ∣ (none 5) ∣ (none 6) ∣ (none 7) ∣ (none 8) ∣ (none 9) ∣ end-of-row
-
-pub is-lambda : (tag arg : ℕ) → InTable tag arg 1 → (tag ≡ lambda-tag) × (arg < byte-values)
-unfolding form-of forms
-is-lambda tag arg w =
-    let e = one-is-lambda tag (w .known) (w .shape) in
-    let v : InTable lambda-tag arg 1 = subst (λ x. InTable x arg 1) e w in
-    (e, v .fits)
-
--- and the node with two is the application
-two-is-application : (tag : ℕ) → tag < tags → subterms-of tag ≡ 2 → tag ≡ application-tag
-unfolding form-of forms
-two-is-application = below row
-  where
-    none : (tag : ℕ) → _≡_ {A = ℕ} 0 2 → tag ≡ application-tag
-    none tag e = absurd (omega arith)
-
-    row : Row (λ tag. subterms-of tag ≡ 2 → tag ≡ application-tag) 0 tags
-    row = (none 0) ∣ (λ e. e) ∣ (λ e. refl) ∣ (none 3) ∣ (none 4) ∣ (none 5) ∣ (none 6) ∣ (none 7) ∣ (none 8) ∣ (none 9) ∣ end-of-row
-
-pub is-application : (tag arg : ℕ) → InTable tag arg 2 → (tag ≡ application-tag) × (arg ≡ 0)
-unfolding form-of forms
-is-application tag arg w =
-    let e = two-is-application tag (w .known) (w .shape) in
-    let v : InTable application-tag arg 2 = subst (λ x. InTable x arg 2) e w in
-    (e, omega (arith, v .fits))
+leaf-fits tag arg w =
+    leaf-tag (λ tag. InTable tag arg 0 → FitsBytes (leaf-exp tag arg))
+    (λ w. record { writable = each-var (w .fits); names = λ k le. refl })
+    (λ w. const-fits {c = unit} tt)
+    (λ w. const-fits {c = num arg} (w .fits))
+    (λ w. const-fits {c = op cell arg} (w .fits))
+    (λ w. const-fits {c = op exch arg} (w .fits))
+    (λ w. const-fits {c = op thread arg} (w .fits))
+    (λ w. const-fits {c = op handle arg} (w .fits))
+    (λ w. name-fits arg (w .fits))
+    tag (w .form) w

@@ -12,8 +12,12 @@ pub mod Reading
 pub mod Terms
 -- a list with a term at its front, seen through the node at its front
 pub mod Fronts
+-- nodes by their shape: for any tag with so many subterms
+pub mod Shapes
 -- a term at a position, seen through the node there
 pub mod Views
+-- the table in the code
+pub mod Packed
 -- leaves by their tag
 pub mod Leaves
 -- nodes, nesting and bytes of a term

@@ -12,7 +12,7 @@ use lib.Seq.{drop-drop}
 use Rattle.term.specs.declared.Front.{Front}
 use Rattle.term.specs.declared.Front.the-variants.{Is, Bad}
 use Rattle.term.specs.declared.Node.{Node}
-use Rattle.term.specs.Tree.{Tree, leaf, one, tree-depth, tree-nodes, tree-size, two}
+use Rattle.term.specs.Tree.{HasForm, Shaped, Tree, leaf, one, tree-depth, tree-nodes, tree-size, two}
 use Rattle.term.specs.Reader.{front-node, Got, got, node-of, front-stands, none, onward, read, read-subterms, read-term, read-with}
 use Rattle.term.proofs.Nodes.{head-is, subterms-at-most}
 
@@ -192,3 +192,17 @@ step-node l h is k e =
 pub past-term : (l : List ℕ) (t : Tree) (r : List ℕ) → read-term l ≡ got t r → Past l t r
 unfolding read-term
 past-term l t r e = past (reads (length l) l t r e)
+
+-- The nodes that are read are the table's
+
+has-form : (l : List ℕ) {h : Node} {k : ℕ} → node-of l ≡ Is h → h .subterms ≡ k → HasForm (h .tag) k
+has-form l {h} is k = let n = head-is l h is in record { known = n .known; shape = n .at-subterms ∙ k }
+
+shaped : {l : List ℕ} {t : Tree} {r : List ℕ} → Reads l t r → Shaped t
+shaped (leaf-reads {l} is k) = has-form l is k
+shaped (one-reads {l} is k a) = (has-form l is k, shaped a)
+shaped (two-reads {l} is k a b) = (has-form l is k, shaped a, shaped b)
+
+pub shaped-term : (l : List ℕ) (t : Tree) (r : List ℕ) → read-term l ≡ got t r → Shaped t
+unfolding read-term
+shaped-term l t r e = shaped (reads (length l) l t r e)

@@ -6,14 +6,14 @@ use Prim.Native.Nat.{_+_, _<_, suc, zero, ℕ}
 use native.Mathlib.Nat.{zero-add}
 use native.Mathlib.Omega.{arith}
 use lib.Dec.{T}
-use lib.ListN.{getD}
+use lib.ListN.{getD, replicate}
 
 -- by one test that antt computes. It holds at each index, also past the end, where the default stands.
-both-left : (a b : Bool) → T (a && b) → T a
+pub both-left : (a b : Bool) → T (a && b) → T a
 both-left true b t = tt
 both-left false b t = t
 
-both-right : (a b : Bool) → T (a && b) → T b
+pub both-right : (a b : Bool) → T (a && b) → T b
 both-right true b t = t
 both-right false b t = absurd t
 
@@ -27,6 +27,21 @@ module _ {A : Type 0} (test : A → Bool) where
   every-at [] d t td k = td
   every-at (x ∷ xs) d t td zero = both-left (test x) (every xs) t
   every-at (x ∷ xs) d t td (suc k) = every-at xs d (both-right (test x) (every xs) t) td k
+
+-- what holds of each element holds at each index, if also of the default
+abbrev pub All : {A : Type 0} → (A → Type 0) → List A → Type 0
+All P [] = Unit {0}
+All P (x ∷ xs) = P x × All P xs
+
+pub all-at : {A : Type 0} (P : A → Type 0) (xs : List A) (d : A) → All P xs → P d → (k : ℕ) → P (getD xs k d)
+all-at P [] d h p k = p
+all-at P (x ∷ xs) d h p zero = h .0
+all-at P (x ∷ xs) d h p (suc k) = all-at P xs d (h .1) p k
+
+-- one that stands there n times
+pub all-same : {A : Type 0} (P : A → Type 0) (n : ℕ) {x : A} → P x → All P (replicate n x)
+all-same P zero p = tt
+all-same P (suc n) p = (p, all-same P n p)
 
 infixr 20 _∣_
 -- by a row of proofs, one for each of the n numbers from k on

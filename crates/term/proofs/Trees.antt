@@ -16,8 +16,9 @@ use Rattle.calculus.specs.Theory.Expressions.{count-same}
 use Rattle.term.specs.Numbers.{little-endian}
 use Rattle.term.specs.Forms.{form-of, forms, lambda-tag, application-tag}
 use Rattle.term.specs.Tree.{InTable, Tree, leaf, one, tree-bytes, tree-size, two, WellFormed}
-use Rattle.term.specs.Expressions.{bytes, const-bytes, const-tree, exp-of, leaf-exp, leaf-forms, op-tag, tree-of, FitsBytes}
-use Rattle.term.proofs.Leaves.{is-application, is-lambda, leaf-fits, leaf-tree}
+use Rattle.term.specs.Expressions.{bytes, const-bytes, const-tree, exp-of, leaf-exp, leaf-forms, op-tag, tree-of, two-exp, FitsBytes}
+use Rattle.term.proofs.Leaves.{leaf-fits, leaf-tree}
+use Rattle.term.proofs.Shapes.{fits-one, fits-two, tree-one, tree-two}
 use Rattle.term.proofs.Sizes.{length-bytes}
 use Rattle.term.proofs.Terms.{size-bytes}
 
@@ -35,7 +36,7 @@ const-exp (num n) = refl
 const-exp (op o t) = op-exp o t
 
 pub exp-tree : (e : Exp) → exp-of (tree-of e) ≡ e
-unfolding exp-of leaf-exp leaf-forms tree-of
+unfolding exp-of leaf-exp leaf-forms two-exp tree-of
 exp-tree (var i) = refl
 exp-tree (name k) = refl
 exp-tree (const c) = const-exp c
@@ -45,8 +46,8 @@ exp-tree (app f a) = ap₂ app (exp-tree f) (exp-tree a)
 pub tree-exp : (t : Tree) → WellFormed t → tree-of (exp-of t) ≡ t
 unfolding exp-of tree-of
 tree-exp (leaf tag arg) w = leaf-tree tag arg w
-tree-exp (one tag arg t) (w, v) = let (e, b) = is-lambda tag arg w in rw (tree-exp t v, e)
-tree-exp (two tag arg t u) (w, v, v′) = let (e, z) = is-application tag arg w in rw (tree-exp t v, tree-exp u v′, e, z)
+tree-exp (one tag arg t) (w, v) = tree-one arg (exp-of t) tag (w .form) ∙ ap (one tag arg) (tree-exp t v)
+tree-exp (two tag arg t u) (w, v, v′) = tree-two arg (exp-of t) (exp-of u) tag w ∙ ap₂ (two tag arg) (tree-exp t v) (tree-exp u v′)
 
 -- What fits, by its parts
 
@@ -79,41 +80,36 @@ fits-app {f} {a} h = elim (h .writable) [
 -- What fits is well-formed
 
 pub exp-fits : (t : Tree) → WellFormed t → FitsBytes (exp-of t)
-unfolding exp-of count
+unfolding exp-of
 exp-fits (leaf tag arg) w = leaf-fits tag arg w
-exp-fits (one tag arg t) (w, v) =
-    let f = exp-fits t v in
-    record { writable = each-lam (is-lambda tag arg w .1) (f .writable); names = f .names }
-exp-fits (two tag arg t u) (w, v, v′) =
-    let f = exp-fits t v in
-    let g = exp-fits u v′ in
-    record { writable = each-app (f .writable) (g .writable); names = λ k le. omega (arith, f .names k le, g .names k le) }
+exp-fits (one tag arg t) (w, v) = fits-one arg (exp-of t) tag w (exp-fits t v)
+exp-fits (two tag arg t u) (w, v, v′) = fits-two arg (exp-of t) (exp-of u) tag w (exp-fits t v) (exp-fits u v′)
 
 -- an operation has any operand that its byte can say
 op-in-table : (o : Op) (t : ℕ) → t < byte-values → InTable (op-tag o) t 0
 unfolding op-tag form-of forms
-op-in-table cell t h = record { known = omega arith; shape = refl; fits = h }
-op-in-table exch t h = record { known = omega arith; shape = refl; fits = h }
-op-in-table thread t h = record { known = omega arith; shape = refl; fits = h }
-op-in-table handle t h = record { known = omega arith; shape = refl; fits = h }
+op-in-table cell t h = record { form = record { known = omega arith; shape = refl }; fits = h }
+op-in-table exch t h = record { form = record { known = omega arith; shape = refl }; fits = h }
+op-in-table thread t h = record { form = record { known = omega arith; shape = refl }; fits = h }
+op-in-table handle t h = record { form = record { known = omega arith; shape = refl }; fits = h }
 
 const-well-formed : (c : Const) → WritableConst c → WellFormed (const-tree c)
 unfolding const-tree form-of forms
-const-well-formed unit w = record { known = omega arith; shape = refl; fits = omega arith }
-const-well-formed (num n) w = record { known = omega arith; shape = refl; fits = w }
+const-well-formed unit w = record { form = record { known = omega arith; shape = refl }; fits = omega arith }
+const-well-formed (num n) w = record { form = record { known = omega arith; shape = refl }; fits = w }
 const-well-formed (op o t) w = op-in-table o t w
 
 pub tree-well-formed : (e : Exp) → FitsBytes e → WellFormed (tree-of e)
 unfolding tree-of form-of forms
-tree-well-formed (var i) f = record { known = omega arith; shape = refl; fits = fits-var f }
-tree-well-formed (name k) f = record { known = omega arith; shape = refl; fits = fits-name f }
+tree-well-formed (var i) f = record { form = record { known = omega arith; shape = refl }; fits = fits-var f }
+tree-well-formed (name k) f = record { form = record { known = omega arith; shape = refl }; fits = fits-name f }
 tree-well-formed (const c) f = const-well-formed c (fits-const f)
 tree-well-formed (lam t e) f =
     let (h, g) = fits-lam f in
-    (record { known = omega arith; shape = refl; fits = h }, tree-well-formed e g)
+    (record { form = record { known = omega arith; shape = refl }; fits = h }, tree-well-formed e g)
 tree-well-formed (app f a) h =
     let (g, g′) = fits-app h in
-    (record { known = omega arith; shape = refl; fits = omega arith }, tree-well-formed f g, tree-well-formed a g′)
+    (record { form = record { known = omega arith; shape = refl }; fits = omega arith }, tree-well-formed f g, tree-well-formed a g′)
 
 -- The bytes of an expression are those of its tree
 

@@ -1,26 +1,35 @@
 -- A term at a position of a list, seen through the node there: by the number of subterms, where the subterms stand, what the term is, and where
 -- it ends. Each walk of a term goes by these.
-use mathlib.Core.Path.{_≡_, ap, ap₂, refl, subst, _∙_}
+use mathlib.Core.Path.{_≡_, ap, ap₂, refl, subst, sym, _∙_}
 use mathlib.Core.List.{List}
 use Prim.Native.Nat.{_+_, _<_, _≤_, suc, zero, ℕ}
 use native.Mathlib.Omega.{arith}
 use lib.ListN.{drop, length, length-drop}
 use lib.Seq.{drop-drop}
-use Rattle.calculus.specs.Syntax.{lam, app}
+use Rattle.calculus.specs.Bytes.{Bytes, two-byte-values}
+use Rattle.calculus.specs.Syntax.{app, lam}
 use Rattle.term.specs.declared.Front.the-variants.{Bad, Is}
 use Rattle.term.specs.declared.Node.{Node}
-use Rattle.term.specs.Tree.{leaf, one, tree-nodes, tree-size, two}
+use Rattle.term.specs.Forms.{application-tag, binders-of, form-of, forms, lambda-tag, refers-of, subterms-of, to-name}
+use Rattle.term.specs.Tree.{HasForm, leaf, one, Shaped, tree-nodes, tree-size, two}
 use Rattle.term.specs.Reader.{end-at, first-tree, Good, GoodAt, node-at, tree-at}
-use Rattle.term.specs.Expressions.{exp-of, leaf-exp, term-at, term-of}
-use Rattle.term.proofs.Nodes.{head-is, subterms-at-most}
-use Rattle.term.proofs.Reading.{nodes-size, size-some}
+use Rattle.term.specs.Expressions.{exp-of, leaf-exp, term-at, term-of, two-exp}
+use Rattle.term.proofs.Nodes.{arg-small, binders-at-most, head-is, refers-at-most, subterms-at-most}
+use Rattle.term.proofs.Reading.{nodes-size, shaped-term, size-some}
+use Rattle.term.proofs.Terms.{bytes-drop}
+use Rattle.term.proofs.Shapes.{one-tag, two-app, two-tag}
 use Rattle.term.proofs.Fronts.{after, front-not-bad, good-fits, leaf-front, one-front, two-front}
 
--- a node at a position: it takes a byte or more, it ends inside, and it has 0, 1 or 2 subterms
+-- a node at a position: it takes a byte or more, it ends inside, and it has 0, 1 or 2 subterms and binders, as the table says of its tag
 pub record NodeAt (l : List ℕ) (at : ℕ) (h : Node) : Type 0 where
   pub onward : at < at + h .size
   pub inside : at + h .size ≤ length l
   pub few : h .subterms ≤ 2
+  pub form : HasForm (h .tag) (h .subterms)
+  pub binds : binders-of (h .tag) ≡ h .binders
+  pub bound : h .binders ≤ 2
+  pub refers : refers-of (h .tag) ≡ h .refers
+  pub referent : h .refers ≤ to-name
 
 -- a leaf at a position
 pub record LeafAt (l : List ℕ) (at : ℕ) (h : Node) : Type 0 where
@@ -44,9 +53,17 @@ pub record TwoAt (l : List ℕ) (at : ℕ) (h : Node) : Type 0 where
   pub good : GoodAt l (at + h .size)
   pub second : GoodAt l (past-first l at h)
   pub tree : tree-at l at ≡ two (h .tag) (h .arg) (tree-at l (at + h .size)) (tree-at l (past-first l at h))
-  pub term : term-at l at ≡ app (term-at l (at + h .size)) (term-at l (past-first l at h))
+  pub term : term-at l at ≡ two-exp (h .tag) (h .arg) (term-at l (at + h .size)) (term-at l (past-first l at h))
   pub ends : end-at l at ≡ end-at l (past-first l at h)
   pub onward : at + h .size < past-first l at h
+
+-- an application
+pub record AppAt (l : List ℕ) (at : ℕ) (h : Node) : Type 0 where
+  pub two : TwoAt l at h
+  pub term : term-at l at ≡ app (term-at l (at + h .size)) (term-at l (past-first l at h))
+
+pub app-from : {l : List ℕ} {at : ℕ} {h : Node} → TwoAt l at h → h .tag ≡ application-tag → AppAt l at h
+app-from {h = h} o t = record { two = o; term = o .term ∙ two-app (h .arg) _ _ t }
 
 -- a term at a position ends inside, past the position, and has no more nodes than bytes
 pub end-inside : {l : List ℕ} {at : ℕ} → GoodAt l at → end-at l at ≤ length l
@@ -61,6 +78,11 @@ pub nodes-inside : (l : List ℕ) (at : ℕ) → at + tree-nodes (tree-at l at) 
 unfolding end-at
 nodes-inside l at = omega (arith, nodes-size (tree-at l at))
 
+-- its nodes are the table's
+pub shaped-at : {l : List ℕ} {at : ℕ} → GoodAt l at → Shaped (tree-at l at)
+unfolding tree-at
+shaped-at {l} {at} g = shaped-term (drop at l) _ _ (g .good)
+
 pub not-bad : {l : List ℕ} {at : ℕ} → GoodAt l at → node-at l at ≡ Bad → ⊥
 unfolding node-at
 not-bad {l} {at} g is = front-not-bad (drop at l) (g .good) is
@@ -73,11 +95,32 @@ node-there {l} {at} {h} inside is =
       onward = omega (arith, n .at-size);
       inside = omega (arith, n .whole, length-drop at l);
       few = omega (arith, n .at-subterms, subterms-at-most (h .tag));
+      form = record { known = n .known; shape = n .at-subterms };
+      binds = n .at-binders;
+      bound = omega (arith, n .at-binders, binders-at-most (h .tag));
+      refers = n .at-refers;
+      referent = omega (arith, n .at-refers, refers-at-most (h .tag));
     }
 
--- neither none nor one
-pub is-two : {l : List ℕ} {at : ℕ} {h : Node} → NodeAt l at h → (h .subterms ≡ 0 → ⊥) → (h .subterms ≡ 1 → ⊥) → h .subterms ≡ 2
-is-two n not-0 not-1 = omega (arith, n .few)
+-- its operand is what two bytes say
+pub small-arg : (l : List ℕ) (at : ℕ) {h : Node} → Bytes l → node-at l at ≡ Is h → h .arg < two-byte-values
+unfolding node-at
+small-arg l at {h} b is = arg-small (drop at l) h (bytes-drop at l b) is
+
+-- a lambda has one subterm
+pub lambda-one : {l : List ℕ} {at : ℕ} {h : Node} → NodeAt l at h → h .tag ≡ lambda-tag → h .subterms ≡ 1
+unfolding form-of forms
+lambda-one n t = sym (n .form .shape) ∙ ap subterms-of t
+
+-- a node with subterms that is no lambda is an application
+pub rest-application : {l : List ℕ} {at : ℕ} {h : Node} → NodeAt l at h → (h .subterms ≡ 0 → ⊥) → (h .tag ≡ lambda-tag → ⊥) → (h .tag ≡ application-tag) × (h .subterms ≡ 2)
+rest-application {h = h} n not-0 not-lambda = by (h .subterms) refl (n .form) (n .few)
+  where
+    by : (k : ℕ) → h .subterms ≡ k → HasForm (h .tag) k → k ≤ 2 → (h .tag ≡ application-tag) × (h .subterms ≡ 2)
+    by zero e f few = absurd (not-0 e)
+    by (suc zero) e f few = absurd (not-lambda (one-tag (λ tag. tag ≡ lambda-tag) refl (h .tag) f))
+    by (suc (suc zero)) e f few = (two-tag (λ tag. tag ≡ application-tag) refl (h .tag) f, e)
+    by (suc (suc (suc k))) e f few = absurd (omega arith)
 
 pub leaf-from : {l : List ℕ} {at : ℕ} {h : Node} → node-at l at ≡ Is h → GoodAt l at → h .subterms ≡ 0 → LeafAt l at h
 unfolding node-at tree-at term-of first-tree end-at exp-of tree-size

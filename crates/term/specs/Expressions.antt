@@ -2,13 +2,13 @@
 use mathlib.Core.Path.{_≡_}
 use mathlib.Core.List.{List, [], _++_, _∷_}
 use Prim.Native.Nat.{_+_, _≤_, max, suc, ℕ}
-use lib.ListN.{drop, getD, length}
+use lib.ListN.{drop, getD, length, replicate}
 use Rattle.calculus.specs.Bytes.{two-bytes}
 use Rattle.calculus.specs.Syntax.{Const, unit, num, op, Each, Exp, var, name, const, lam, app, Op, cell, exch, thread, handle}
 use Rattle.calculus.specs.Names.{count}
 use Rattle.calculus.specs.Limits.{byte-values}
 use Rattle.calculus.specs.Image.{size, Writable}
-use Rattle.term.specs.Forms.{variable-tag, lambda-tag, application-tag, unit-tag, num-tag, cell-tag, exch-tag, thread-tag, handle-tag, name-tag}
+use Rattle.term.specs.Forms.{variable-tag, lambda-tag, application-tag, unit-tag, num-tag, cell-tag, exch-tag, thread-tag, handle-tag, name-tag, tags}
 use Rattle.term.specs.Tree.{Tree, leaf, one, two}
 use Rattle.term.specs.Reader.{read-term, tree-in}
 
@@ -55,11 +55,15 @@ leaf-forms arg = var arg ∷ const unit ∷ const unit ∷ const unit ∷ const 
 unfoldable pub leaf-exp : ℕ → ℕ → Exp
 leaf-exp tag arg = getD (leaf-forms arg) tag (const unit)
 
--- the expression that a tree says
+-- the node with the subterms e and f that each tag says, in the order of the tags; of these only application has two
+unfoldable pub two-exp : ℕ → ℕ → Exp → Exp → Exp
+two-exp tag arg e f = getD (replicate tags (app e f)) tag (app e f)
+
+-- the expression that a tree says; of the tags only lambda has one subterm
 unfoldable pub exp-of : Tree → Exp
 exp-of (leaf tag arg) = leaf-exp tag arg
 exp-of (one tag arg t) = lam arg (exp-of t)
-exp-of (two tag arg t u) = app (exp-of t) (exp-of u)
+exp-of (two tag arg t u) = two-exp tag arg (exp-of t) (exp-of u)
 
 -- the tree of a constant
 unfoldable pub const-tree : Const → Tree

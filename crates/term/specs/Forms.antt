@@ -39,17 +39,41 @@ name-tag = 9
 abbrev pub tags : ℕ
 tags = 10
 
--- the columns "After the tag", as a number of bytes, and "Subterms"
-abbrev pub form : ℕ → ℕ → Form
-form operand subterms = record { operand = operand; subterms = subterms }
+-- what the number after a tag refers to: nothing, a variable around, an entry of the type table, a name
+abbrev pub to-nothing : ℕ
+to-nothing = 0
+
+abbrev pub to-variable : ℕ
+to-variable = 1
+
+abbrev pub to-type : ℕ
+to-type = 2
+
+abbrev pub to-name : ℕ
+to-name = 3
+
+-- the columns "After the tag", as a number of bytes, and "Subterms"; how many variables the last subterm has more than the node; what is after the tag
+abbrev pub form : ℕ → ℕ → ℕ → ℕ → Form
+form operand subterms binders refers = record { operand = operand; subterms = subterms; binders = binders; refers = refers }
 
 -- the rows of the table, in the order of the tags
 unfoldable pub forms : List Form
-forms = form 1 0 ∷ form 1 1 ∷ form 0 2 ∷ form 0 0 ∷ form 2 0 ∷ form 1 0 ∷ form 1 0 ∷ form 1 0 ∷ form 1 0 ∷ form 1 0 ∷ []
+forms =
+    form 1 0 0 to-variable
+    ∷ form 1 1 1 to-type
+    ∷ form 0 2 0 to-nothing
+    ∷ form 0 0 0 to-nothing
+    ∷ form 2 0 0 to-nothing
+    ∷ form 1 0 0 to-type
+    ∷ form 1 0 0 to-type
+    ∷ form 1 0 0 to-type
+    ∷ form 1 0 0 to-type
+    ∷ form 1 0 0 to-name
+    ∷ []
 
 -- the form of a tag; of an unknown one, nothing after the tag and no subterm
 unfoldable pub form-of : ℕ → Form
-form-of tag = getD forms tag (form 0 0)
+form-of tag = getD forms tag (form 0 0 0 to-nothing)
 
 -- what is after a tag, in bytes
 abbrev pub operand-of : ℕ → ℕ
@@ -58,3 +82,11 @@ operand-of tag = form-of tag .operand
 -- how many subterms a tag has
 abbrev pub subterms-of : ℕ → ℕ
 subterms-of tag = form-of tag .subterms
+
+-- how many more variables its last subterm has
+abbrev pub binders-of : ℕ → ℕ
+binders-of tag = form-of tag .binders
+
+-- what the number after it refers to
+abbrev pub refers-of : ℕ → ℕ
+refers-of tag = form-of tag .refers

@@ -9,7 +9,7 @@ use Rattle.term.specs.declared.Front.{Front}
 use Rattle.term.specs.declared.Front.the-variants.{Bad, Is}
 use Rattle.term.specs.declared.Node.{Node}
 use Rattle.term.specs.Numbers.{value-of}
-use Rattle.term.specs.Forms.{operand-of, subterms-of, tags, unit-tag}
+use Rattle.term.specs.Forms.{binders-of, operand-of, refers-of, subterms-of, tags, unit-tag}
 use Rattle.term.specs.Tree.{Tree, leaf, one, tree-size, two}
 
 -- the tag at the front
@@ -101,7 +101,15 @@ pub record GoodAt (l : List ℕ) (at : ℕ) : Type 0 where
 
 -- the node at the front, without its subterms
 abbrev pub front-node : List ℕ → Node
-front-node l = record { tag = front-tag l; arg = front-operand l; size = front-size l; subterms = subterms-of (front-tag l) }
+front-node l =
+    record {
+      tag = front-tag l;
+      arg = front-operand l;
+      size = front-size l;
+      subterms = subterms-of (front-tag l);
+      binders = binders-of (front-tag l);
+      refers = refers-of (front-tag l);
+    }
 
 -- the same where it stands, and otherwise that there is none
 unfoldable pub node-of : List ℕ → Front

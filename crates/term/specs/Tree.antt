@@ -40,10 +40,20 @@ tree-depth (leaf tag arg) = 1
 tree-depth (one tag arg t) = 1 + tree-depth t
 tree-depth (two tag arg t u) = 1 + max (tree-depth t) (tree-depth u)
 
--- a node that the table has: its tag is known, with so many subterms, and its operand can stand after the tag
-pub record InTable (tag arg subterms : ℕ) : Type 0 where
+-- a node of the table, whatever its operand: its tag is known, with so many subterms
+pub record HasForm (tag subterms : ℕ) : Type 0 where
   pub known : tag < tags
   pub shape : subterms-of tag ≡ subterms
+
+-- each node of a tree is one
+abbrev pub Shaped : Tree → Type 0
+Shaped (leaf tag arg) = HasForm tag 0
+Shaped (one tag arg t) = HasForm tag 1 × Shaped t
+Shaped (two tag arg t u) = HasForm tag 2 × Shaped t × Shaped u
+
+-- a node that the table has: its tag is known, with so many subterms, and its operand can stand after the tag
+pub record InTable (tag arg subterms : ℕ) : Type 0 where
+  pub form : HasForm tag subterms
   pub fits : arg < byte-values ^ operand-of tag
 
 -- each node is one that the table has

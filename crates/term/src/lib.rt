@@ -1,24 +1,58 @@
 // Terms written root first, by document 01's table of node forms. A function that walks a term takes the whole slice and the position of the
 // next node, reads that node's head, and goes on where the head ends: what falls is the part still unread.
+use numbers::Byte;
 ghost use mathlib.Core.Path.{_≡_};
-ghost use Prim.Native.Nat.{_≤_, _<_};
+ghost use Prim.Native.Nat.{_≤_, _<_, min};
 ghost use lib.ListN.{length, drop};
 ghost use Rattle.term.specs.Numbers.{value-of};
 ghost use Rattle.term.specs.Forms.{form-of, tags};
 ghost use Rattle.term.specs.Reader.{node-at, node-of};
 
-// What the table of node forms says of a tag: the number of bytes after the tag, and the number of subterms.
+// What the table of node forms says of a tag: the number of bytes after the tag, the number of subterms, how many variables the last subterm has more than
+// the node, and what the number after the tag refers to.
 pub struct Form {
     pub operand: u8,
     pub subterms: u8,
+    pub binders: u8,
+    pub refers: u8,
 }
 
-// A node without its subterms: its tag, the number after the tag, the bytes that the two take, and how many subterms follow.
+impl Form {
+    // What the number after a tag refers to: nothing, a variable around, an entry of the type table, a name.
+    pub const TO_NOTHING: u8 = 0;
+
+    pub const TO_VARIABLE: u8 = 1;
+
+    pub const TO_TYPE: u8 = 2;
+
+    pub const TO_NAME: u8 = 3;
+
+    // A form in one byte: the operand's bytes, and how much a subterm, a binder and what is referred to weigh. Each column is below `COLUMN`.
+    const COLUMN: u8 = 4;
+
+    const SUBTERM: u8 = Form::COLUMN;
+
+    const BINDER: u8 = Form::SUBTERM * Form::COLUMN;
+
+    const REFERS: u8 = Form::BINDER * Form::COLUMN;
+
+    // One byte after the tag, a number of a variable, of a type, a name.
+    const VARIABLE_BYTE: u8 = 1 + Form::REFERS * Form::TO_VARIABLE;
+
+    const TYPE_BYTE: u8 = 1 + Form::REFERS * Form::TO_TYPE;
+
+    const NAME_BYTE: u8 = 1 + Form::REFERS * Form::TO_NAME;
+}
+
+// A node without its subterms: its tag, the number after the tag, the bytes that the two take, how many subterms follow, how many more variables the last of
+// them has, and what the number refers to.
 pub struct Node {
     pub tag: u8,
     pub arg: usize,
     pub size: usize,
     pub subterms: u8,
+    pub binders: u8,
+    pub refers: u8,
 }
 
 impl Node {
@@ -43,6 +77,9 @@ impl Node {
     pub const NAME: u8 = 9;
 
     pub const TAGS: u8 = 10;
+
+    // How many numbers can stand after a tag: what two bytes say.
+    pub const OPERANDS: usize = Byte::VALUES * Byte::VALUES;
 }
 
 // The node at the front of some bytes, or that there is none.
@@ -51,70 +88,54 @@ pub enum Front {
     Bad,
 }
 
-// Document 01, the table of node forms, in the order of the tags.
-pub const FORMS: [Form; Node::TAGS as usize] = [
-    Form {
-        operand: 1,
-        subterms: 0,
-    },
-    Form {
-        operand: 1,
-        subterms: 1,
-    },
-    Form {
-        operand: 0,
-        subterms: 2,
-    },
-    Form {
-        operand: 0,
-        subterms: 0,
-    },
-    Form {
-        operand: 2,
-        subterms: 0,
-    },
-    Form {
-        operand: 1,
-        subterms: 0,
-    },
-    Form {
-        operand: 1,
-        subterms: 0,
-    },
-    Form {
-        operand: 1,
-        subterms: 0,
-    },
-    Form {
-        operand: 1,
-        subterms: 0,
-    },
-    Form {
-        operand: 1,
-        subterms: 0,
-    },
+// Document 01, the table of node forms, in the order of the tags. An entry is one byte, since a constant table is laid out anew at each use: as a table of
+// structs that takes longer than all else of reading a node.
+pub const FORMS: [u8; Node::TAGS as usize] = [
+    Form::VARIABLE_BYTE, // variable
+    Form::TYPE_BYTE + Form::SUBTERM + Form::BINDER, // lambda
+    2 * Form::SUBTERM, // application
+    0, // unit
+    2, // num
+    Form::TYPE_BYTE, // cell
+    Form::TYPE_BYTE, // exch
+    Form::TYPE_BYTE, // thread
+    Form::TYPE_BYTE, // handle
+    Form::NAME_BYTE, // name
 ];
 
 pub fn form_of(tag: u8) -> Form
     requires { ⌜ tag < tags ⌝ }
     ensures { λ r. ⌜ r ≡ form-of tag ⌝ }
 {
-    let i = tag as usize;
-    FORMS[i]
+    let form = FORMS[tag as usize];
+    Form {
+        operand: form % Form::SUBTERM,
+        subterms: form / Form::SUBTERM % Form::COLUMN,
+        binders: form / Form::BINDER % Form::COLUMN,
+        refers: form / Form::REFERS,
+    }
 }
 
-// The number that the n bytes after the tag give, little-endian.
+// The smaller of two numbers.
+fn least(a: usize, b: usize) -> usize
+    ensures { λ r. ⌜ r ≡ min a b ⌝ }
+{
+    if a < b {
+        return a;
+    }
+    b
+}
+
+// The number that the n bytes after the tag give, little-endian. Two bytes are read and weighed whatever n is, so that nothing waits for a guess of it.
 fn operand_of(s: &[u8], n: u8) -> usize
     requires { ⌜ (n ≤ 2) × (n < length (now s)) ⌝ }
     ensures { λ r. ⌜ r ≡ value-of n (drop 1 (now (s .entry))) ⌝ }
 {
-    if n == 0 {
-        return 0;
-    }
-    if n == 1 {
-        return s[1] as usize;
-    }
-    buffer::word_at(s, 1)
+    let last = s.len() - 1;
+    let low = s[least(1, last)] as usize;
+    let high = s[least(2, last)] as usize;
+    let bytes = n as usize;
+    low * ((bytes + 1) / 2) + Byte::VALUES * high * (bytes / 2)
 }
 
 pub fn node_of(s: &[u8]) -> Front
@@ -138,6 +159,8 @@ pub fn node_of(s: &[u8]) -> Front
         arg,
         size,
         subterms: form.subterms,
+        binders: form.binders,
+        refers: form.refers,
     })
 }
 

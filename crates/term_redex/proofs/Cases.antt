@@ -8,7 +8,7 @@ use Rattle.calculus.specs.Image.{const-size, size}
 use Rattle.term.specs.Forms.{form-of, forms}
 use Rattle.term.specs.Numbers.{value-of}
 use Rattle.term.specs.Reader.{read, read-term}
-use Rattle.term.specs.Expressions.{bytes, const-bytes, exp-of, leaf-exp, leaf-forms, op-tag, term-at, term-of}
+use Rattle.term.specs.Expressions.{bytes, const-bytes, exp-of, leaf-exp, leaf-forms, op-tag, term-at, term-of, two-exp}
 use Rattle.term_redex.specs.declared.Place.{Place}
 use Rattle.term_redex.specs.declared.Place.the-variants.{Done, Meet}
 use Rattle.term_redex.specs.Contexts.{front, hole-at}
@@ -37,5 +37,5 @@ rows =
     ∷ []
 
 pub cases : Hold rows
-unfolding place-of meeting-of hole-at front place place-app beside size const-size bytes const-bytes op-tag term-of exp-of leaf-exp leaf-forms read-term read form-of forms value-of word two-bytes
+unfolding place-of meeting-of hole-at front place place-app beside size const-size bytes const-bytes op-tag term-of exp-of leaf-exp leaf-forms two-exp read-term read form-of forms value-of word two-bytes
 cases = (refl, (refl, (refl, (refl, (refl, (refl, (refl, tt)))))))

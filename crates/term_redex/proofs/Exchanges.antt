@@ -10,7 +10,7 @@ use Rattle.calculus.specs.Bytes.{Bytes}
 use Rattle.calculus.specs.Syntax.{Exp}
 use Rattle.calculus.specs.Step.{place}
 use Rattle.calculus.specs.Image.{Closed, is-settled}
-use Rattle.term.specs.Forms.{exch-tag, variable-tag}
+use Rattle.term.specs.Forms.{application-tag, exch-tag, variable-tag}
 use Rattle.term.specs.declared.Front.the-variants.{Is}
 use Rattle.term.specs.declared.Node.{Node}
 use Rattle.term.specs.Reader.{end-at, GoodAt, node-at}
@@ -65,4 +65,4 @@ module _ {l : List ℕ} {at inner : ℕ} (i : Inner l at inner) where
   pub value-node : {h : Node} → is-application (term-at l inner) ≡ false → node-at l inner ≡ Is h
       → not (eqb (h .tag) variable-tag) ≡ is-settled (place (term-at l at))
   value-node {h} is e =
-      sym (i .settles ∙ settled-node e (i .good) (λ two. false≢true (sym is ∙ application-node e (i .good) ∙ eq-eqb (h .subterms) 2 two)))
+      sym (i .settles ∙ settled-node e (i .good) (λ t. false≢true (sym is ∙ application-node e (i .good) ∙ eq-eqb (h .tag) application-tag t)))

@@ -2,8 +2,8 @@
 
 -- an expression in a context: its bytes, its size, its nodes, and where it stands
 pub mod Contexts
--- a test of leaves, by one test of the list of all
-pub mod Leaves
+-- what a search asks of a node, by its tag
+pub mod Tags
 -- the place of an application, by its function and its argument
 pub mod Applications
 -- what the node at the front of a term says of it

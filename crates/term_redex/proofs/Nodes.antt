@@ -1,27 +1,29 @@
 -- What the node at the front of a term says of it; where the function and the argument of an application stand.
 use mathlib.Core.Path.{_≡_, ap, refl, subst, sym, _∙_}
-use mathlib.Core.Bool.{false≢true, not, true}
+use mathlib.Core.Bool.{not, true}
 use mathlib.Core.List.{List}
-use Prim.Native.Nat.{_+_, _<_, _≤_, suc, zero, ℕ}
+use Prim.Native.Nat.{_+_, _≤_, suc, zero, ℕ}
 use native.Mathlib.Omega.{arith}
-use borrow.Author.Tests.{eq-eqb, ne-eqb}
 use lib.Dec.{eqb}
 use lib.ListN.{drop}
 use Rattle.calculus.specs.Bytes.{Bytes}
 use Rattle.calculus.specs.Syntax.{Exp, app}
 use Rattle.calculus.specs.Step.{place}
 use Rattle.calculus.specs.Image.{is-settled, size}
+use Rattle.calculus.specs.Theory.Tests.{eqb-sound}
 use Rattle.term.specs.declared.Front.{Front}
 use Rattle.term.specs.declared.Front.the-variants.{Bad, Is}
 use Rattle.term.specs.declared.Node.{Node}
-use Rattle.term.specs.Forms.{form-of, forms, subterms-of, tags, exch-tag, variable-tag}
+use Rattle.term.specs.Forms.{application-tag, exch-tag, form-of, forms, operand-of, subterms-of, variable-tag}
+use Rattle.term.specs.Tree.{HasForm}
 use Rattle.term.specs.Reader.{end-at, GoodAt, node-at}
 use Rattle.term.specs.Expressions.{term-at}
 use Rattle.term.proofs.Nodes.{head-is}
+use Rattle.term.proofs.Shapes.{two-app}
 use Rattle.term.proofs.Views.{leaf-from, node-there, not-bad, one-from, two-from}
 use Rattle.term.proofs.Expressions.{term-stands}
 use Rattle.term_redex.specs.Shapes.{exp-is-exch, is-application}
-use Rattle.term_redex.proofs.Leaves.{leaf-application, leaf-exch, leaf-settled}
+use Rattle.term_redex.proofs.Tags.{leaf-application, leaf-exch, leaf-settled, one-application, one-exch, one-settled, two-application, two-exch, two-settled}
 
 -- a good term has a node at its front
 node-of : {l : List ℕ} {at : ℕ} → GoodAt l at → (h : Node) × (node-at l at ≡ Is h)
@@ -39,43 +41,34 @@ by-subterms (suc (suc zero)) few none one two = two refl
 by-subterms (suc (suc (suc n))) few none one two = absurd (omega arith)
 
 module _ {l : List ℕ} {at : ℕ} {h : Node} (is : node-at l at ≡ Is h) (g : GoodAt l at) where
-  known : h .tag < tags
-  unfolding node-at
-  known = head-is (drop at l) h is .known
+  -- by the number of its subterms
+  by-form : {C : Type 0} → (h .subterms ≡ 0 → HasForm (h .tag) 0 → C) → (h .subterms ≡ 1 → HasForm (h .tag) 1 → C) → (h .subterms ≡ 2 → HasForm (h .tag) 2 → C) → C
+  by-form leaf one two =
+      let n = node-there (g .inside) is in
+      by-subterms (h .subterms) (n .few)
+      (λ k. leaf k (subst (HasForm (h .tag)) k (n .form))) (λ k. one k (subst (HasForm (h .tag)) k (n .form))) (λ k. two k (subst (HasForm (h .tag)) k (n .form)))
 
-  shape : subterms-of (h .tag) ≡ h .subterms
-  unfolding node-at
-  shape = head-is (drop at l) h is .at-subterms
-
-  -- a tag of the table that has no subterm is not the tag of a node that has some
-  other-tag : (tag : ℕ) → subterms-of tag ≡ 0 → (h .subterms ≡ 0 → ⊥) → h .tag ≡ tag → ⊥
-  other-tag tag none some e = some (sym shape ∙ ap subterms-of e ∙ none)
-
-  pub application-node : is-application (term-at l at) ≡ eqb (h .subterms) 2
-  unfolding is-application
+  pub application-node : is-application (term-at l at) ≡ eqb (h .tag) application-tag
   application-node =
-      by-subterms (h .subterms) (node-there (g .inside) is .few)
-      (λ k. ap is-application (leaf-from is g k .term) ∙ leaf-application (h .tag) (h .arg) known ∙ sym (ne-eqb (h .subterms) 2 (omega arith)))
-      (λ k. ap is-application (one-from is g k .term) ∙ sym (ne-eqb (h .subterms) 2 (omega arith)))
-      (λ k. ap is-application (two-from is g k .term) ∙ sym (eq-eqb (h .subterms) 2 k))
+      by-form
+      (λ k f. ap is-application (leaf-from is g k .term) ∙ leaf-application (h .arg) (h .tag) f)
+      (λ k f. ap is-application (one-from is g k .term) ∙ one-application (h .arg) _ (h .tag) f)
+      (λ k f. ap is-application (two-from is g k .term) ∙ two-application (h .arg) _ _ (h .tag) f)
 
   pub exch-node : exp-is-exch (term-at l at) ≡ eqb (h .tag) exch-tag
-  unfolding exp-is-exch form-of forms
   exch-node =
-      by-subterms (h .subterms) (node-there (g .inside) is .few)
-      (λ k. ap exp-is-exch (leaf-from is g k .term) ∙ leaf-exch (h .tag) (h .arg) known)
-      (λ k. ap exp-is-exch (one-from is g k .term) ∙ sym (ne-eqb (h .tag) exch-tag (other-tag exch-tag refl (λ z. omega arith))))
-      (λ k. ap exp-is-exch (two-from is g k .term) ∙ sym (ne-eqb (h .tag) exch-tag (other-tag exch-tag refl (λ z. omega arith))))
+      by-form
+      (λ k f. ap exp-is-exch (leaf-from is g k .term) ∙ leaf-exch (h .arg) (h .tag) f)
+      (λ k f. ap exp-is-exch (one-from is g k .term) ∙ one-exch (h .arg) _ (h .tag) f)
+      (λ k f. ap exp-is-exch (two-from is g k .term) ∙ two-exch (h .arg) _ _ (h .tag) f)
 
   -- a node that is no application is a value, but for a variable
-  pub settled-node : (h .subterms ≡ 2 → ⊥) → is-settled (place (term-at l at)) ≡ not (eqb (h .tag) variable-tag)
-  unfolding place is-settled form-of forms
-  settled-node no-two =
-      by-subterms (h .subterms) (node-there (g .inside) is .few)
-      (λ k. ap (λ (e : Exp). is-settled (place e)) (leaf-from is g k .term) ∙ leaf-settled (h .tag) (h .arg) known)
-      (λ k. ap (λ (e : Exp). is-settled (place e)) (one-from is g k .term)
-      ∙ sym (ap not (ne-eqb (h .tag) variable-tag (other-tag variable-tag refl (λ z. omega arith)))))
-      (λ k. absurd (no-two k))
+  pub settled-node : (h .tag ≡ application-tag → ⊥) → is-settled (place (term-at l at)) ≡ not (eqb (h .tag) variable-tag)
+  settled-node other =
+      by-form
+      (λ k f. ap (λ (e : Exp). is-settled (place e)) (leaf-from is g k .term) ∙ leaf-settled (h .arg) (h .tag) f)
+      (λ k f. ap (λ (e : Exp). is-settled (place e)) (one-from is g k .term) ∙ one-settled (h .arg) _ (h .tag) f)
+      (λ k f. ap (λ (e : Exp). is-settled (place e)) (two-from is g k .term) ∙ two-settled (h .arg) _ _ (h .tag) f other)
 
 -- An application
 
@@ -88,34 +81,29 @@ pub record ApplicationAt (l : List ℕ) (at : ℕ) : Type 0 where
   pub stops : end-at l (end-at l (at + 1)) ≡ at + 1 + size (term-at l (at + 1)) + size (term-at l (end-at l (at + 1)))
   pub ends : end-at l at ≡ end-at l (end-at l (at + 1))
 
-application-two : {l : List ℕ} {at : ℕ} {h : Node} → Bytes l → node-at l at ≡ Is h → GoodAt l at → h .subterms ≡ 2 → ApplicationAt l at
-unfolding size
-application-two {l} {at} {h} b is g k =
-    let two = two-from is g k in
-    let whole = term-stands b g .1 ∙ ap (λ (e : Exp). at + size e) (two .term) in
-    let first = term-stands b (two .good) .1 in
-    let second = term-stands b (two .second) .1 in
-    let one : h .size ≡ 1 = omega (arith, whole, first, second, two .ends) in
-    from (h .size) one (two .good) (two .second) (two .term) first second (two .ends)
+-- an application takes a byte, and has two subterms
+application-form : (tag : ℕ) → tag ≡ application-tag → (subterms-of tag ≡ 2) × (1 + operand-of tag ≡ 1)
+unfolding form-of forms
+application-form tag e = rw e (refl, refl)
+
+application-two : {l : List ℕ} {at : ℕ} {h : Node} → Bytes l → node-at l at ≡ Is h → GoodAt l at → h .tag ≡ application-tag → ApplicationAt l at
+unfolding node-at
+application-two {l} {at} {h} b is g t =
+    let n = head-is (drop at l) h is in
+    let (two-subterms, one-byte) = application-form (h .tag) t in
+    let two = two-from is g (sym (n .at-subterms) ∙ two-subterms) in
+    from (h .size) (sym (n .at-size) ∙ one-byte) (two .good) (two .second) (two .term ∙ two-app (h .arg) _ _ t) (two .ends)
   where
     from : (n : ℕ) → n ≡ 1 → GoodAt l (at + n) → GoodAt l (end-at l (at + n))
-        → term-at l at ≡ app (term-at l (at + n)) (term-at l (end-at l (at + n)))
-        → end-at l (at + n) ≡ at + n + size (term-at l (at + n))
-        → end-at l (end-at l (at + n)) ≡ end-at l (at + n) + size (term-at l (end-at l (at + n)))
-        → end-at l at ≡ end-at l (end-at l (at + n)) → ApplicationAt l at
-    from n e g₁ g₂ t first second ends =
+        → term-at l at ≡ app (term-at l (at + n)) (term-at l (end-at l (at + n))) → end-at l at ≡ end-at l (end-at l (at + n)) → ApplicationAt l at
+    from n e g₁ g₂ t ends =
         subst (λ (n : ℕ). GoodAt l (at + n) → GoodAt l (end-at l (at + n))
-        → term-at l at ≡ app (term-at l (at + n)) (term-at l (end-at l (at + n)))
-        → end-at l (at + n) ≡ at + n + size (term-at l (at + n))
-        → end-at l (end-at l (at + n)) ≡ end-at l (at + n) + size (term-at l (end-at l (at + n)))
-        → end-at l at ≡ end-at l (end-at l (at + n)) → ApplicationAt l at) (sym e)
-        (λ g₁ g₂ t first second ends. record { function = g₁; argument = g₂; term = t; begins = first; stops = omega (arith, first, second); ends = ends })
-        g₁ g₂ t first second ends
+        → term-at l at ≡ app (term-at l (at + n)) (term-at l (end-at l (at + n))) → end-at l at ≡ end-at l (end-at l (at + n)) → ApplicationAt l at) (sym e)
+        (λ g₁ g₂ t ends. let first = term-stands b g₁ .1 in let second = term-stands b g₂ .1 in
+        record { function = g₁; argument = g₂; term = t; begins = first; stops = omega (arith, first, second); ends = ends })
+        g₁ g₂ t ends
 
 pub application-at : {l : List ℕ} {at : ℕ} → Bytes l → GoodAt l at → is-application (term-at l at) ≡ true → ApplicationAt l at
 application-at {l} {at} b g is =
     let (h, e) = node-of g in
-    by-subterms (h .subterms) (node-there (g .inside) e .few)
-    (λ k. absurd (false≢true (sym (application-node e g ∙ ne-eqb (h .subterms) 2 (omega arith)) ∙ is)))
-    (λ k. absurd (false≢true (sym (application-node e g ∙ ne-eqb (h .subterms) 2 (omega arith)) ∙ is)))
-    (λ k. application-two b e g k)
+    application-two b e g (eqb-sound (h .tag) application-tag (sym (application-node e g) ∙ is))

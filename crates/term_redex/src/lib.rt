@@ -1,5 +1,6 @@
 // Document 01, "A step": "Otherwise Fig. 3 gives one place where two values meet". An application whose function is not the constant exch is
 // never a value, so the place is inside it or it is the place itself: the search goes down, and never comes back up.
+use term::Form;
 use term::Front;
 use term::Node;
 use term_scan::Extent;
@@ -43,6 +44,8 @@ fn known_node(s: &[u8], at: usize) -> Node
             arg: 0,
             size: 1,
             subterms: 0,
+            binders: 0,
+            refers: Form::TO_NOTHING,
         };
     };
     node
@@ -65,7 +68,7 @@ fn is_application(s: &[u8], at: usize) -> bool
     ensures { λ r. ⌜ r ≡ is-application (term-at (now (s .entry)) at) ⌝ }
 {
     let node = known_node(s, at);
-    node.subterms == 2
+    node.tag == Node::APPLICATION
 }
 
 // Whether a term is exch applied to something.

@@ -1,44 +1,71 @@
--- Scope of leaves, by the tag; and scope as an image asks it.
-use mathlib.Core.Path.{_≡_, ap, ap₂, refl, sym}
-use mathlib.Core.Bool.{_&&_, true}
-use Prim.Native.Nat.{_<_, _≤_, suc, ℕ}
+-- Scope of nodes by what they refer to, and of terms by the walk that asks it of each node; scope as an image asks it.
+use mathlib.Core.Path.{_≡_, ap, ap₂, refl, sym, _∙_}
+use mathlib.Core.Bool.{Bool, _&&_, and-assoc, and-false, and-true, false, true}
+use mathlib.Core.List.{List, [], _∷_}
+use Prim.Native.Nat.{_+_, _<_, _≤_, suc, zero, ℕ}
+use native.Mathlib.Omega.{arith}
 use borrow.Author.Tests.{lt-ltb}
 use lib.Dec.{ltb}
 use Rattle.calculus.specs.Syntax.{Const, unit, num, op, Each, each-app, each-const, each-lam, each-name, each-var, Exp, var, name, const, lam, app}
+use Rattle.calculus.specs.Bytes.{two-byte-values}
 use Rattle.calculus.specs.Limits.{byte-values}
 use Rattle.calculus.specs.Image.{expression-test, Writable, WritableConst}
 use Rattle.calculus.specs.Verdict.{scoped, scoped-const}
-use Rattle.term.specs.Forms.{variable-tag, cell-tag, handle-tag, name-tag, tags}
-use Rattle.term.specs.Expressions.{leaf-exp, leaf-forms}
-use Rattle.term.proofs.Table.{below, end-of-row, Row, _∣_}
-use Rattle.term.proofs.Leaves.{leaf-name, leaf-op, leaf-unknown, leaf-variable}
+use Rattle.term.specs.Forms.{binders-of, form-of, forms, refers-of, to-name}
+use Rattle.term.specs.Tree.{HasForm, leaf, one, Shaped, Tree, two}
+use Rattle.term.specs.Reader.{first-tree, GoodAt, tree-at}
+use Rattle.term.specs.Expressions.{exp-of, leaf-exp, leaf-forms, term-at, term-of, two-exp}
+use Rattle.term.proofs.Views.{shaped-at}
+use Rattle.term.proofs.Shapes.{at-0, at-1, leaf-tag, one-tag, two-tag}
+use Rattle.term_walk.proofs.Law.{from, Walk}
+use Rattle.term_walk.proofs.Asking.{asked, asking}
+use Rattle.term_scan.specs.Scopes.{bound-of, operand-scoped}
 
-module _ (types names lambdas arg : ℕ) where
-  pub scoped-variable : (tag : ℕ) → tag ≡ variable-tag → ltb arg lambdas ≡ scoped types names lambdas (leaf-exp tag arg)
-  unfolding scoped
-  scoped-variable tag e = sym (ap (scoped types names lambdas) (leaf-variable tag arg e))
+-- the code compares with the bound, also where nothing is referred to
+pub there : (types names around arg refers : ℕ) {bound : ℕ} → refers ≤ to-name → arg < two-byte-values → bound ≡ bound-of types names around refers →
+    ltb arg bound ≡ operand-scoped types names around refers arg
+unfolding operand-scoped bound-of
+there types names around arg zero few small e = ap (ltb arg) e ∙ lt-ltb arg two-byte-values small
+there types names around arg (suc zero) few small e = ap (ltb arg) e
+there types names around arg (suc (suc zero)) few small e = ap (ltb arg) e
+there types names around arg (suc (suc (suc zero))) few small e = ap (ltb arg) e
+there types names around arg (suc (suc (suc (suc k)))) few small e = absurd (omega arith)
 
-  pub scoped-name : (tag : ℕ) → tag ≡ name-tag → ltb arg names ≡ scoped types names lambdas (leaf-exp tag arg)
-  unfolding scoped
-  scoped-name tag e = sym (ap (scoped types names lambdas) (leaf-name tag arg e))
+-- By the number of subterms
 
-  -- cell, exch, thread, handle
-  pub scoped-op : (tag : ℕ) → cell-tag ≤ tag → tag ≤ handle-tag → ltb arg types ≡ scoped types names lambdas (leaf-exp tag arg)
-  unfolding scoped scoped-const
-  scoped-op tag low high = let (o, is) = leaf-op tag arg low high in sym (ap (scoped types names lambdas) is)
+module _ (types names : ℕ) where
+  leaf-scoped : (d arg tag : ℕ) → HasForm tag 0 → scoped types names d (leaf-exp tag arg) ≡ operand-scoped types names d (refers-of tag) arg
+  unfolding scoped scoped-const leaf-exp leaf-forms operand-scoped bound-of form-of forms
+  leaf-scoped d arg =
+      leaf-tag (λ tag. scoped types names d (leaf-exp tag arg) ≡ operand-scoped types names d (refers-of tag) arg) refl refl refl refl refl refl refl refl
 
-  -- lambda, application, unit, num
-  pub scoped-plain : (tag : ℕ) → (tag ≡ variable-tag → ⊥) → tag < cell-tag → true ≡ scoped types names lambdas (leaf-exp tag arg)
-  unfolding scoped scoped-const leaf-exp leaf-forms
-  scoped-plain tag not-0 high = below row tag high not-0
-    where
-      row : Row (λ tag. (tag ≡ variable-tag → ⊥) → true ≡ scoped types names lambdas (leaf-exp tag arg)) 0 cell-tag
-      row = (λ not-0. absurd (not-0 refl)) ∣ (λ not-0. refl) ∣ (λ not-0. refl) ∣ (λ not-0. refl) ∣ (λ not-0. refl) ∣ end-of-row
+  one-scoped : (d arg : ℕ) (e : Exp) (tag : ℕ) → HasForm tag 1 →
+      scoped types names d (lam arg e) ≡ (operand-scoped types names d (refers-of tag) arg && scoped types names (d + binders-of tag) e)
+  unfolding scoped operand-scoped bound-of form-of forms
+  one-scoped d arg e =
+      one-tag (λ tag. scoped types names d (lam arg e) ≡ (operand-scoped types names d (refers-of tag) arg && scoped types names (d + binders-of tag) e))
+      (at-1 (λ x. ltb arg types && scoped types names x e) d)
 
-  -- what is no tag
-  pub scoped-unknown : (tag : ℕ) → tags ≤ tag → true ≡ scoped types names lambdas (leaf-exp tag arg)
-  unfolding scoped scoped-const
-  scoped-unknown tag h = sym (ap (scoped types names lambdas) (leaf-unknown tag arg h))
+  two-scoped : (d arg : ℕ) (e f : Exp) (tag : ℕ) → HasForm tag 2 →
+      scoped types names d (two-exp tag arg e f)
+      ≡ (operand-scoped types names d (refers-of tag) arg && (scoped types names d e && scoped types names (d + binders-of tag) f))
+  unfolding scoped two-exp operand-scoped bound-of form-of forms
+  two-scoped d arg e f =
+      two-tag
+      (λ tag. scoped types names d (two-exp tag arg e f)
+      ≡ (operand-scoped types names d (refers-of tag) arg && (scoped types names d e && scoped types names (d + binders-of tag) f)))
+      (at-0 (λ x. scoped types names d e && scoped types names x f) d)
+
+  -- the walk whose frames are the numbers of variables around
+  abbrev pub scoping : Walk Bool
+  scoping = asking (λ tag d. d) (λ tag d. d + binders-of tag) (λ d tag arg. operand-scoped types names d (refers-of tag) arg)
+
+  -- of a term the walk says the scope
+  pub scope-of : {l : List ℕ} {at : ℕ} → GoodAt l at → from scoping (0 ∷ []) l at ≡ scoped types names 0 (term-at l at)
+  unfolding exp-of term-of tree-at first-tree
+  scope-of g =
+      asked (λ tag d. d) (λ tag d. d + binders-of tag) (λ d tag arg. operand-scoped types names d (refers-of tag) arg) (λ d t. scoped types names d (exp-of t))
+      leaf-scoped (λ d arg t. one-scoped d arg (exp-of t)) (λ d arg t u. two-scoped d arg (exp-of t) (exp-of u)) 0 g
 
 -- an image asks no more than this of an expression that can be written: document 01, "variables are bound inside them, names are below m, ..
 -- type bytes free"

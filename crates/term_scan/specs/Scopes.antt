@@ -1,19 +1,16 @@
--- The next node of a scan that asks scope, its subterms apart.
-use mathlib.Core.Bool.{Bool, _&&_, cond, true}
+-- Whether what a node refers to is there, its subterms apart.
+use mathlib.Core.Bool.{Bool, cond, true}
+use mathlib.Core.List.{[], _∷_}
 use Prim.Native.Nat.{ℕ}
 use lib.Dec.{eqb, ltb}
-use Rattle.calculus.specs.Verdict.{scoped}
-use Rattle.term.specs.declared.Front.{Front}
-use Rattle.term.specs.declared.Front.the-variants.{Bad, Is}
-use Rattle.term.specs.declared.Node.{Node}
-use Rattle.term.specs.Expressions.{leaf-exp}
+use lib.ListN.{getD}
+use Rattle.calculus.specs.Bytes.{two-byte-values}
+use Rattle.term.specs.Forms.{to-nothing}
 
--- the test of a node with so many lambdas around: a leaf's own, a lambda's type number
-unfoldable pub node-scoped : ℕ → ℕ → ℕ → Node → Bool
-node-scoped types names lambdas h =
-    cond (eqb (h .subterms) 0) (scoped types names lambdas (leaf-exp (h .tag) (h .arg))) (cond (eqb (h .subterms) 1) (ltb (h .arg) types) true)
+-- what the operand of a node is below, by what it refers to: nothing, a variable around, a type, a name
+unfoldable pub bound-of : ℕ → ℕ → ℕ → ℕ → ℕ
+bound-of types names around refers = getD (two-byte-values ∷ around ∷ types ∷ names ∷ []) refers 0
 
--- a node that passes it and has fewer than `limit` behind
-unfoldable pub next-scoped : ℕ → ℕ → ℕ → ℕ → ℕ → Front → Front
-next-scoped limit types names nodes lambdas Bad = Bad
-next-scoped limit types names nodes lambdas (Is h) = cond (ltb nodes limit && node-scoped types names lambdas h) (Is h) Bad
+-- document 01, cause 7, "index with no lambda, name not below b, type number not below t"
+unfoldable pub operand-scoped : ℕ → ℕ → ℕ → ℕ → ℕ → Bool
+operand-scoped types names around refers arg = cond (eqb refers to-nothing) true (ltb arg (bound-of types names around refers))

@@ -1,20 +1,26 @@
 // Terms in bytes that nobody has checked: where a term ends, how many nodes it has, how deep it nests, and whether what it names is there. The loops
 // read one node after the other and count the subterms still to come, so that no input is too deep for them.
 use numbers::Image;
+use numbers::Recipe;
 use term::Front;
 use term::Node;
+use term_walk::Frames;
+use term_walk::pass;
 ghost use mathlib.Core.Path.{_≡_};
-ghost use Prim.Native.Nat.{_≤_};
+ghost use Prim.Native.Nat.{_≤_, _<_};
 ghost use lib.Dec.{leb};
 ghost use lib.ListN.{length};
-ghost use Rattle.calculus.specs.Limits.{max-nodes};
+ghost use Rattle.calculus.specs.Bytes.{two-byte-values};
+ghost use Rattle.calculus.specs.Limits.{max-nesting, max-nodes};
 ghost use Rattle.calculus.specs.Image.{nodes};
 ghost use Rattle.calculus.specs.Verdict.{scoped};
-ghost use Rattle.term.specs.Reader.{GoodAt, node-at};
-ghost use Rattle.term.specs.Expressions.{leaf-exp, nesting, term-at};
+ghost use Rattle.term.specs.Forms.{to-name};
+ghost use Rattle.term.specs.Reader.{GoodAt, tree-at};
+ghost use Rattle.term.specs.Expressions.{nesting, term-at};
+ghost use Rattle.term_walk.specs.Frames.{max-waits};
 ghost use Rattle.term_scan.specs.Extents.{extent-at, in-scope, part-of, small};
-ghost use Rattle.term_scan.specs.Depths.{reach};
-ghost use Rattle.term_scan.specs.Scopes.{next-scoped, node-scoped};
+ghost use Rattle.term_scan.specs.Editions.{forms-below};
+ghost use Rattle.term_scan.specs.Scopes.{bound-of, operand-scoped};
 
 // Where a term ends and how many nodes it has, or that there is none.
 pub enum Extent {
@@ -26,12 +32,6 @@ pub enum Extent {
 pub enum Part {
     Nodes(usize),
     NoTerm,
-}
-
-// Where a term ends that nests no deeper than a limit.
-pub enum Reach {
-    End(usize),
-    TooDeep,
 }
 
 // One answer for what is no term and for what has too many nodes, so that the scan stops at the budget.
@@ -79,136 +79,108 @@ pub fn scan_part(s: &[u8]) -> Part
     Part::NoTerm
 }
 
-// A walk by recursion that goes at most `left` deep: what falls is `left`.
-fn end_within(s: &[u8], at: usize, left: usize) -> Reach
+// Cause 5 by the edition: whether a term has only the first so many node forms.
+pub fn forms_within(s: &[u8], at: usize, forms: u8) -> bool
     requires { ⌜ GoodAt (now s) at ⌝ }
-    ensures { λ r. ⌜ r ≡ reach (now (s .entry)) left at ⌝ }
+    ensures { λ r. ⌜ r ≡ forms-below forms (tree-at (now (s .entry)) at) ⌝ }
 {
-    if left == 0 {
-        return Reach::TooDeep;
+    let mut waits: usize = 1;
+    let mut here = at;
+    while 0 < waits {
+        let Front::Is(node) = term::node_at(s, here) else {
+            return false;
+        };
+        let tag = node.tag;
+        let size = node.size;
+        let subterms = node.subterms;
+        if forms <= tag {
+            return false;
+        }
+        here += size;
+        waits = waits - 1 + (subterms as usize);
     }
-    let Front::Is(node) = term::node_at(s, at) else {
-        return Reach::TooDeep;
-    };
-    let subterms = node.subterms;
-    let first = at + node.size;
-    if subterms == 0 {
-        return Reach::End(first);
-    }
-    let Reach::End(second) = end_within(s, first, left - 1) else {
-        return Reach::TooDeep;
-    };
-    if subterms == 1 {
-        return Reach::End(second);
-    }
-    end_within(s, second, left - 1)
+    true
 }
 
-// Document 01, cause 6: whether a term nests within a limit.
+// Document 01, cause 6: whether a term nests within a limit. `frames` has the number of nodes above each term still to come.
 pub fn nesting_within(s: &[u8], at: usize, limit: usize) -> bool
-    requires { ⌜ GoodAt (now s) at ⌝ }
+    requires { ⌜ GoodAt (now s) at × (limit ≤ max-nesting) ⌝ }
     ensures { λ r. ⌜ r ≡ leb (nesting (term-at (now (s .entry)) at)) limit ⌝ }
 {
-    let Reach::End(_) = end_within(s, at, limit) else {
-        return false;
-    };
-    true
-}
-
-// The test of a leaf with so many lambdas around.
-fn leaf_scoped(tag: u8, arg: usize, types: usize, names: usize, lambdas: usize) -> bool
-    ensures { λ r. ⌜ r ≡ scoped types names lambdas (leaf-exp tag arg) ⌝ }
-{
-    match tag {
-        Node::VARIABLE => arg < lambdas,
-        Node::CELL..=Node::HANDLE => arg < types,
-        Node::NAME => arg < names,
-        _ => true,
-    }
-}
-
-// The test of a node with so many lambdas around, its subterms apart.
-fn node_scoped(node: Node, types: usize, names: usize, lambdas: usize) -> bool
-    ensures { λ r. ⌜ r ≡ node-scoped types names lambdas node ⌝ }
-{
-    let arg = node.arg;
-    let subterms = node.subterms;
-    if subterms == 0 {
-        return leaf_scoped(node.tag, arg, types, names, lambdas);
-    }
-    if subterms == 1 {
-        return arg < types;
+    let mut frames = [0u16; Recipe::MAX_NESTING + 1];
+    let mut waits: usize = 1;
+    let mut here = at;
+    while 0 < waits {
+        let above = frames[waits - 1];
+        if limit <= (above as usize) {
+            return false;
+        }
+        let Front::Is(node) = term::node_at(s, here) else {
+            return false;
+        };
+        let size = node.size;
+        let subterms = node.subterms;
+        waits = pass(&mut frames, waits, subterms, above + 1, above + 1);
+        here += size;
     }
     true
 }
 
-// The node at `here`, where fewer than `limit` are behind and it passes that test.
-fn next_scoped(
-    s: &[u8],
-    here: usize,
-    limit: usize,
-    types: usize,
-    names: usize,
-    nodes: usize,
-    lambdas: usize,
-) -> Front
-    requires { ⌜ here ≤ length (now s) ⌝ }
-    ensures { λ r. ⌜ r ≡ next-scoped limit types names nodes lambdas (node-at (now (s .entry)) here) ⌝ }
+// What an operand is below, by what it refers to, where so many variables are around its node.
+fn bound_of(refers: u8, types: usize, names: usize, around: usize) -> usize
+    requires { ⌜ refers ≤ to-name ⌝ }
+    ensures { λ r. ⌜ r ≡ bound-of types names around refers ⌝ }
 {
-    if limit <= nodes {
-        return Front::Bad;
-    }
-    let Front::Is(node) = term::node_at(s, here) else {
-        return Front::Bad;
-    };
-    if !node_scoped(node, types, names, lambdas) {
-        return Front::Bad;
-    }
-    Front::Is(node)
+    let bounds = [Node::OPERANDS, around, types, names];
+    bounds[refers as usize]
 }
 
-// Where a term ends that has at most `limit` nodes and names only what is there: each index has its lambda, each name is below `names` and each type
-// number below `types`. `pending` counts the terms still to come inside the innermost lambda, and `outer` those inside each lambda around it, outermost
-// first; it is lent, and what it holds before does not matter.
+// Whether what an operand refers to is there.
+pub fn is_there(refers: u8, arg: usize, types: usize, names: usize, around: usize) -> bool
+    requires { ⌜ (refers ≤ to-name) × (arg < two-byte-values) ⌝ }
+    ensures { λ r. ⌜ r ≡ operand-scoped types names around refers arg ⌝ }
+{
+    arg < bound_of(refers, types, names, around)
+}
+
+// Where a term ends that has at most `limit` nodes and names only what is there: each index has its variable, each name is below `names` and each type
+// number below `types`. `frames` has the number of variables around each term still to come; it is lent, and what it holds before does not matter.
 pub fn scan_scoped(
     s: &[u8],
     at: usize,
     limit: usize,
     types: usize,
     names: usize,
-    outer: &mut [u16],
+    frames: &mut [u16],
 ) -> Extent
-    requires { ⌜ (at ≤ length (now s)) × ((limit ≤ max-nodes) × (length (now outer) ≡ max-nodes)) ⌝ }
+    requires { ⌜ (at ≤ length (now s)) × ((limit ≤ max-nodes) × (length (now frames) ≡ max-waits)) ⌝ }
     ensures { λ r. ⌜ r ≡ in-scope (scoped types names 0 (term-at (now (s .entry)) at)) (small limit (extent-at (now (s .entry)) at)) ⌝ }
 {
-    let mut lambdas: usize = 0;
+    frames[0] = 0;
+    let mut waits: usize = 1;
     let mut here = at;
     let mut nodes: usize = 0;
-    let mut pending: u16 = 1;
-    loop {
-        if pending == 0 {
-            if lambdas == 0 {
-                return Extent::Ends(here, nodes);
-            }
-            lambdas -= 1;
-            pending = outer[lambdas];
-            continue;
+    while 0 < waits {
+        if limit < nodes + waits {
+            return Extent::Refused;
         }
-        let Front::Is(node) = next_scoped(s, here, limit, types, names, nodes, lambdas) else {
+        let Front::Is(node) = term::node_at(s, here) else {
             return Extent::Refused;
         };
-        here += node.size;
-        nodes += 1;
-        if node.subterms == 0 {
-            pending -= 1;
-        } else if node.subterms == 1 {
-            outer[lambdas] = pending - 1;
-            lambdas += 1;
-            pending = 1;
-        } else {
-            pending += 1;
+        let around = frames[waits - 1];
+        let refers = node.refers;
+        let arg = node.arg;
+        let size = node.size;
+        let subterms = node.subterms;
+        let binders = node.binders;
+        if !is_there(refers, arg, types, names, around as usize) {
+            return Extent::Refused;
         }
+        waits = pass(frames, waits, subterms, around, around + (binders as u16));
+        here += size;
+        nodes += 1;
     }
+    Extent::Ends(here, nodes)
 }
 
 // Document 01, cause 7: whether a term names only what is there.
@@ -216,8 +188,8 @@ pub fn scoped_within(s: &[u8], at: usize, types: usize, names: usize) -> bool
     requires { ⌜ GoodAt (now s) at × (nodes (term-at (now s) at) ≤ max-nodes) ⌝ }
     ensures { λ r. ⌜ r ≡ scoped types names 0 (term-at (now (s .entry)) at) ⌝ }
 {
-    let mut outer = [0u16; Image::MAX_NODES];
-    let Extent::Ends(_, _) = scan_scoped(s, at, Image::MAX_NODES, types, names, &mut outer) else {
+    let mut frames = [0u16; Frames::MAX_WAITS];
+    let Extent::Ends(_, _) = scan_scoped(s, at, Image::MAX_NODES, types, names, &mut frames) else {
         return false;
     };
     true

@@ -1,11 +1,7 @@
 -- Laws of the walks that count and replace a variable.
 
--- terms still to be read
-pub mod Ahead
--- what a loop knows that reads one node after the other
-pub mod Walked
--- the variable at a leaf
-pub mod Leaves
+-- the variable at a node
+pub mod Nodes
 -- counting its places
 pub mod Counting
 -- the bytes of a node and of a term

@@ -1,18 +1,14 @@
 -- The variable that is substituted.
-use mathlib.Core.Bool.{Bool, false}
+use mathlib.Core.Bool.{Bool, _&&_}
 use Prim.Native.Nat.{ℕ}
 use lib.Dec.{eqb}
-use Rattle.calculus.specs.Syntax.{Exp, var, name, const, lam, app}
+use Rattle.term.specs.Forms.{to-variable}
 use Rattle.term_subst.specs.declared.Span.{Span}
 
 -- the bytes of a slice from one position to another
 abbrev pub span : ℕ → ℕ → Span
 span from to = record { from = from; to = to }
 
--- this is the variable of the lambda `depth` lambdas out
-unfoldable pub is-variable : ℕ → Exp → Bool
-is-variable depth (var i) = eqb i depth
-is-variable depth (name k) = false
-is-variable depth (const c) = false
-is-variable depth (lam t e) = false
-is-variable depth (app f a) = false
+-- a node with this operand refers to the variable with number `depth` around it
+unfoldable pub is-variable : ℕ → ℕ → ℕ → Bool
+is-variable refers arg depth = eqb refers to-variable && eqb arg depth

@@ -1,10 +1,10 @@
-// Rule BETA on bytes: how often the variable of a lambda stands in its body, and the body with a closed value in its place. Both are loops that read
-// one node after the other, so that no term is too deep for them. `pending` counts the terms still to come inside the innermost lambda, and `outer`
-// those inside each lambda around it, outermost first.
+// Rule BETA on bytes: how often the variable of a lambda stands in its body, and the body with a closed value in its place. Both are walks (crate
+// term_walk), whose frames are the numbers of variables around the terms still to come, so that no term is too deep for them.
 use buffer::put_part;
-use numbers::Image;
+use term::Form;
 use term::Front;
-use term::Node;
+use term_walk::Frames;
+use term_walk::pass;
 ghost use mathlib.Core.Path.{_≡_};
 ghost use mathlib.Core.Bool.{cond};
 ghost use Prim.Native.Nat.{_+_, _≤_};
@@ -14,25 +14,25 @@ ghost use Rattle.calculus.specs.Reduction.{substitute};
 ghost use Rattle.calculus.specs.Names.{uses};
 ghost use Rattle.calculus.specs.Image.{nodes, size};
 ghost use Rattle.term.specs.Reader.{end-at, GoodAt};
-ghost use Rattle.term.specs.Expressions.{bytes, leaf-exp, term-at};
+ghost use Rattle.term.specs.Expressions.{bytes, term-at};
 ghost use Rattle.buffer.specs.Written.{Wrote};
 ghost use Rattle.term_subst.specs.Variable.{is-variable, span};
 
-// Whether a node with so many lambdas around is the variable of the lambda around them all.
-fn is_variable(node: Node, lambdas: usize) -> bool
-    ensures { λ r. ⌜ r ≡ is-variable lambdas (leaf-exp (node .tag) (node .arg)) ⌝ }
+// Whether a node refers to the variable with number `depth` around it.
+fn is_variable(refers: u8, arg: usize, depth: usize) -> bool
+    ensures { λ r. ⌜ r ≡ is-variable refers arg depth ⌝ }
 {
-    if node.tag == Node::VARIABLE {
-        return node.arg == lambdas;
+    if refers == Form::TO_VARIABLE {
+        return arg == depth;
     }
     false
 }
 
-// How often that variable stands at a leaf.
-fn uses_of(node: Node, lambdas: usize) -> usize
-    ensures { λ r. ⌜ r ≡ uses lambdas (leaf-exp (node .tag) (node .arg)) ⌝ }
+// How often it does: once or not.
+fn use_of(refers: u8, arg: usize, depth: usize) -> usize
+    ensures { λ r. ⌜ r ≡ cond (is-variable refers arg depth) 1 0 ⌝ }
 {
-    if is_variable(node, lambdas) {
+    if is_variable(refers, arg, depth) {
         return 1;
     }
     0
@@ -43,38 +43,29 @@ pub fn count_uses(s: &[u8], at: usize) -> usize
     requires { ⌜ GoodAt (now s) at × (nodes (term-at (now s) at) ≤ max-nodes) ⌝ }
     ensures { λ r. ⌜ r ≡ uses 0 (term-at (now (s .entry)) at) ⌝ }
 {
-    let mut outer = [0u16; Image::MAX_NODES];
-    let mut lambdas: usize = 0;
+    let mut frames = [0u16; Frames::MAX_WAITS];
+    let mut waits: usize = 1;
     let mut here = at;
-    let mut pending: u16 = 1;
     let mut found: usize = 0;
-    loop {
-        if pending == 0 {
-            if lambdas == 0 {
-                return found;
-            }
-            lambdas -= 1;
-            pending = outer[lambdas];
-            continue;
-        }
+    while 0 < waits {
         let Front::Is(node) = term::node_at(s, here) else {
             return found;
         };
+        let around = frames[waits - 1];
+        let size = node.size;
         let subterms = node.subterms;
-        here += node.size;
-        if subterms == 0 {
-            found += uses_of(node, lambdas);
-            pending -= 1;
-            continue;
-        }
-        if subterms == 1 {
-            outer[lambdas] = pending - 1;
-            lambdas += 1;
-            pending = 1;
-            continue;
-        }
-        pending += 1;
+        let binders = node.binders;
+        found += use_of(node.refers, node.arg, around as usize);
+        waits = pass(
+            &mut frames,
+            waits,
+            subterms,
+            around,
+            around + (binders as u16),
+        );
+        here += size;
     }
+    found
 }
 
 // Bytes of a slice, from one position to another.
@@ -104,37 +95,29 @@ pub fn put_applied(out: &mut [u8], pos: usize, s: &[u8], at: usize, from: usize,
     requires { ⌜ pos + size (substitute 0 (term-at (now s) from) (term-at (now s) at)) ≤ length (now out) ⌝ }
     ensures { λ r. ⌜ Wrote (now (out .entry)) pos (bytes (substitute 0 (term-at (now (s .entry)) from) (term-at (now (s .entry)) at))) (now (out .exit)) r ⌝ }
 {
-    let mut outer = [0u16; Image::MAX_NODES];
-    let mut lambdas: usize = 0;
+    let mut frames = [0u16; Frames::MAX_WAITS];
+    let mut waits: usize = 1;
     let mut here = at;
-    let mut pending: u16 = 1;
     let mut next = pos;
-    loop {
-        if pending == 0 {
-            if lambdas == 0 {
-                return next;
-            }
-            lambdas -= 1; // past the body of the innermost lambda
-            pending = outer[lambdas];
-            continue;
-        }
+    while 0 < waits {
         let Front::Is(node) = term::node_at(s, here) else {
             return next;
         };
+        let around = frames[waits - 1];
+        let subterms = node.subterms;
+        let binders = node.binders; // more variables around its last subterm
         let past = here + node.size;
-        let span = span_for(is_variable(node, lambdas), from, to, here, past);
+        let variable = is_variable(node.refers, node.arg, around as usize);
+        let span = span_for(variable, from, to, here, past);
         next = put_part(out, next, s, span.from, span.to);
+        waits = pass(
+            &mut frames,
+            waits,
+            subterms,
+            around,
+            around + (binders as u16),
+        );
         here = past;
-        if node.subterms == 0 {
-            pending -= 1;
-            continue;
-        }
-        if node.subterms == 1 {
-            outer[lambdas] = pending - 1; // this term is no longer to come
-            lambdas += 1; // inside the body of this one
-            pending = 1;
-            continue;
-        }
-        pending += 1;
     }
+    next
 }

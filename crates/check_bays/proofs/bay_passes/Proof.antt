@@ -1,4 +1,5 @@
 -- `check_bays::bay_passes` meets its contract: each test is that of the walk it calls.
+use native.Mathlib.Omega.{arith}
 use borrow.Author.Needs.{needs}
 use Rattle.check_bays.proofs.Known.{few-nodes, good-part}
 use Rattle.check_bays.proofs.Answers.{nesting-is, scope-is}
@@ -18,7 +19,9 @@ enum-told : tie.Need-enum-told
 enum-told c = search needs
 
 nesting-within-requires : tie.Need-nesting-within-requires
-nesting-within-requires c κs = let p = c .before .before .before .before .before .before .pre in good-part (p .0) (p .1) (c .before .before .term-bytes .ensures)
+nesting-within-requires c κs =
+    let p = c .before .before .before .before .before .before .pre in
+    (good-part (p .0) (p .1) (c .before .before .term-bytes .ensures), omega arith)
 
 enum-told-2 : tie.Need-enum-told-2
 enum-told-2 c = search needs

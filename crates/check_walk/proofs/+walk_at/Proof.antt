@@ -11,7 +11,7 @@ use Rattle.calculus.specs.Limits.{max-nesting}
 use Rattle.term.specs.declared.Front.the-variants.{Is}
 use Rattle.term.specs.declared.Node.{Node}
 use Rattle.term.specs.Reader.{node-at}
-use Rattle.term.proofs.Views.{is-two, leaf-from, LeafAt, node-there, NodeAt, not-bad, one-from, OneAt, past-first, two-from, TwoAt}
+use Rattle.term.proofs.Views.{app-from, AppAt, lambda-one, leaf-from, LeafAt, node-there, NodeAt, not-bad, one-from, OneAt, past-first, rest-application, two-from}
 use Rattle.term.proofs.node_at.Reads as node-at-reads
 use Rattle.check_linearity.specs.Theory.Levels.{floor-below}
 use Rattle.check_types.proofs.entry_at.Reads as entry-at-reads
@@ -103,7 +103,7 @@ module _ (t : ℕ) where
   leaf : (c : AtNode) → node c .subterms ≡ 0 → LeafAt (all c) (at c) (node c)
   leaf c k = leaf-from (is-node c) (ready c .good) k
 
-  -- where one subterm follows
+  -- where the node is a lambda
   abbrev AtLambda : Type 0
   AtLambda = lts.Then2 (calls t) (given t) reads.Post
 
@@ -111,7 +111,7 @@ module _ (t : ℕ) where
   lambda c = c .before .before
 
   one : (c : AtLambda) → OneAt (all (lambda c)) (at (lambda c)) (node (lambda c))
-  one c = one-from (is-node (lambda c)) (ready (lambda c) .good) (c .if2 .taken)
+  one c = let n = lambda c in one-from (is-node n) (ready n .good) (lambda-one (here n) (c .if2 .taken))
 
   level : (c : AtLambda) → above (lambda c) < max-nesting
   level c = level-below (ready (lambda c)) (one c)
@@ -129,15 +129,18 @@ module _ (t : ℕ) where
   space : (c : AtMark) → above (lambda (opened c)) < length (marks (lambda (opened c)))
   space c = omega (arith, level (opened c), ready (lambda (opened c)) .long)
 
-  -- where two subterms follow
+  -- where it is an application
   abbrev AtTwo : Type 0
   AtTwo = lts.Else2 (calls t) (given t) reads.Post
 
   abbrev apply : AtTwo → AtNode
   apply c = c .before .before
 
-  two : (c : AtTwo) → TwoAt (all (apply c)) (at (apply c)) (node (apply c))
-  two c = let n = apply c in two-from (is-node n) (ready n .good) (is-two (here n) (c .before .if1 .left) (c .if2 .left))
+  two : (c : AtTwo) → AppAt (all (apply c)) (at (apply c)) (node (apply c))
+  two c =
+      let n = apply c in
+      let (tag, subterms) = rest-application (here n) (c .before .if1 .left) (c .if2 .left) in
+      app-from (two-from (is-node n) (ready n .good) subterms) tag
 
   -- where the first of them has its type
   abbrev AtFirst : Type 0
@@ -236,7 +239,7 @@ module _ (t : ℕ) where
       let e = back f in
       let n = apply e in
       let k = f .before .before .before .walk-at2 .ensures .left _ _ _ (f .before .function .given .1) in (
-        omega (arith, start n .pre .0, here n .onward, two e .onward, two e .second .inside, second-at f),
+        omega (arith, start n .pre .0, here n .onward, two e .two .onward, two e .two .second .inside, second-at f),
         ready-argument (ready n) (two e) (sym (second-at f)) (k .wide) (k .same),
       )
 

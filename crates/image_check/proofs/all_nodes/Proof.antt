@@ -5,17 +5,17 @@ use Prim.Native.Nat.{_-_}
 use native.Mathlib.Omega.{arith}
 use borrow.Author.Needs.{needs}
 use lib.ListN.{length}
-use Rattle.calculus.specs.Limits.{max-nodes}
+use Rattle.term_walk.specs.Frames.{max-waits}
 use Rattle.image_layout.specs.Theory.Reading.{has-names}
 use Rattle.image_check.proofs.Budgets.{enough, next-named, Spent, spent-all, spent-fault, spent-none, spent-one, within}
 use Rattle.image_check.proofs.all_nodes.Statement.{statement}
 use Rattle.image_check.proofs.all_nodes.Tie as tie
 
 abbrev Inv-loop : tie.InvT-loop
-Inv-loop image names outer₀ left₀ k₀ outer left k = Spent image names k left × (length outer ≡ max-nodes)
+Inv-loop image names frames₀ left₀ k₀ frames left k = Spent image names k left × (length frames ≡ max-waits)
 
 abbrev μ-loop : tie.MeasureT-loop
-μ-loop image names outer₀ left₀ k₀ outer left k = names - k
+μ-loop image names frames₀ left₀ k₀ frames left k = names - k
 
 names-of-requires : tie.Need-names-of-requires Inv-loop μ-loop
 names-of-requires c κs = has-names _ (c .before .pre)

@@ -10,7 +10,7 @@ use Rattle.calculus.specs.Reduction.{substitute}
 use Rattle.term.specs.Forms.{form-of, forms}
 use Rattle.term.specs.Numbers.{value-of}
 use Rattle.term.specs.Reader.{read, read-term}
-use Rattle.term.specs.Expressions.{bytes, const-bytes, exp-of, leaf-exp, leaf-forms, term-of}
+use Rattle.term.specs.Expressions.{bytes, const-bytes, exp-of, leaf-exp, leaf-forms, term-of, two-exp}
 use Rattle.image_layout.specs.Encoded.{expressions, head, heads, image-bytes}
 use Rattle.image_layout.specs.Slice.{companion-at, encoded-at, expression-at, kind-at, length-at, names, offset-at}
 use Rattle.step_rules.specs.declared.Move.{Move}
@@ -104,5 +104,5 @@ Hold [] = Unit {0}
 Hold (r ∷ rs) = ((image-after (r .before) (r .move) ≡ r .next) × (nodes-after (r .nodes-before) (r .before) (r .move) ≡ r .nodes-next)) × Hold rs
 
 pub cases : Hold rows
-unfolding image-after components-after component-after other-after others expression-after redex-after redexes bytes-between names-after new-names nodes-after node-counts tabulate image-bytes heads head expressions two-bytes word names kind-at companion-at offset-at length-at expression-at encoded-at bytes const-bytes substitute uses nodes term-of exp-of leaf-exp leaf-forms read-term read form-of forms value-of
+unfolding image-after components-after component-after other-after others expression-after redex-after redexes bytes-between names-after new-names nodes-after node-counts tabulate image-bytes heads head expressions two-bytes word names kind-at companion-at offset-at length-at expression-at encoded-at bytes const-bytes substitute uses nodes term-of exp-of leaf-exp leaf-forms two-exp read-term read form-of forms value-of
 cases = ((refl, refl), ((refl, refl), ((refl, refl), ((refl, refl), ((refl, refl), ((refl, refl), ((refl, refl), ((refl, refl), ((refl, refl), tt)))))))))

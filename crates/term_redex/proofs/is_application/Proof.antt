@@ -1,4 +1,4 @@
--- `term_redex::is_application` meets its contract: an application is the node with two subterms.
+-- `term_redex::is_application` meets its contract: by the tag.
 use mathlib.Core.Path.{sym}
 use borrow.Author.Needs.{needs}
 use Rattle.term_redex.proofs.Nodes.{application-node}

@@ -1,81 +1,89 @@
--- `term_scan::scan_scoped` meets its contract. The loop's invariant: the terms still to come, on the levels that the stack has, give the answer
--- (proofs/Scanning.antt). The measure: a node takes a byte, and adds at most one lambda.
+-- `term_scan::scan_scoped` meets its contract. The loop's invariant: the terms still to come, with the frames that the stack has, give the answer
+-- (proofs/Scanning.antt). The measure is what is still unread.
 use mathlib.Core.Path.{_≡_, sym, _∙_}
-use Prim.Native.Nat.{_*_, _+_, _-_}
+use mathlib.Core.List.{List}
+use Prim.Native.Nat.{_+_, _-_, _<_, _≤_, ℕ}
 use native.Mathlib.Omega.{arith}
 use borrow.Author.Needs.{needs}
-use lib.ListN.{length}
+use borrow.Author.Tests.{not-false, not-true}
+use lib.ListN.{length, length-set}
+use lib.Seq.{getD-set-same}
+use Rattle.calculus.specs.Bytes.{Bytes}
 use Rattle.term.specs.declared.Front.the-variants.{Is}
 use Rattle.term.specs.declared.Node.{Node}
 use Rattle.term.specs.Reader.{node-at}
-use Rattle.term.proofs.Views.{NodeAt}
-use Rattle.term_scan.specs.Scopes.{next-scoped}
-use Rattle.term_scan.proofs.Scanning.{Scanning, scanning-done, scanning-few, scanning-low, scanning-pop, scanning-refused, scanning-start, turn-lambda, turn-leaf, turn-left, turn-node, turn-room, turn-two}
+use Rattle.term.proofs.Views.{NodeAt, small-arg}
+use Rattle.term_walk.specs.Frames.{max-waits}
+use Rattle.term_scan.proofs.Going.{going-node, going-room, going-top}
+use Rattle.term_scan.proofs.Scanning.{Scanning, scanning-bad, scanning-done, scanning-loose, scanning-on, scanning-over, scanning-start}
 use Rattle.term_scan.proofs.scan_scoped.Statement.{statement}
 use Rattle.term_scan.proofs.scan_scoped.Tie as tie
 
 abbrev Inv-loop : tie.InvT-loop
-Inv-loop s at limit types names outer₀ lambdas₀ here₀ nodes₀ pending₀ outer lambdas here nodes pending = Scanning types names limit s at here nodes pending lambdas outer
+Inv-loop s at limit types names frames₀ waits₀ here₀ nodes₀ frames waits here nodes = Scanning types names limit s at here nodes waits frames
 
 abbrev μ-loop : tie.MeasureT-loop
-μ-loop s at limit types names outer₀ lambdas₀ here₀ nodes₀ pending₀ outer lambdas here nodes pending = 2 * (length s - here) + lambdas
+μ-loop s at limit types names frames₀ waits₀ here₀ nodes₀ frames waits here nodes = length s - here
 
 abbrev AtLoop : Type 0
 AtLoop = tie.At-loop Inv-loop μ-loop
 
--- where the next node passed its tests
+-- where the head is a node
 abbrev AtNode : Type 0
 AtNode = tie.After-known-told Inv-loop μ-loop
 
 abbrev loop : AtNode → AtLoop
-loop c = c .before .before .before .before .before
+loop c = c .before .before .before .before .before .before
 
-abbrev start : AtLoop → tie.Start Inv-loop μ-loop
-start p = p .before .before .before
+abbrev all : AtLoop → List ℕ
+all p = p .before .before .before .args .s .now
 
 abbrev head : AtNode → Node
 head c = c .before .node .given .0 .0
 
-some : (c : AtNode) → loop c .loop .pending ≡ 0 → ⊥
-some c = c .before .before .before .before .if1 .left
+some : (c : AtNode) → 0 < loop c .loop .waits
+some c = c .before .before .before .before .before .loop-test .taken
 
-next-is : (c : AtNode) → next-scoped (start (loop c) .args .limit) (start (loop c) .args .types) (start (loop c) .args .names) (loop c .loop .nodes) (loop c .loop .lambdas)
-    (node-at (start (loop c) .args .s .now) (loop c .loop .here)) ≡ Is (head c)
-next-is c = sym (c .before .before .before .next-scoped .ensures) ∙ c .before .node .given .1
+few : (c : AtNode) → loop c .loop .nodes + loop c .loop .waits ≤ loop c .before .before .before .args .limit
+few c = omega (arith, c .before .before .before .before .if1 .left)
 
-node : (c : AtNode) → NodeAt (start (loop c) .args .s .now) (loop c .loop .here) (head c)
-node c = turn-node (loop c .loop .inv) (some c) (next-is c)
+is-head : (c : AtNode) → node-at (all (loop c)) (loop c .loop .here) ≡ Is (head c)
+is-head c = sym (c .before .before .before .node-at .ensures) ∙ c .before .node .given .1
+
+node : (c : AtNode) → NodeAt (all (loop c)) (loop c .loop .here) (head c)
+node c = going-node (loop c .loop .inv .going) (some c) (is-head c)
+
+bytes : (c : AtNode) → Bytes (all (loop c))
+bytes c i = omega (arith, loop c .before .before .shared-slice-known .given i)
+
+-- there is room for the frames
+room : (c : AtNode) → loop c .loop .waits < max-waits
+room c = going-room (loop c .loop .inv .going) (some c) (omega (arith, few c, loop c .loop .inv .limited))
 
 -- the stack keeps its length
-kept : (p : AtLoop) → length (p .loop .outer) ≡ length (start p .args .outer .now)
-kept p = p .loop .inv .room ∙ sym (start p .pre .1 .1)
+kept : (p : AtLoop) → length (p .loop .frames) ≡ length (p .before .before .before .args .frames .now)
+kept p = p .loop .inv .going .room ∙ sym (p .before .before .before .pre .1 .1)
+
+slice-write-frames : tie.Need-slice-write-frames Inv-loop μ-loop
+slice-write-frames c = omega (arith, c .before .before .pre .1 .1)
 
 loop-holds : tie.Need-loop-holds Inv-loop μ-loop
-loop-holds c = let s = c .before .before in scanning-start _ _ _ _ _ _ (s .pre .0) (s .pre .1 .0) (s .pre .1 .1)
+loop-holds c =
+    let s = c .before .before in
+    scanning-start _ _ _ _ _ _ (s .pre .0) (s .pre .1 .0) (length-set (s .args .frames .now) 0 0 ∙ s .pre .1 .1)
+    (getD-set-same (s .args .frames .now) 0 0 0 (omega (arith, s .pre .1 .1)))
+
+add-if1 : tie.Need-add-if1 Inv-loop μ-loop
+add-if1 c = let w = c .before .loop .inv in omega (arith, w .going .seen .few, w .within, w .limited)
 
 same-length : tie.Need-same-length Inv-loop μ-loop
 same-length c = kept (c .before .before)
 
 returns : tie.Need-returns Inv-loop μ-loop
-returns c = scanning-done (c .before .before .loop .inv) (c .before .if1 .taken) (c .if2 .taken)
+returns c = scanning-over (c .before .before .loop .inv) (c .if1 .taken)
 
-sub-lambdas : tie.Need-sub-lambdas Inv-loop μ-loop
-sub-lambdas c = search needs
-
-mul-pending : tie.Need-mul-pending Inv-loop μ-loop
-mul-pending c = let h = scanning-low (c .before .before .loop .inv) in search needs
-
-slice-read-pending : tie.Need-slice-read-pending Inv-loop μ-loop
-slice-read-pending c = let w = c .before .before .before .loop .inv in omega (arith, scanning-low w, w .room)
-
-loop-less : tie.Need-loop-less Inv-loop μ-loop
-loop-less c = omega arith
-
-loop-again : tie.Need-loop-again Inv-loop μ-loop
-loop-again c = scanning-pop (c .before .before .before .loop .inv) (c .before .before .if1 .taken) (c .before .if2 .left)
-
-next-scoped-requires : tie.Need-next-scoped-requires Inv-loop μ-loop
-next-scoped-requires c κs = c .before .loop .inv .seen .inside
+node-at-requires : tie.Need-node-at-requires Inv-loop μ-loop
+node-at-requires c κs = c .before .before .loop .inv .going .seen .inside
 
 enum-known-node : tie.Need-enum-known-node Inv-loop μ-loop
 enum-known-node c = search needs
@@ -84,54 +92,70 @@ enum-told : tie.Need-enum-told Inv-loop μ-loop
 enum-told c = search needs
 
 same-length-2 : tie.Need-same-length-2 Inv-loop μ-loop
-same-length-2 c = kept (c .before .before .before .before)
+same-length-2 c = kept (c .before .before .before .before .before)
 
 returns-2 : tie.Need-returns-2 Inv-loop μ-loop
 returns-2 c =
-    scanning-refused (c .before .before .before .before .loop .inv) (c .before .before .before .if1 .left)
-    (sym (c .before .before .next-scoped .ensures) ∙ c .enum-told .given .1)
+    scanning-bad (c .before .before .before .before .before .loop .inv) (c .before .before .before .before .loop-test .taken)
+    (sym (c .before .before .node-at .ensures) ∙ c .enum-told .given .1)
+
+sub-around : tie.Need-sub-around Inv-loop μ-loop
+sub-around c = omega (arith, some c)
+
+mul-around : tie.Need-mul-around Inv-loop μ-loop
+mul-around c = let h = room c in search needs
+
+slice-read-around : tie.Need-slice-read-around Inv-loop μ-loop
+slice-read-around c = let n = c .before in omega (arith, some n, room n, loop n .loop .inv .going .room)
+
+cast-is-there : tie.Need-cast-is-there Inv-loop μ-loop
+cast-is-there c = let n = c .before in omega (arith, going-top (loop n .loop .inv .going) (some n), loop n .loop .inv .within, loop n .loop .inv .limited)
+
+is-there-requires : tie.Need-is-there-requires Inv-loop μ-loop
+is-there-requires c κs = let n = c .before in (node n .referent, small-arg _ _ (bytes n) (is-head n))
+
+same-length-3 : tie.Need-same-length-3 Inv-loop μ-loop
+same-length-3 c = kept (loop (c .before .before .before))
+
+returns-3 : tie.Need-returns-3 Inv-loop μ-loop
+returns-3 c =
+    let n = c .before .before .before in
+    scanning-loose (loop n .loop .inv) (some n) (is-head n) (sym (c .before .is-there .ensures) ∙ not-true _ (c .if2 .taken))
+
+cast-pass : tie.Need-cast-pass Inv-loop μ-loop
+cast-pass c = omega (arith, node (c .before .before .before .before) .bound)
+
+add-pass : tie.Need-add-pass Inv-loop μ-loop
+add-pass c =
+    let n = c .before .before .before .before in
+    omega (arith, node n .bound, going-top (loop n .loop .inv .going) (some n), loop n .loop .inv .within, loop n .loop .inv .limited)
+
+pass-requires : tie.Need-pass-requires Inv-loop μ-loop
+pass-requires c κs =
+    let n = c .before .before .before .before in
+    (some n, (omega (arith, room n, loop n .loop .inv .going .room), node n .few))
 
 add-here : tie.Need-add-here Inv-loop μ-loop
-add-here c = omega (arith, node (c .before) .inside)
+add-here c = omega (arith, node (c .before .before .before .before .before .before .before) .inside)
 
 add-nodes : tie.Need-add-nodes Inv-loop μ-loop
-add-nodes c = let n = c .before in omega (arith, turn-left (loop n .loop .inv) (some n) (next-is n))
+add-nodes c = let n = c .before .before .before .before .before .before .before in omega (arith, few n, loop n .loop .inv .limited)
 
-sub-pending : tie.Need-sub-pending Inv-loop μ-loop
-sub-pending c = omega (arith, some (c .before .before .before))
+loop-less : tie.Need-loop-less Inv-loop μ-loop
+loop-less c = let n = c .before .before .before .before .before .before .before in omega (arith, node n .inside, node n .onward)
 
-loop-less-2 : tie.Need-loop-less-2 Inv-loop μ-loop
-loop-less-2 c = let n = c .before .before .before in omega (arith, node n .inside, node n .onward)
+loop-again : tie.Need-loop-again Inv-loop μ-loop
+loop-again c =
+    let n = c .before .before .before .before .before .before .before in
+    scanning-on (loop n .loop .inv) (some n) (is-head n) (few n)
+    (sym (c .before .before .before .before .before .is-there .ensures) ∙ not-false _ (c .before .before .before .before .if2 .left))
+    (c .before .before .pass .ensures)
 
-loop-again-2 : tie.Need-loop-again-2 Inv-loop μ-loop
-loop-again-2 c = let n = c .before .before .before in turn-leaf (loop n .loop .inv) (some n) (next-is n) (c .if3 .taken)
+same-length-4 : tie.Need-same-length-4 Inv-loop μ-loop
+same-length-4 c = kept (c .before)
 
-sub-outer : tie.Need-sub-outer Inv-loop μ-loop
-sub-outer c = omega (arith, some (c .before .before .before .before .before))
-
-mul-outer : tie.Need-mul-outer Inv-loop μ-loop
-mul-outer c = let h = scanning-low (loop (c .before .before .before .before .before) .loop .inv) in search needs
-
-slice-write-outer : tie.Need-slice-write-outer Inv-loop μ-loop
-slice-write-outer c = let n = c .before .before .before .before .before in omega (arith, turn-room (loop n .loop .inv) (some n) (next-is n), loop n .loop .inv .room)
-
-add-lambdas : tie.Need-add-lambdas Inv-loop μ-loop
-add-lambdas c = omega (arith, scanning-low (loop (c .before .before .before .before .before) .loop .inv))
-
-loop-less-3 : tie.Need-loop-less-3 Inv-loop μ-loop
-loop-less-3 c = let n = c .before .before .before .before .before in omega (arith, node n .inside, node n .onward)
-
-loop-again-3 : tie.Need-loop-again-3 Inv-loop μ-loop
-loop-again-3 c = let n = c .before .before .before .before .before in turn-lambda (loop n .loop .inv) (some n) (next-is n) (c .if4 .taken)
-
-add-pending : tie.Need-add-pending Inv-loop μ-loop
-add-pending c = let n = c .before .before .before .before .before in omega (arith, scanning-few (loop n .loop .inv))
-
-loop-less-4 : tie.Need-loop-less-4 Inv-loop μ-loop
-loop-less-4 c = let n = c .before .before .before .before .before in omega (arith, node n .inside, node n .onward)
-
-loop-again-4 : tie.Need-loop-again-4 Inv-loop μ-loop
-loop-again-4 c = let n = c .before .before .before .before .before in turn-two (loop n .loop .inv) (some n) (next-is n) (c .before .before .if3 .left) (c .if4 .left)
+returns-4 : tie.Need-returns-4 Inv-loop μ-loop
+returns-4 c = scanning-done (c .before .loop .inv) (omega arith)
 
 pub scan-scoped-spec : {M : Type 1} → statement M
 scan-scoped-spec =
@@ -139,30 +163,29 @@ scan-scoped-spec =
     (tie.spec
     Inv-loop
     μ-loop
+    slice-write-frames
     loop-holds
+    add-if1
     same-length
     returns
-    sub-lambdas
-    mul-pending
-    slice-read-pending
-    loop-less
-    loop-again
-    next-scoped-requires
+    node-at-requires
     enum-known-node
     enum-told
     same-length-2
     returns-2
+    sub-around
+    mul-around
+    slice-read-around
+    cast-is-there
+    is-there-requires
+    same-length-3
+    returns-3
+    cast-pass
+    add-pass
+    pass-requires
     add-here
     add-nodes
-    sub-pending
-    loop-less-2
-    loop-again-2
-    sub-outer
-    mul-outer
-    slice-write-outer
-    add-lambdas
-    loop-less-3
-    loop-again-3
-    add-pending
-    loop-less-4
-    loop-again-4)
+    loop-less
+    loop-again
+    same-length-4
+    returns-4)

@@ -33,7 +33,7 @@ loop-holds c = (seen-start _ _ (c .before .pre), zero-le)
 returns : tie.Need-returns Inv-loop μ-loop
 returns c =
     let p = c .before .before in
-    small-over (p .before .before .args .budget) (p .loop .inv .0) (c .before .loop-test .taken) (omega arith)
+    small-over (p .before .before .args .budget) (p .loop .inv .0) (omega (arith, c .before .loop-test .taken))
 
 node-at-requires : tie.Need-node-at-requires Inv-loop μ-loop
 node-at-requires c κs = c .before .before .loop .inv .0 .inside

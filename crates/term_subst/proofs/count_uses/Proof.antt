@@ -1,8 +1,8 @@
--- `term_subst::count_uses` meets its contract. The loop's invariant: the places found and those in the terms still to be read are all. The measure: a
--- node takes a byte, and adds at most one lambda.
+-- `term_subst::count_uses` meets its contract. The loop's invariant: the uses counted and those in the terms still to come are those of the term
+-- (proofs/Counting.antt). The measure is what is still unread.
 use mathlib.Core.Path.{_≡_, refl, sym, _∙_}
 use mathlib.Core.List.{List}
-use Prim.Native.Nat.{_*_, _+_, _-_, _<_, _≤_, ℕ}
+use Prim.Native.Nat.{_+_, _-_, _<_, _≤_, ℕ}
 use native.Mathlib.Omega.{arith}
 use borrow.Author.Needs.{needs}
 use lib.ListN.{length}
@@ -10,118 +10,121 @@ use Rattle.calculus.specs.Limits.{max-nodes}
 use Rattle.term.specs.declared.Front.the-variants.{Is}
 use Rattle.term.specs.declared.Node.{Node}
 use Rattle.term.specs.Reader.{node-at}
-use Rattle.term_subst.proofs.Walked.{walked-deep, walked-good, walked-in, walked-low, walked-not-bad, walked-pending, walked-two-subterms}
-use Rattle.term_subst.proofs.Counting.{Counting, counting-done, counting-few, counting-leaf, counting-one, counting-pop, counting-start, counting-two}
+use Rattle.term.proofs.Views.{NodeAt}
+use Rattle.term_walk.specs.Frames.{max-waits}
+use Rattle.term_scan.proofs.Going.{going-node, going-not-bad, going-room, going-top}
+use Rattle.term_subst.proofs.Counting.{Counting, counting-done, counting-few, counting-on, counting-start, counting-uses}
 use Rattle.term_subst.proofs.count_uses.Statement.{statement}
 use Rattle.term_subst.proofs.count_uses.Tie as tie
 
 abbrev Inv-loop : tie.InvT-loop
-Inv-loop s at outer₀ lambdas₀ here₀ pending₀ found₀ outer lambdas here pending found = Counting s at here pending lambdas outer found
+Inv-loop s at frames₀ waits₀ here₀ found₀ frames waits here found = Counting s at here waits frames found
 
 abbrev μ-loop : tie.MeasureT-loop
-μ-loop s at outer₀ lambdas₀ here₀ pending₀ found₀ outer lambdas here pending found = 2 * (length s - here) + lambdas
+μ-loop s at frames₀ waits₀ here₀ found₀ frames waits here found = length s - here
 
 abbrev AtLoop : Type 0
 AtLoop = tie.At-loop Inv-loop μ-loop
 
--- where the head is a node
+-- where there is a node
 abbrev AtNode : Type 0
-AtNode = tie.After-struct-known Inv-loop μ-loop
+AtNode = tie.After-known-told Inv-loop μ-loop
+
+-- where it was counted
+abbrev AtUse : Type 0
+AtUse = tie.After-use-of Inv-loop μ-loop
 
 abbrev loop : AtNode → AtLoop
-loop c = c .before .before .before .before .before .before
+loop c = c .before .before .before .before .before
 
 abbrev all : AtLoop → List ℕ
 all p = p .before .before .args .s .now
 
 abbrev head : AtNode → Node
-head c = c .before .before .node .given .0 .0
+head c = c .before .node .given .0 .0
 
-some : (c : AtNode) → loop c .loop .pending ≡ 0 → ⊥
-some c = c .before .before .before .before .before .if1 .left
+some : (c : AtNode) → 0 < loop c .loop .waits
+some c = c .before .before .before .before .loop-test .taken
 
 is-head : (c : AtNode) → node-at (all (loop c)) (loop c .loop .here) ≡ Is (head c)
-is-head c = sym (c .before .before .before .before .node-at .ensures) ∙ c .before .before .node .given .1
+is-head c = sym (c .before .before .before .node-at .ensures) ∙ c .before .node .given .1
 
-inside : (c : AtNode) → (loop c .loop .here + head c .size ≤ length (all (loop c))) × (loop c .loop .here < loop c .loop .here + head c .size)
-inside c = walked-in (loop c .loop .inv .walked) (some c) (is-head c)
+node : (c : AtNode) → NodeAt (all (loop c)) (loop c .loop .here) (head c)
+node c = going-node (loop c .loop .inv .going) (some c) (is-head c)
+
+few : (c : AtNode) → loop c .loop .inv .read + loop c .loop .waits ≤ max-nodes
+few c = counting-few (loop c .loop .inv)
+
+room : (c : AtNode) → loop c .loop .waits < max-waits
+room c = going-room (loop c .loop .inv .going) (some c) (few c)
 
 loop-holds : tie.Need-loop-holds Inv-loop μ-loop
-loop-holds c = let p = c .before .pre in counting-start _ (p .0) (p .1) refl
-
-returns : tie.Need-returns Inv-loop μ-loop
-returns c = counting-done (c .before .before .loop .inv) (c .before .if1 .taken) (c .if2 .taken)
-
-array-read-pending : tie.Need-array-read-pending Inv-loop μ-loop
-array-read-pending c = omega (arith, walked-low (c .before .before .loop .inv .walked))
-
-loop-again : tie.Need-loop-again Inv-loop μ-loop
-loop-again c = counting-pop (c .before .before .loop .inv) (c .before .if1 .taken) (c .if2 .left)
+loop-holds c = let s = c .before in counting-start _ _ _ (s .pre .0) (s .pre .1) refl refl
 
 node-at-requires : tie.Need-node-at-requires Inv-loop μ-loop
-node-at-requires c κs = walked-good (c .before .loop .inv .walked) (c .if1 .left) .inside
+node-at-requires c κs = c .before .loop .inv .going .seen .inside
 
-returns-2 : tie.Need-returns-2 Inv-loop μ-loop
-returns-2 c =
+enum-known-node : tie.Need-enum-known-node Inv-loop μ-loop
+enum-known-node c = search needs
+
+enum-told : tie.Need-enum-told Inv-loop μ-loop
+enum-told c = search needs
+
+returns : tie.Need-returns Inv-loop μ-loop
+returns c =
+    let p = c .before .before .before .before in
     absurd
-    (walked-not-bad (c .before .before .before .before .loop .inv .walked) (c .before .before .before .if1 .left)
+    (going-not-bad (p .loop .inv .going) (c .before .before .before .loop-test .taken) (p .loop .inv .good)
     (sym (c .before .before .node-at .ensures) ∙ c .enum-told .given .1))
 
-add-here : tie.Need-add-here Inv-loop μ-loop
-add-here c = omega (arith, inside c .0)
+sub-around : tie.Need-sub-around Inv-loop μ-loop
+sub-around c = omega (arith, some c)
+
+mul-around : tie.Need-mul-around Inv-loop μ-loop
+mul-around c = let h = room c in search needs
+
+array-read-around : tie.Need-array-read-around Inv-loop μ-loop
+array-read-around c = omega (arith, some c, room c, loop c .loop .inv .going .room)
+
+cast-use-of : tie.Need-cast-use-of Inv-loop μ-loop
+cast-use-of c = omega (arith, going-top (loop c .loop .inv .going) (some c), few c)
+
+use-of-requires : tie.Need-use-of-requires Inv-loop μ-loop
+use-of-requires c κs = search needs
 
 add-found : tie.Need-add-found Inv-loop μ-loop
-add-found c =
+add-found c = let n = c .before in omega (arith, counting-uses (loop n .loop .inv) (some n) (is-head n), c .use-of .ensures)
+
+slice-aggregate-pass : tie.Need-slice-aggregate-pass Inv-loop μ-loop
+slice-aggregate-pass c = search needs
+
+cast-pass : tie.Need-cast-pass Inv-loop μ-loop
+cast-pass c = omega (arith, node (c .before .before) .bound)
+
+add-pass : tie.Need-add-pass Inv-loop μ-loop
+add-pass c =
     let n = c .before .before in
-    omega (arith, c .uses-of .ensures, counting-few (loop n .loop .inv) (some n) (is-head n) (c .before .if3 .taken))
+    omega (arith, node n .bound, going-top (loop n .loop .inv .going) (some n), few n)
 
-sub-pending : tie.Need-sub-pending Inv-loop μ-loop
-sub-pending c = omega (arith, some (c .before .before))
-
-loop-less-2 : tie.Need-loop-less-2 Inv-loop μ-loop
-loop-less-2 c =
+pass-requires : tie.Need-pass-requires Inv-loop μ-loop
+pass-requires c κs =
     let n = c .before .before in
-    omega (arith, inside n .0, inside n .1)
+    (some n, (omega (arith, room n, loop n .loop .inv .going .room), node n .few))
 
-loop-again-2 : tie.Need-loop-again-2 Inv-loop μ-loop
-loop-again-2 c =
-    let n = c .before .before in
-    rw (c .uses-of .ensures) (counting-leaf (loop n .loop .inv) (some n) (is-head n) (c .before .if3 .taken))
+add-here : tie.Need-add-here Inv-loop μ-loop
+add-here c = omega (arith, node (c .before .before .before .before) .inside)
 
-sub-outer : tie.Need-sub-outer Inv-loop μ-loop
-sub-outer c = omega (arith, some (c .before .before))
+loop-less : tie.Need-loop-less Inv-loop μ-loop
+loop-less c = let n = c .before .before .before .before in omega (arith, node n .inside, node n .onward)
 
-deep : (n : AtNode) → head n .subterms ≡ 1 → loop n .loop .lambdas < max-nodes
-deep n m = walked-deep (loop n .loop .inv .walked) (some n) (is-head n) m
+loop-again : tie.Need-loop-again Inv-loop μ-loop
+loop-again c =
+    let n = c .before .before .before .before in
+    rw (c .before .before .before .use-of .ensures)
+    (counting-on (loop n .loop .inv) (some n) (is-head n) (c .before .pass .ensures))
 
-array-write-outer : tie.Need-array-write-outer Inv-loop μ-loop
-array-write-outer c = deep (c .before .before) (c .if4 .taken)
-
-add-lambdas : tie.Need-add-lambdas Inv-loop μ-loop
-add-lambdas c = omega (arith, deep (c .before .before) (c .if4 .taken))
-
-loop-less-3 : tie.Need-loop-less-3 Inv-loop μ-loop
-loop-less-3 c =
-    let n = c .before .before in
-    omega (arith, inside n .0, inside n .1)
-
-loop-again-3 : tie.Need-loop-again-3 Inv-loop μ-loop
-loop-again-3 c =
-    let n = c .before .before in
-    counting-one (loop n .loop .inv) (some n) (is-head n) (c .if4 .taken)
-
-add-pending : tie.Need-add-pending Inv-loop μ-loop
-add-pending c = let n = c .before .before in omega (arith, walked-pending (loop n .loop .inv .walked) (some n))
-
-loop-less-4 : tie.Need-loop-less-4 Inv-loop μ-loop
-loop-less-4 c =
-    let n = c .before .before in
-    omega (arith, inside n .0, inside n .1)
-
-loop-again-4 : tie.Need-loop-again-4 Inv-loop μ-loop
-loop-again-4 c =
-    let n = c .before .before in
-    counting-two (loop n .loop .inv) (some n) (is-head n) (walked-two-subterms (loop n .loop .inv .walked) (some n) (is-head n) (c .before .if3 .left) (c .if4 .left))
+returns-2 : tie.Need-returns-2 Inv-loop μ-loop
+returns-2 c = counting-done (c .before .loop .inv) (omega arith)
 
 pub count-uses-spec : {M : Type 1} → statement M
 count-uses-spec =
@@ -130,28 +133,21 @@ count-uses-spec =
     Inv-loop
     μ-loop
     loop-holds
-    returns
-    (λ c. search needs)
-    (λ c. search needs)
-    array-read-pending
-    (λ c. omega arith)
-    loop-again
     node-at-requires
-    (λ c. search needs)
-    (λ c. search needs)
-    returns-2
-    add-here
-    (λ c κs. search needs)
+    enum-known-node
+    enum-told
+    returns
+    sub-around
+    mul-around
+    array-read-around
+    cast-use-of
+    use-of-requires
     add-found
-    sub-pending
-    loop-less-2
-    loop-again-2
-    sub-outer
-    (λ c. search needs)
-    array-write-outer
-    add-lambdas
-    loop-less-3
-    loop-again-3
-    add-pending
-    loop-less-4
-    loop-again-4)
+    slice-aggregate-pass
+    cast-pass
+    add-pass
+    pass-requires
+    add-here
+    loop-less
+    loop-again
+    returns-2)

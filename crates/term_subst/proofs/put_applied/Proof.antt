@@ -1,174 +1,161 @@
--- `term_subst::put_applied` meets its contract. The loop's invariant: what is written, and then the terms still to be read with the value for the
--- variable, is the outcome. The measure: a node takes a byte, and adds at most one lambda.
-use mathlib.Core.Path.{_≡_, ap, refl, sym, _∙_}
-use mathlib.Core.Bool.{Bool, cond}
+-- `term_subst::put_applied` meets its contract. The loop's invariant: what is written, and what is still to be written of the terms to come, is the
+-- outcome (proofs/Putting.antt). The measure is what is still unread.
+use mathlib.Core.Path.{_≡_, refl, sym, _∙_}
 use mathlib.Core.List.{List}
-use Prim.Native.Nat.{_*_, _+_, _-_, _<_, _≤_, ℕ}
+use Prim.Native.Nat.{_+_, _-_, _<_, _≤_, ℕ}
 use native.Mathlib.Omega.{arith}
 use borrow.Author.Needs.{needs}
-use lib.ListN.{length}
+use lib.ListN.{getD, length}
 use Rattle.calculus.specs.Bytes.{Bytes}
 use Rattle.calculus.specs.Limits.{max-nodes}
 use Rattle.term.specs.declared.Front.the-variants.{Is}
 use Rattle.term.specs.declared.Node.{Node}
 use Rattle.term.specs.Reader.{node-at}
-use Rattle.term.specs.Expressions.{leaf-exp}
+use Rattle.term.specs.Expressions.{term-at}
+use Rattle.term.proofs.Views.{NodeAt}
+use Rattle.term_walk.specs.Frames.{max-waits}
 use Rattle.buffer.specs.Theory.Writes.{same}
-use Rattle.term_subst.specs.declared.Span.{Span}
-use Rattle.term_subst.specs.Variable.{is-variable, span}
-use Rattle.term_subst.proofs.Walked.{walked-deep, walked-good, walked-in, walked-low, walked-not-bad, walked-pending, walked-two-subterms}
-use Rattle.term_subst.proofs.Putting.{Putting, putting-done, putting-leaf, putting-node-asks, putting-one, putting-pop, putting-start, putting-two}
+use Rattle.term_scan.proofs.Going.{going-node, going-not-bad, going-room, going-top}
+use Rattle.term_subst.proofs.Putting.{Copied, copied, piece, Putting, putting-asks, putting-done, putting-few, putting-on, putting-start}
 use Rattle.term_subst.proofs.put_applied.Statement.{statement}
 use Rattle.term_subst.proofs.put_applied.Tie as tie
 
 abbrev Inv-loop : tie.InvT-loop
-Inv-loop out₀ pos s at from to outer₀ lambdas₀ here₀ pending₀ next₀ out outer lambdas here pending next =
-    Putting s at from out₀ pos here pending lambdas outer out next
+Inv-loop out₀ pos s at from to frames₀ waits₀ here₀ next₀ out frames waits here next = Putting s at from to out₀ pos here waits frames out next
 
 abbrev μ-loop : tie.MeasureT-loop
-μ-loop out₀ pos s at from to outer₀ lambdas₀ here₀ pending₀ next₀ out outer lambdas here pending next = 2 * (length s - here) + lambdas
+μ-loop out₀ pos s at from to frames₀ waits₀ here₀ next₀ out frames waits here next = length s - here
 
 abbrev AtLoop : Type 0
 AtLoop = tie.At-loop Inv-loop μ-loop
 
--- where the head is a node
+-- where there is a node
 abbrev AtNode : Type 0
-AtNode = tie.After-struct-known Inv-loop μ-loop
+AtNode = tie.After-known-told Inv-loop μ-loop
 
--- where it was written, or what stands for it
-abbrev AtWritten : Type 0
-AtWritten = tie.After-struct-known2 Inv-loop μ-loop
-
-abbrev at-part : AtWritten → tie.After-put-part Inv-loop μ-loop
-at-part c = c .before .before .before
-
-abbrev at-span : AtWritten → tie.After-span-for Inv-loop μ-loop
-at-span c = at-part c .before .before
-
-abbrev at-node : AtWritten → AtNode
-at-node c = at-span c .before .before
+-- where it is known what is written for it
+abbrev AtSpan : Type 0
+AtSpan = tie.After-span-for Inv-loop μ-loop
 
 abbrev loop : AtNode → AtLoop
-loop c = c .before .before .before .before .before .before
+loop c = c .before .before .before .before .before
 
 abbrev all : AtLoop → List ℕ
 all p = p .before .before .before .args .s .now
 
 abbrev head : AtNode → Node
-head c = c .before .before .node .given .0 .0
+head c = c .before .node .given .0 .0
 
-some : (c : AtNode) → loop c .loop .pending ≡ 0 → ⊥
-some c = c .before .before .before .before .before .if1 .left
+some : (c : AtNode) → 0 < loop c .loop .waits
+some c = c .before .before .before .before .loop-test .taken
 
 is-head : (c : AtNode) → node-at (all (loop c)) (loop c .loop .here) ≡ Is (head c)
-is-head c = sym (c .before .before .before .before .node-at .ensures) ∙ c .before .before .node .given .1
+is-head c = sym (c .before .before .before .node-at .ensures) ∙ c .before .node .given .1
 
-inside : (c : AtNode) → (loop c .loop .here + head c .size ≤ length (all (loop c))) × (loop c .loop .here < loop c .loop .here + head c .size)
-inside c = walked-in (loop c .loop .inv .walked) (some c) (is-head c)
+node : (c : AtNode) → NodeAt (all (loop c)) (loop c .loop .here) (head c)
+node c = going-node (loop c .loop .inv .going) (some c) (is-head c)
 
-slice-bytes : (p : AtLoop) → Bytes (all p)
-slice-bytes p i = omega (arith, p .before .shared-slice-known .given i)
+few : (c : AtNode) → loop c .loop .inv .read + loop c .loop .waits ≤ max-nodes
+few c = putting-few (loop c .loop .inv)
+
+room : (c : AtNode) → loop c .loop .waits < max-waits
+room c = going-room (loop c .loop .inv .going) (some c) (few c)
+
+bytes : (p : AtLoop) → Bytes (all p)
+bytes p i = omega (arith, p .before .shared-slice-known .given i)
+
+abbrev at-node : AtSpan → AtNode
+at-node c = c .before .before .before
+
+-- the part that is written is the piece
+span : (c : AtSpan) →
+    Copied (all (loop (at-node c))) (c .span-for .result)
+    (piece (term-at (all (loop (at-node c))) (loop (at-node c) .before .before .before .args .from))
+    (head (at-node c) .refers) (getD (loop (at-node c) .loop .frames) (loop (at-node c) .loop .waits - 1) 0) (head (at-node c) .tag) (head (at-node c) .arg))
+span c =
+    let n = at-node c in
+    copied _ _ _ (bytes (loop n)) (loop n .loop .inv .value) (is-head n) (node n) (c .before .is-variable .ensures) (c .span-for .ensures)
 
 loop-holds : tie.Need-loop-holds Inv-loop μ-loop
-loop-holds c = let p = c .before .before .pre in putting-start _ (p .0 .0) (p .0 .1) (p .1 .1) refl
-
-same-length : tie.Need-same-length Inv-loop μ-loop
-same-length c = same (c .before .before .loop .inv .wrote)
-
-returns : tie.Need-returns Inv-loop μ-loop
-returns c = putting-done (c .before .before .loop .inv) (c .before .if1 .taken) (c .if2 .taken)
-
-array-read-pending : tie.Need-array-read-pending Inv-loop μ-loop
-array-read-pending c = omega (arith, walked-low (c .before .before .loop .inv .walked))
-
-loop-again : tie.Need-loop-again Inv-loop μ-loop
-loop-again c = putting-pop (c .before .before .loop .inv) (c .before .if1 .taken) (c .if2 .left)
+loop-holds c =
+    let p = c .before .before .pre in
+    putting-start _ _ _ _ _ _ _ (λ i. omega (arith, c .shared-slice-known .given i)) (p .0 .0) (p .0 .1)
+    (record { good = p .1 .0 .0; ends = p .1 .0 .1 }) (p .1 .1) refl refl
 
 node-at-requires : tie.Need-node-at-requires Inv-loop μ-loop
-node-at-requires c κs = walked-good (c .before .loop .inv .walked) (c .if1 .left) .inside
+node-at-requires c κs = c .before .loop .inv .going .seen .inside
 
-not-bad : (c : tie.After-enum-told Inv-loop μ-loop) → ⊥
-not-bad c =
-    walked-not-bad (c .before .before .before .before .loop .inv .walked) (c .before .before .before .if1 .left)
-    (sym (c .before .before .node-at .ensures) ∙ c .enum-told .given .1)
+enum-known-node : tie.Need-enum-known-node Inv-loop μ-loop
+enum-known-node c = search needs
 
-same-length-2 : tie.Need-same-length-2 Inv-loop μ-loop
-same-length-2 c = absurd (not-bad c)
+enum-told : tie.Need-enum-told Inv-loop μ-loop
+enum-told c = search needs
 
-returns-2 : tie.Need-returns-2 Inv-loop μ-loop
-returns-2 c = absurd (not-bad c)
+same-length : tie.Need-same-length Inv-loop μ-loop
+same-length c = same (c .before .before .before .before .loop .inv .wrote)
+
+returns : tie.Need-returns Inv-loop μ-loop
+returns c =
+    let p = c .before .before .before .before in
+    absurd
+    (going-not-bad (p .loop .inv .going) (c .before .before .before .loop-test .taken) (p .loop .inv .good)
+    (sym (c .before .before .node-at .ensures) ∙ c .enum-told .given .1))
+
+sub-around : tie.Need-sub-around Inv-loop μ-loop
+sub-around c = omega (arith, some c)
+
+mul-around : tie.Need-mul-around Inv-loop μ-loop
+mul-around c = let h = room c in search needs
+
+array-read-around : tie.Need-array-read-around Inv-loop μ-loop
+array-read-around c = omega (arith, some c, room c, loop c .loop .inv .going .room)
 
 add-past : tie.Need-add-past Inv-loop μ-loop
-add-past c = omega (arith, inside c .0)
+add-past c = omega (arith, node (c .before) .inside)
 
--- what is written for the node
-abbrev value : AtNode → Span
-value n = let p = loop n .before .before .before .args in span (p .from) (p .to)
+cast-is-variable : tie.Need-cast-is-variable Inv-loop μ-loop
+cast-is-variable c = let n = c .before in omega (arith, going-top (loop n .loop .inv .going) (some n), few n)
 
-abbrev as-it-stands : AtNode → Span
-as-it-stands n = span (loop n .loop .here) (loop n .loop .here + head n .size)
+is-variable-requires : tie.Need-is-variable-requires Inv-loop μ-loop
+is-variable-requires c κs = search needs
 
-chosen : (c : tie.After-span-for Inv-loop μ-loop) → let n = c .before .before in
-    c .span-for .result ≡ cond (is-variable (loop n .loop .lambdas) (leaf-exp (head n .tag) (head n .arg))) (value n) (as-it-stands n)
-chosen c = let n = c .before .before in c .span-for .ensures ∙ ap (λ (b : Bool). cond b (value n) (as-it-stands n)) (c .before .is-variable .ensures)
+span-for-requires : tie.Need-span-for-requires Inv-loop μ-loop
+span-for-requires c κs = search needs
 
 put-part-requires : tie.Need-put-part-requires Inv-loop μ-loop
-put-part-requires c κs =
-    let f = c .before in
-    let n = f .before .before in
-    let p = loop n .before .before .before .pre in
-    putting-node-asks (loop n .loop .inv) (some n) (is-head n) (slice-bytes (loop n)) (p .1 .0 .0) (p .1 .0 .1) (chosen f)
+put-part-requires c κs = let n = at-node (c .before) in putting-asks (loop n .loop .inv) (some n) (is-head n) (span (c .before))
 
-sub-pending : tie.Need-sub-pending Inv-loop μ-loop
-sub-pending c = omega (arith, some (at-node (c .before)))
+slice-aggregate-pass : tie.Need-slice-aggregate-pass Inv-loop μ-loop
+slice-aggregate-pass c = search needs
 
-loop-less-2 : tie.Need-loop-less-2 Inv-loop μ-loop
-loop-less-2 c = let n = at-node (c .before) in omega (arith, inside n .0, inside n .1)
+cast-pass : tie.Need-cast-pass Inv-loop μ-loop
+cast-pass c = omega (arith, node (at-node (c .before .before .before .before .before)) .bound)
 
-loop-again-2 : tie.Need-loop-again-2 Inv-loop μ-loop
-loop-again-2 c =
-    let h = c .before in
-    let n = at-node h in
-    let p = loop n .before .before .before .pre in
-    putting-leaf (loop n .loop .inv) (some n) (is-head n) (slice-bytes (loop n)) (p .1 .0 .0) (p .1 .0 .1) (chosen (at-span h)) (at-part h .put-part .ensures)
-    (c .if3 .taken)
+add-pass : tie.Need-add-pass Inv-loop μ-loop
+add-pass c =
+    let n = at-node (c .before .before .before .before .before) in
+    omega (arith, node n .bound, going-top (loop n .loop .inv .going) (some n), few n)
 
-sub-outer : tie.Need-sub-outer Inv-loop μ-loop
-sub-outer c = omega (arith, some (at-node (c .before .before .before)))
+pass-requires : tie.Need-pass-requires Inv-loop μ-loop
+pass-requires c κs =
+    let n = at-node (c .before .before .before .before .before) in
+    (some n, (omega (arith, room n, loop n .loop .inv .going .room), node n .few))
 
-deep : (n : AtNode) → head n .subterms ≡ 1 → loop n .loop .lambdas < max-nodes
-deep n m = walked-deep (loop n .loop .inv .walked) (some n) (is-head n) m
+loop-less : tie.Need-loop-less Inv-loop μ-loop
+loop-less c = let n = at-node (c .before .before .before .before .before .before .before) in omega (arith, node n .inside, node n .onward)
 
-array-write-outer : tie.Need-array-write-outer Inv-loop μ-loop
-array-write-outer c = deep (at-node (c .before .before .before)) (c .if4 .taken)
+loop-again : tie.Need-loop-again Inv-loop μ-loop
+loop-again c =
+    let p = c .before .before .before .before .before .before .before in
+    let n = at-node p in
+    putting-on (loop n .loop .inv) (some n) (is-head n) (span p) (c .before .before .before .before .before .put-part .ensures)
+    (c .before .pass .ensures)
 
-add-lambdas : tie.Need-add-lambdas Inv-loop μ-loop
-add-lambdas c = omega (arith, deep (at-node (c .before .before .before)) (c .if4 .taken))
+same-length-2 : tie.Need-same-length-2 Inv-loop μ-loop
+same-length-2 c = same (c .before .loop .inv .wrote)
 
-loop-less-3 : tie.Need-loop-less-3 Inv-loop μ-loop
-loop-less-3 c = let n = at-node (c .before .before .before) in omega (arith, inside n .0, inside n .1)
-
-loop-again-3 : tie.Need-loop-again-3 Inv-loop μ-loop
-loop-again-3 c =
-    let h = c .before .before .before in
-    let n = at-node h in
-    let p = loop n .before .before .before .pre in
-    putting-one (loop n .loop .inv) (some n) (is-head n) (slice-bytes (loop n)) (p .1 .0 .0) (p .1 .0 .1) (chosen (at-span h)) (at-part h .put-part .ensures)
-    (c .if4 .taken)
-
-add-pending : tie.Need-add-pending Inv-loop μ-loop
-add-pending c = let n = at-node (c .before .before .before) in omega (arith, walked-pending (loop n .loop .inv .walked) (some n))
-
-loop-less-4 : tie.Need-loop-less-4 Inv-loop μ-loop
-loop-less-4 c = let n = at-node (c .before .before .before) in omega (arith, inside n .0, inside n .1)
-
-loop-again-4 : tie.Need-loop-again-4 Inv-loop μ-loop
-loop-again-4 c =
-    let h = c .before .before .before in
-    let n = at-node h in
-    let p = loop n .before .before .before .pre in
-    putting-two (loop n .loop .inv) (some n) (is-head n) (slice-bytes (loop n)) (p .1 .0 .0) (p .1 .0 .1) (chosen (at-span h)) (at-part h .put-part .ensures)
-    (walked-two-subterms (loop n .loop .inv .walked) (some n) (is-head n) (c .before .before .if3 .left) (c .if4 .left))
+returns-2 : tie.Need-returns-2 Inv-loop μ-loop
+returns-2 c = putting-done (c .before .loop .inv) (omega arith)
 
 pub put-applied-spec : {M : Type 1} → statement M
 put-applied-spec =
@@ -177,31 +164,24 @@ put-applied-spec =
     Inv-loop
     μ-loop
     loop-holds
+    node-at-requires
+    enum-known-node
+    enum-told
     same-length
     returns
-    (λ c. search needs)
-    (λ c. search needs)
-    array-read-pending
-    (λ c. omega arith)
-    loop-again
-    node-at-requires
-    (λ c. search needs)
-    (λ c. search needs)
-    same-length-2
-    returns-2
+    sub-around
+    mul-around
+    array-read-around
     add-past
-    (λ c κs. search needs)
-    (λ c κs. search needs)
+    cast-is-variable
+    is-variable-requires
+    span-for-requires
     put-part-requires
-    sub-pending
-    loop-less-2
-    loop-again-2
-    sub-outer
-    (λ c. search needs)
-    array-write-outer
-    add-lambdas
-    loop-less-3
-    loop-again-3
-    add-pending
-    loop-less-4
-    loop-again-4)
+    slice-aggregate-pass
+    cast-pass
+    add-pass
+    pass-requires
+    loop-less
+    loop-again
+    same-length-2
+    returns-2)

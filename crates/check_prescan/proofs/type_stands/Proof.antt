@@ -1,0 +1,24 @@
+-- `check_prescan::type_stands` meets its contract: a law for each return (proofs/Tests.antt).
+use mathlib.Core.Path.{_∙_}
+use borrow.Author.Needs.{needs}
+use Rattle.check_prescan.proofs.Tests.{constant-annotated, lambda-annotated, typed-constant}
+use Rattle.check_prescan.proofs.type_stands.Statement.{statement}
+use Rattle.check_prescan.proofs.type_stands.Tie as tie
+
+entry-at-requires : tie.Need-entry-at-requires
+entry-at-requires c κs = search needs
+
+is-function-requires : tie.Need-is-function-requires
+is-function-requires c κs = search needs
+
+returns : tie.Need-returns
+returns c = c .is-function .ensures ∙ lambda-annotated _ _ _ _ (c .before .entry-at .ensures) (c .before .before .if1 .taken)
+
+constant-annotated-requires : tie.Need-constant-annotated-requires
+constant-annotated-requires c κs = let t = c .before .before .pre in (t .small, typed-constant t (c .if1 .left))
+
+returns-2 : tie.Need-returns-2
+returns-2 c = c .constant-annotated .ensures ∙ constant-annotated _ _ _ (c .before .if1 .left)
+
+pub type-stands-spec : {M : Type 1} → statement M
+type-stands-spec = tie.close (tie.spec entry-at-requires is-function-requires returns constant-annotated-requires returns-2)

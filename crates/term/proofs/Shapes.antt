@@ -1,0 +1,149 @@
+-- Expressions by the shape of their nodes: what holds of each tag with so many subterms holds of any node with that many, with the binders that the table says.
+use mathlib.Core.Path.{_≡_, ap, refl, sym}
+use mathlib.Core.List.{_++_}
+use Prim.Native.Nat.{_+_, _<_, max, suc, ℕ}
+use native.Mathlib.Omega.{arith}
+use lib.ListN.{replicate}
+use Rattle.calculus.specs.Syntax.{Each, each-app, each-lam, Exp, app, lam}
+use Rattle.calculus.specs.Limits.{byte-values}
+use Rattle.calculus.specs.Reduction.{substitute}
+use Rattle.calculus.specs.Names.{count, uses}
+use Rattle.calculus.specs.Image.{nodes, size, Writable}
+use Rattle.calculus.specs.Theory.Tests.{clash}
+use Rattle.term.specs.Forms.{application-tag, binders-of, cell-tag, exch-tag, form-of, forms, handle-tag, lambda-tag, name-tag, num-tag, operand-of, subterms-of, tags, thread-tag, unit-tag, variable-tag}
+use Rattle.term.specs.Numbers.{little-endian}
+use Rattle.term.specs.Tree.{HasForm, InTable, node-bytes, one, two}
+use Rattle.term.specs.Expressions.{bytes, FitsBytes, nesting, tree-of, two-exp}
+use Rattle.term.proofs.Table.{all-at, all-same, below, end-of-row, Row, _∣_}
+
+-- The tags with so many subterms
+
+zero-one : {P : Type 0} → _≡_ {A = ℕ} 0 1 → P
+zero-one e = absurd (clash e)
+
+zero-two : {P : Type 0} → _≡_ {A = ℕ} 0 2 → P
+zero-two e = absurd (omega arith)
+
+one-two : {P : Type 0} → _≡_ {A = ℕ} 1 2 → P
+one-two e = absurd (omega arith)
+
+pub leaf-tag : (P : ℕ → Type 0) → P variable-tag → P unit-tag → P num-tag → P cell-tag → P exch-tag → P thread-tag → P handle-tag → P name-tag
+    → (tag : ℕ) → HasForm tag 0 → P tag
+unfolding form-of forms
+leaf-tag P variable unit num cell exch thread handle name tag f = below row tag (f .known) (f .shape)
+  where
+    row : Row (λ tag. subterms-of tag ≡ 0 → P tag) 0 tags
+    row =
+        (λ e. variable) ∣ (λ e. zero-one (sym e)) ∣ (λ e. zero-two (sym e)) ∣ (λ e. unit) ∣ (λ e. num) ∣ (λ e. cell) ∣ (λ e. exch) ∣ (λ e. thread)
+        ∣ (λ e. handle) ∣ (λ e. name) ∣ end-of-row
+
+pub one-tag : (P : ℕ → Type 0) → P lambda-tag → (tag : ℕ) → HasForm tag 1 → P tag
+unfolding form-of forms
+one-tag P lambda tag f = below row tag (f .known) (f .shape)
+  where
+    row : Row (λ tag. subterms-of tag ≡ 1 → P tag) 0 tags
+    row =
+        zero-one ∣ (λ e. lambda) ∣ (λ e. one-two (sym e)) ∣ zero-one ∣ zero-one ∣ zero-one ∣ zero-one ∣ zero-one ∣ zero-one ∣ zero-one
+        ∣ end-of-row
+
+pub two-tag : (P : ℕ → Type 0) → P application-tag → (tag : ℕ) → HasForm tag 2 → P tag
+unfolding form-of forms
+two-tag P application tag f = below row tag (f .known) (f .shape)
+  where
+    row : Row (λ tag. subterms-of tag ≡ 2 → P tag) 0 tags
+    row =
+        zero-two ∣ one-two ∣ (λ e. application) ∣ zero-two ∣ zero-two ∣ zero-two ∣ zero-two ∣ zero-two ∣ zero-two ∣ zero-two
+        ∣ end-of-row
+
+-- Variables around: what the table adds, none or one
+
+pub at-0 : {A : Type 0} (g : ℕ → A) (d : ℕ) → g d ≡ g (d + 0)
+at-0 g d = let e : d ≡ d + 0 = omega arith in ap g e
+
+pub at-1 : {A : Type 0} (g : ℕ → A) (d : ℕ) → g (suc d) ≡ g (d + 1)
+at-1 g d = let e : suc d ≡ d + 1 = omega arith in ap g e
+
+-- A node with one subterm
+
+pub uses-one : (arg : ℕ) (e : Exp) (d tag : ℕ) → HasForm tag 1 → uses d (lam arg e) ≡ uses (d + binders-of tag) e
+unfolding uses form-of forms
+uses-one arg e d = one-tag (λ tag. uses d (lam arg e) ≡ uses (d + binders-of tag) e) (at-1 (λ x. uses x e) d)
+
+pub substitute-one : (v : Exp) (arg : ℕ) (e : Exp) (d tag : ℕ) → HasForm tag 1 → substitute d v (lam arg e) ≡ lam arg (substitute (d + binders-of tag) v e)
+unfolding substitute form-of forms
+substitute-one v arg e d = one-tag (λ tag. substitute d v (lam arg e) ≡ lam arg (substitute (d + binders-of tag) v e)) (at-1 (λ x. lam arg (substitute x v e)) d)
+
+pub tree-one : (arg : ℕ) (e : Exp) (tag : ℕ) → HasForm tag 1 → tree-of (lam arg e) ≡ one tag arg (tree-of e)
+unfolding tree-of
+tree-one arg e = one-tag (λ tag. tree-of (lam arg e) ≡ one tag arg (tree-of e)) refl
+
+pub bytes-one : (arg : ℕ) (e : Exp) (tag : ℕ) → HasForm tag 1 → bytes (lam arg e) ≡ node-bytes tag arg ++ bytes e
+unfolding bytes form-of forms little-endian
+bytes-one arg e = one-tag (λ tag. bytes (lam arg e) ≡ node-bytes tag arg ++ bytes e) refl
+
+pub fits-one : (arg : ℕ) (e : Exp) (tag : ℕ) → InTable tag arg 1 → FitsBytes e → FitsBytes (lam arg e)
+unfolding count form-of forms
+fits-one arg e tag w p = record { writable = each-lam (one-tag (λ tag. InTable tag arg 1 → arg < byte-values) (λ w. w .fits) tag (w .form) w) (p .writable); names = p .names }
+
+-- A node with two subterms
+
+module _ (tag arg : ℕ) (e f : Exp) where
+  -- what holds whatever the tag is
+  each-two : (P : Exp → Type 0) → P (app e f) → P (two-exp tag arg e f)
+  unfolding two-exp
+  each-two P p = all-at P (replicate tags (app e f)) (app e f) (all-same P tags p) p tag
+
+  pub nodes-two : nodes (two-exp tag arg e f) ≡ suc (nodes e + nodes f)
+  unfolding nodes
+  nodes-two = each-two (λ x. nodes x ≡ suc (nodes e + nodes f)) refl
+
+  pub nesting-two : nesting (two-exp tag arg e f) ≡ suc (max (nesting e) (nesting f))
+  unfolding nesting
+  nesting-two = each-two (λ x. nesting x ≡ suc (max (nesting e) (nesting f))) refl
+
+  pub count-two : (k : ℕ) → count k (two-exp tag arg e f) ≡ count k e + count k f
+  unfolding count
+  count-two k = each-two (λ x. count k x ≡ count k e + count k f) refl
+
+-- what it is, by its tag
+pub two-app : (arg : ℕ) (e f : Exp) {tag : ℕ} → tag ≡ application-tag → two-exp tag arg e f ≡ app e f
+unfolding two-exp
+two-app arg e f h = rw h refl
+
+-- what holds of the tags that have two
+pub size-two : (arg : ℕ) (e f : Exp) (tag : ℕ) → HasForm tag 2 → size (two-exp tag arg e f) ≡ 1 + operand-of tag + size e + size f
+unfolding size two-exp form-of forms
+size-two arg e f = two-tag (λ tag. size (two-exp tag arg e f) ≡ 1 + operand-of tag + size e + size f) (omega arith)
+
+pub uses-two : (arg : ℕ) (e f : Exp) (d tag : ℕ) → HasForm tag 2 → uses d (two-exp tag arg e f) ≡ uses d e + uses (d + binders-of tag) f
+unfolding uses two-exp form-of forms
+uses-two arg e f d = two-tag (λ tag. uses d (two-exp tag arg e f) ≡ uses d e + uses (d + binders-of tag) f) (at-0 (λ x. uses d e + uses x f) d)
+
+pub substitute-two : (v : Exp) (arg : ℕ) (e f : Exp) (d tag : ℕ) → HasForm tag 2 →
+    substitute d v (two-exp tag arg e f) ≡ two-exp tag arg (substitute d v e) (substitute (d + binders-of tag) v f)
+unfolding substitute two-exp form-of forms
+substitute-two v arg e f d =
+    two-tag (λ tag. substitute d v (two-exp tag arg e f) ≡ two-exp tag arg (substitute d v e) (substitute (d + binders-of tag) v f))
+    (at-0 (λ x. app (substitute d v e) (substitute x v f)) d)
+
+pub bytes-two : (arg : ℕ) (e f : Exp) (tag : ℕ) → HasForm tag 2 → bytes (two-exp tag arg e f) ≡ node-bytes tag arg ++ (bytes e ++ bytes f)
+unfolding bytes two-exp form-of forms little-endian
+bytes-two arg e f = two-tag (λ tag. bytes (two-exp tag arg e f) ≡ node-bytes tag arg ++ (bytes e ++ bytes f)) refl
+
+-- a node of the table is the one that is written so
+pub tree-two : (arg : ℕ) (e f : Exp) (tag : ℕ) → InTable tag arg 2 → tree-of (two-exp tag arg e f) ≡ two tag arg (tree-of e) (tree-of f)
+unfolding tree-of two-exp form-of forms
+tree-two arg e f tag w = two-tag
+    (λ tag. InTable tag arg 2 → tree-of (two-exp tag arg e f) ≡ two tag arg (tree-of e) (tree-of f))
+    (λ w. no-operand application-tag (w .fits)) tag (w .form) w
+  where
+    no-operand : (tag : ℕ) → arg < 1 → two tag 0 (tree-of e) (tree-of f) ≡ two tag arg (tree-of e) (tree-of f)
+    no-operand tag h = let z : 0 ≡ arg = omega arith in ap (λ x. two tag x (tree-of e) (tree-of f)) z
+
+pub fits-two : (arg : ℕ) (e f : Exp) (tag : ℕ) → InTable tag arg 2 → FitsBytes e → FitsBytes f → FitsBytes (two-exp tag arg e f)
+unfolding two-exp form-of forms
+fits-two arg e f tag w p q =
+    record {
+      writable = two-tag (λ tag. InTable tag arg 2 → Each Writable (two-exp tag arg e f)) (λ w. each-app (p .writable) (q .writable)) tag (w .form) w;
+      names = λ k le. omega (arith, count-two tag arg e f k, p .names k le, q .names k le);
+    }
