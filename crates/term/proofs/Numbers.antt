@@ -1,10 +1,10 @@
 -- Numbers after a tag: writing and reading undo each other.
 use mathlib.Core.Path.{_≡_, refl}
 use mathlib.Core.List.{List, [], _∷_, _++_}
-use Prim.Native.Nat.{ℕ, zero, suc, _+_, _-_, _*_, _/_, _%_, _^_, _<_, _≤_, min}
+use Prim.Native.Nat.{ℕ, zero, suc, _+_, _*_, _/_, _%_, _^_, _<_, _≤_}
 use native.Mathlib.Omega.{arith}
 use lib.ListN.{length, getD, drop}
-use Rattle.calculus.specs.Bytes.{Bytes, two-bytes, two-byte-values, word}
+use Rattle.calculus.specs.Bytes.{Bytes, two-bytes, word}
 use Rattle.calculus.specs.Limits.{byte-values}
 use Rattle.term.specs.Numbers.{little-endian, value-of}
 
@@ -48,30 +48,14 @@ unfolding value-of
 value-one [] = refl
 value-one (a ∷ l) = refl
 
-value-two : (l : List ℕ) → value-of 2 (drop 1 l) ≡ word l 1
+pub value-two : (l : List ℕ) → value-of 2 (drop 1 l) ≡ word l 1
 unfolding value-of word
 value-two [] = refl
 value-two (a ∷ l) = refl
 
--- two bytes x and y weighed so that n of them count
-pub record Weighed (n x y : ℕ) : Type 0 where
-  pub low : x * ((n + 1) / 2) < byte-values
-  pub high : byte-values * y * (n / 2) < two-byte-values
-
-pub weighed : (n x y : ℕ) → n ≤ 2 → x < byte-values → y < byte-values → Weighed n x y
-weighed zero x y h p q = record { low = omega arith; high = omega arith }
-weighed (suc zero) x y h p q = record { low = omega arith; high = omega arith }
-weighed (suc (suc zero)) x y h p q = record { low = omega arith; high = omega arith }
-weighed (suc (suc (suc n))) x y h p q = absurd (omega arith)
-
--- are the n bytes after the first, where there are so many
-pub weighed-is : (l : List ℕ) (n i j : ℕ) → n ≤ 2 → n < length l → i ≡ min 1 (length l - 1) → j ≡ min 2 (length l - 1) →
-    getD l i 0 * ((n + 1) / 2) + byte-values * getD l j 0 * (n / 2) ≡ value-of n (drop 1 l)
-unfolding value-of word
-weighed-is l zero i j h some p q = omega arith
-weighed-is l (suc zero) i j h some p q = let e : i ≡ 1 = omega arith in rw e (omega (arith, value-one l))
-weighed-is l (suc (suc zero)) i j h some p q =
-    let e : i ≡ 1 = omega arith in
-    let f : j ≡ 2 = omega arith in
-    rw (e, f) (omega (arith, value-two l))
-weighed-is l (suc (suc (suc n))) i j h some p q = absurd (omega arith)
+-- no byte or one: byte n of the list, n times
+pub value-few : (l : List ℕ) (n : ℕ) → n < 2 → getD l n 0 * n ≡ value-of n (drop 1 l)
+unfolding value-of
+value-few l zero h = omega arith
+value-few l (suc zero) h = omega (arith, value-one l)
+value-few l (suc (suc n)) h = absurd (omega arith)

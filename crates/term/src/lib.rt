@@ -2,7 +2,7 @@
 // next node, reads that node's head, and goes on where the head ends: what falls is the part still unread.
 use numbers::Byte;
 ghost use mathlib.Core.Path.{_≡_};
-ghost use Prim.Native.Nat.{_≤_, _<_, min};
+ghost use Prim.Native.Nat.{_≤_, _<_};
 ghost use lib.ListN.{length, drop};
 ghost use Rattle.term.specs.Numbers.{value-of};
 ghost use Rattle.term.specs.Forms.{form-of, tags};
@@ -116,26 +116,16 @@ pub fn form_of(tag: u8) -> Form
     }
 }
 
-// The smaller of two numbers.
-fn least(a: usize, b: usize) -> usize
-    ensures { λ r. ⌜ r ≡ min a b ⌝ }
-{
-    if a < b {
-        return a;
-    }
-    b
-}
-
-// The number that the n bytes after the tag give, little-endian. Two bytes are read and weighed whatever n is, so that nothing waits for a guess of it.
+// The number that the n bytes after the tag give, little-endian. None and one are told apart by no branch: byte n times n.
 fn operand_of(s: &[u8], n: u8) -> usize
     requires { ⌜ (n ≤ 2) × (n < length (now s)) ⌝ }
     ensures { λ r. ⌜ r ≡ value-of n (drop 1 (now (s .entry))) ⌝ }
 {
-    let last = s.len() - 1;
-    let low = s[least(1, last)] as usize;
-    let high = s[least(2, last)] as usize;
     let bytes = n as usize;
-    low * ((bytes + 1) / 2) + Byte::VALUES * high * (bytes / 2)
+    if bytes < 2 {
+        return (s[bytes] as usize) * bytes;
+    }
+    buffer::word_at(s, 1)
 }
 
 pub fn node_of(s: &[u8]) -> Front

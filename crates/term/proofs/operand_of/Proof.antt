@@ -1,79 +1,42 @@
--- `term::operand_of` meets its contract: the two bytes, weighed by n, are the n bytes after the tag (proofs/Numbers.antt).
+-- `term::operand_of` meets its contract.
+use mathlib.Core.Path.{_≡_, sym, _∙_}
+use Prim.Native.Nat.{_*_, _<_, _≤_, suc, zero, ℕ}
 use native.Mathlib.Omega.{arith}
 use borrow.Author.Needs.{needs}
 use lib.ListN.{getD}
-use Rattle.term.proofs.Numbers.{Weighed, weighed, weighed-is}
+use Rattle.calculus.specs.Limits.{byte-values}
+use Rattle.term.proofs.Numbers.{value-few, value-two}
 use Rattle.term.proofs.operand_of.Statement.{statement}
 use Rattle.term.proofs.operand_of.Tie as tie
 
-abbrev AtHigh : Type 0
-AtHigh = tie.After-shared-slice-known3
+-- so few of a byte are no more than a byte
+few : (x n : ℕ) → x < byte-values → n < 2 → x * n < byte-values
+few x zero h le = omega arith
+few x (suc zero) h le = omega arith
+few x (suc (suc n)) h le = absurd (omega arith)
 
--- the bytes are bytes, so nothing wraps
-bounds : (c : AtHigh) →
-    Weighed (c .before .before .before .before .before .args .n)
-    (getD (c .before .before .before .before .before .args .s .now) (c .before .before .before .least .result) 0)
-    (getD (c .before .before .before .before .before .args .s .now) (c .before .least2 .result) 0)
-bounds c =
-    weighed _ _ _ (c .before .before .before .before .before .pre .0)
-    (omega (arith, c .shared-slice-known3 .given (c .before .before .before .least .result)))
-    (omega (arith, c .shared-slice-known3 .given (c .before .least2 .result)))
+shared-slice-read-result : tie.Need-shared-slice-read-result
+shared-slice-read-result c = search needs
 
-sub-last : tie.Need-sub-last
-sub-last c = search needs
-
-least-requires : tie.Need-least-requires
-least-requires c κs = search needs
-
-shared-slice-read-low : tie.Need-shared-slice-read-low
-shared-slice-read-low c = search needs
-
-cast-low : tie.Need-cast-low
-cast-low c = omega (arith, c .shared-slice-known2 .given (c .before .least .result))
-
-least-requires-2 : tie.Need-least-requires-2
-least-requires-2 c κs = search needs
-
-shared-slice-read-high : tie.Need-shared-slice-read-high
-shared-slice-read-high c = search needs
-
-cast-high : tie.Need-cast-high
-cast-high c = omega (arith, c .shared-slice-known3 .given (c .before .least2 .result))
-
-add-result : tie.Need-add-result
-add-result c = search needs
+cast-result : tie.Need-cast-result
+cast-result c = omega (arith, c .shared-slice-known2 .given (c .before .before .before .args .n))
 
 mul-result : tie.Need-mul-result
-mul-result c = omega (arith, bounds c .low)
-
-mul-result-2 : tie.Need-mul-result-2
-mul-result-2 c = omega (arith, c .shared-slice-known3 .given (c .before .least2 .result))
-
-mul-result-3 : tie.Need-mul-result-3
-mul-result-3 c = omega (arith, bounds c .high)
-
-add-result-2 : tie.Need-add-result-2
-add-result-2 c = omega (arith, bounds c .low, bounds c .high)
+mul-result c =
+    let a = c .before .before .before .args in
+    omega (arith, few (getD (a .s .now) (a .n) 0) (a .n) (omega (arith, c .shared-slice-known2 .given (a .n))) (c .before .if1 .taken))
 
 returns : tie.Need-returns
-returns c =
-    let s = c .before .before .before .before .before in
-    weighed-is (s .args .s .now) (s .args .n) _ _ (s .pre .0) (s .pre .1) (c .before .before .before .least .ensures) (c .before .least2 .ensures)
+returns c = let a = c .before .before .before .args in value-few (a .s .now) (a .n) (c .before .if1 .taken)
+
+word-at-requires : tie.Need-word-at-requires
+word-at-requires c κs = search needs
+
+returns-2 : tie.Need-returns-2
+returns-2 c =
+    let s = c .before .before .before in
+    let two : s .args .n ≡ 2 = omega (arith, s .pre, c .before .if1 .left) in
+    c .word-at .ensures .0 ∙ sym (simp (two, value-two))
 
 pub operand-of-spec : {M : Type 1} → statement M
-operand-of-spec =
-    tie.close
-    (tie.spec
-    sub-last
-    least-requires
-    shared-slice-read-low
-    cast-low
-    least-requires-2
-    shared-slice-read-high
-    cast-high
-    add-result
-    mul-result
-    mul-result-2
-    mul-result-3
-    add-result-2
-    returns)
+operand-of-spec = tie.close (tie.spec shared-slice-read-result cast-result mul-result returns word-at-requires returns-2)
