@@ -82,7 +82,7 @@ module _ (s : List ℕ) (file : ℕ) (e : file ≡ table-refusal s) where
   file-refused d = refused-is s file (by-causes s ∙ lowest-first (table-causes s) (behind-table s) (λ z. d (e ∙ z)) ∙ sym e) d
 
   pub filed : file ≡ 0 → FileRule s × TableRule (type-table s)
-  filed z = table-admitted-iff s .0 (sym e ∙ z)
+  filed z = let (l, (k, r)) = table-admitted-iff s .0 (sym e ∙ z) in (l, r)
 
 -- The parts
 

@@ -6,8 +6,10 @@ use Prim.Native.Nat.{_%_, _*_, _<_, _≤_, ℕ}
 use borrow.Author.Tests.{eq-eqb, ne-eqb}
 use lib.ListN.{getD, length}
 use Rattle.calculus.specs.Causes.{file-length-cause, opening-cause, layout-cause}
-use Rattle.calculus.specs.Limits.{min-entries, max-entries, min-file-length, max-file-length, min-parts, max-parts}
-use Rattle.recipe_file.specs.File.{edition, opening, parts, table-part, pair-offset, length-of, outside, cause-1, opens, edition-known, cause-2, pairs-test, entry-length, table-length-test, cause-3, layout-refusal}
+use Rattle.calculus.specs.Limits.{min-entries, max-entries, min-file-length, max-file-length}
+use Rattle.recipe_file.specs.declared.Edition.{Edition}
+use Rattle.recipe_file.specs.Editions.{least-parts, most-parts}
+use Rattle.recipe_file.specs.File.{edition-of, opening, parts, table-part, pair-offset, length-of, outside, cause-1, opens, edition-known, cause-2, pairs-test, entry-length, table-length-test, cause-3, layout-refusal}
 use Rattle.recipe_file.proofs.Chains.{pairs-cut}
 use Rattle.recipe_file.proofs.LaidOut.{between}
 
@@ -27,13 +29,14 @@ module _ (s : List ℕ) where
       unfolding opens
       opened = rw (eq-eqb (getD s 0 0) 0x4C a, eq-eqb (getD s 1 0) 0x46 b) refl
 
-      pub other-edition : (getD s 2 0 ≡ edition → ⊥) → true ≡ cause-2 s
-      unfolding cause-2 edition-known
-      other-edition f = rw (opened, ne-eqb (getD s 2 0) edition f) refl
+      module _ (e : Edition) (says : e ≡ edition-of s) where
+        pub other-edition : (getD s 2 0 ≡ e .number → ⊥) → true ≡ cause-2 s
+        unfolding cause-2 edition-known
+        other-edition f = rw (opened, ← says, ne-eqb (getD s 2 0) (e .number) f) refl
 
-      pub opening-stands : getD s 2 0 ≡ edition → (n : ℕ) → n ≡ getD s 3 0 → outside min-parts max-parts n ≡ cause-2 s
-      unfolding cause-2 edition-known parts
-      opening-stands c n e = rw (opened, eq-eqb (getD s 2 0) edition c, e) refl
+        pub opening-stands : getD s 2 0 ≡ e .number → (n : ℕ) → n ≡ getD s 3 0 → outside (least-parts e) (most-parts e) n ≡ cause-2 s
+        unfolding cause-2 edition-known parts
+        opening-stands c n p = rw (opened, ← says, eq-eqb (getD s 2 0) (e .number) c, p) refl
 
 -- the table's length
 pub no-multiple : (n : ℕ) → (n % entry-length ≡ 0 → ⊥) → false ≡ table-length-test n

@@ -5,7 +5,7 @@ use Prim.Native.Nat.{ℕ}
 use Rattle.calculus.specs.Causes.{type-entry-cause}
 use Rattle.calculus.specs.Lowest.{Cause, cause, lowest}
 use Rattle.calculus.specs.Table.{entry, Table, table-test}
-use Rattle.recipe_file.specs.File.{table-bytes, layout-causes}
+use Rattle.recipe_file.specs.File.{edition-of, table-bytes, layout-causes}
 
 -- the entries that the bytes of a table say; bytes that make no whole entry say none
 unfoldable pub table-of : List ℕ → Table
@@ -20,7 +20,7 @@ type-table s = table-of (table-bytes s)
 
 -- document 01, cause 4: "a type entry breaks its rule"
 unfoldable pub cause-4 : List ℕ → Bool
-cause-4 s = not (table-test (type-table s))
+cause-4 s = not (table-test (edition-of s .kinds) (type-table s))
 
 -- causes 1 to 4 with their numbers
 abbrev pub table-causes : List ℕ → List Cause
