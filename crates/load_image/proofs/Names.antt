@@ -9,9 +9,9 @@ use Rattle.calculus.specs.Bytes.{Bytes, two-bytes}
 use Rattle.calculus.specs.Limits.{byte-values, max-bays, max-image-length}
 use Rattle.calculus.specs.Lists.{tabulate}
 use Rattle.calculus.specs.Theory.Tests.{ltb-complete, ltb-not}
-use Rattle.recipe_file.specs.File.{first-term, bays, pair-offset, offset-of, term-bytes}
+use Rattle.recipe_file.specs.File.{bays, pair-offset, offset-of, term-bytes}
 use Rattle.recipe_file.specs.FileRule.{FileRule}
-use Rattle.recipe_file.proofs.Inside.{bays-between, few-parts, pairs-inside, term-is-part}
+use Rattle.recipe_file.proofs.Inside.{few-parts, pairs-inside, term-is-part}
 use Rattle.check_spec.specs.Verdict.{refusal}
 use Rattle.buffer.specs.Written.{Wrote}
 use Rattle.buffer.specs.Theory.Writes.{then, known-as}
@@ -21,19 +21,19 @@ use Rattle.image_layout.specs.Heads.{Says}
 use Rattle.image_layout.specs.Theory.Components.{expressions-append, so-far, so-far-none, so-far-next, length-tabulated}
 use Rattle.image_layout.specs.Theory.Turns.{Room, image-turns}
 use Rattle.load_spec.specs.Starting.{starting-image}
-use Rattle.load_image.specs.Starting.{setting, setting-length, bay-thread, starting-at, starting-names}
+use Rattle.load_image.specs.Starting.{first-term, setting, setting-length, bay-thread, starting-at, starting-names}
 use Rattle.load_image.specs.Theory.Parts.{starting-parts, terms-are-end}
 use Rattle.load_spec.specs.Theory.Image.{laid, starting-fits}
 use Rattle.load_image.specs.Theory.Image.{starting-tabulated}
 
 -- at most 16 bays
 pub few-bays : {s : List ℕ} → FileRule s → bays s ≤ max-bays
-few-bays l = bays-between l .high
+few-bays l = l .has-parts .high
 
 -- the first term's pair stands in the file
 pub first-pair : {s : List ℕ} → FileRule s → (first-term s < byte-values) × (pair-offset (first-term s + 1) ≤ length s)
 first-pair l =
-    let h = term-is-part (record { laid = l; below = bays-between l .low }) in
+    let h = term-is-part (record { laid = l; below = l .has-parts .low }) in
     (omega (arith, h .below, few-parts l), omega (arith, h .below, pairs-inside l))
 
 -- what the head of name k says

@@ -17,7 +17,7 @@ ghost use lib.ListN.{length};
 ghost use Rattle.calculus.specs.Bytes.{two-byte-values};
 ghost use Rattle.calculus.specs.Limits.{first-head, max-image-length};
 ghost use Rattle.calculus.specs.Lists.{tabulate};
-ghost use Rattle.recipe_file.specs.File.{edition-of, bays, offset-of, first-term};
+ghost use Rattle.recipe_file.specs.File.{edition-of, bays, offset-of};
 ghost use Rattle.recipe_file.specs.FileRule.{FileRule};
 ghost use Rattle.check_spec.specs.Verdict.{refusal};
 ghost use Rattle.buffer.specs.Written.{Wrote};
@@ -25,7 +25,7 @@ ghost use Rattle.image_layout.specs.Encoded.{heads, head-offset, expressions};
 ghost use Rattle.image_layout.specs.Heads.{Says};
 ghost use Rattle.image_layout.specs.Theory.Turns.{Room};
 ghost use Rattle.load_spec.specs.Starting.{starting-image};
-ghost use Rattle.load_image.specs.Starting.{setting, setting-length, starting-at, starting-names};
+ghost use Rattle.load_image.specs.Starting.{first-term, setting, setting-length, starting-at, starting-names};
 
 // The bytes of what a setting holds first, num 0.
 const SETTING_LENGTH: usize = 3;

@@ -6,11 +6,12 @@ use native.Mathlib.Omega.{arith}
 use lib.ListN.{drop, getD, length, length-append, length-drop, length-take}
 use lib.Seq.{drop-append-seam, drop-drop, getD-drop, take-append-seam}
 use Rattle.calculus.specs.Bytes.{two-bytes, word}
+use Rattle.calculus.specs.Limits.{min-bays, max-bays}
 use Rattle.recipe_file.specs.declared.Edition.{Edition}
-use Rattle.recipe_file.specs.File.{edition-of, parts, table-part, pair-offset, offset-of, length-of, part}
-use Rattle.recipe_file.specs.FileRule.{FileRule}
+use Rattle.recipe_file.specs.File.{edition-of, parts, bays, table-part, pair-offset, offset-of, length-of, part}
+use Rattle.recipe_file.specs.FileRule.{Between, FileRule}
 use Rattle.recipe_file.specs.Whole.{pairs-of, joined, file-of, parts-from, all-parts, NoneEmpty, Makes}
-use Rattle.recipe_file.proofs.Editions.{EditionRule, numbered-rule}
+use Rattle.recipe_file.proofs.Editions.{EditionRule, edition-rule}
 use Rattle.recipe_file.proofs.Chains.{Chain, chain-first, chain-next, chain-last, chain-some, chain-inside}
 
 -- the number whose bytes stand at j
@@ -71,6 +72,9 @@ module _ (e : Edition) (ps : List (List ℕ)) (k : Makes e ps) where
       made (file-of e ps) ps 0 (pair-offset (length ps)) (joined ps) (k .none-empty) refl j
       (omega (arith, length-append (pairs-of (pair-offset (length ps)) ps) (joined ps), length-pairs (pair-offset (length ps)) ps))
 
+  edition : EditionRule e
+  edition = rw (k .known) at (edition-rule (file-of e ps))
+
   pub made-parts : all-parts (file-of e ps) ≡ ps
   made-parts = whole .1
 
@@ -94,21 +98,20 @@ module _ (e : Edition) (ps : List (List ℕ)) (k : Makes e ps) where
       let l : length (part s 0) ≡ length-of s 0 = simp (length-take, length-drop) (omega arith) in
       sym l ∙ ap length t
 
-  edition-made : edition-of (file-of e ps) ≡ e
-  unfolding file-of edition-of
-  edition-made = k .known
+  bays-made : Between min-bays max-bays (bays (file-of e ps))
+  unfolding bays
+  bays-made = rw (k .known, parts-made) (k .number)
 
   pub made-laid : FileRule (file-of e ps)
   unfolding file-of parts
   made-laid =
       let s = file-of e ps in
       let n = length-joined ps (k .none-empty) in
-      let f : EditionRule e = rw (k .known) at (numbered-rule (e .number)) in
       record {
-        size = record { low = omega (arith, k .number .low, f .behind-table, length-append (pairs-of (pair-offset (length ps)) ps) (joined ps), length-pairs (pair-offset (length ps)) ps); high = k .short };
+        size = record { low = omega (arith, k .number .low, edition .behind-table, length-append (pairs-of (pair-offset (length ps)) ps) (joined ps), length-pairs (pair-offset (length ps)) ps); high = k .short };
         opens-so = refl;
-        has-edition = ap (λ (f : Edition). f .number) (sym edition-made);
-        has-parts = rw edition-made (k .number);
+        has-edition = ap (λ (f : Edition). f .number) (sym (k .known));
+        has-parts = bays-made;
         first = chain-first s (whole .0) (omega (arith, k .number .low));
         next = chain-next s (whole .0);
         last = chain-last s (whole .0);

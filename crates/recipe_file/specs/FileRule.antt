@@ -4,8 +4,7 @@ use mathlib.Core.Path.{_≡_}
 use mathlib.Core.List.{List}
 use Prim.Native.Nat.{_*_, _+_, _<_, _≤_, ℕ}
 use lib.ListN.{getD, length, take}
-use Rattle.calculus.specs.Limits.{min-file-length, max-file-length, min-entries, max-entries}
-use Rattle.recipe_file.specs.Editions.{least-parts, most-parts}
+use Rattle.calculus.specs.Limits.{min-file-length, max-file-length, min-bays, max-bays, min-entries, max-entries}
 use Rattle.recipe_file.specs.File.{opening, edition-of, parts, table-part, bays, pair-offset, offset-of, length-of, entry-length}
 
 -- n is from `least` to `most`
@@ -21,8 +20,8 @@ pub record FileRule (s : List ℕ) : Type 0 where
   pub opens-so : take (length opening) s ≡ opening
   -- "Byte 2 is the edition"
   pub has-edition : getD s 2 0 ≡ edition-of s .number
-  -- "2 to 17 parts"
-  pub has-parts : Between (least-parts (edition-of s)) (most-parts (edition-of s)) (parts s)
+  -- "2 to 17 parts", so 1 to 16 bays
+  pub has-parts : Between min-bays max-bays (bays s)
   -- "The first part begins at 4 + 4n"
   pub first : offset-of s 0 ≡ pair-offset (parts s)
   -- "each next one where the former ends"; so the pairs are "sorted by offset" (proofs.Inside, `sorted`)

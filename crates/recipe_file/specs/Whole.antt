@@ -2,13 +2,12 @@
 -- (proofs.Wholes, `one-reading`), and the file of fitting parts is laid out and has these parts (proofs.Made, `made-laid`, `made-parts`).
 use mathlib.Core.Path.{_≡_}
 use mathlib.Core.List.{List, [], _++_, _∷_}
-use Prim.Native.Nat.{_*_, _+_, _<_, _≤_, suc, zero, ℕ}
+use Prim.Native.Nat.{_*_, _+_, _-_, _<_, _≤_, suc, zero, ℕ}
 use lib.ListN.{getD, length}
 use Rattle.calculus.specs.Bytes.{two-bytes}
-use Rattle.calculus.specs.Limits.{max-file-length, min-entries, max-entries}
+use Rattle.calculus.specs.Limits.{max-file-length, min-bays, max-bays, min-entries, max-entries}
 use Rattle.recipe_file.specs.declared.Edition.{Edition}
-use Rattle.recipe_file.specs.Editions.{edition-numbered, least-parts, most-parts}
-use Rattle.recipe_file.specs.File.{opening, parts, pair-offset, part, table-part, entry-length}
+use Rattle.recipe_file.specs.File.{opening, edition-of, parts, pair-offset, part, table-part, entry-length}
 use Rattle.recipe_file.specs.FileRule.{Between}
 
 -- document 01, "pairs of offset and length, two bytes each", of parts that follow each other from `at` on
@@ -42,9 +41,9 @@ NoneEmpty (p ∷ ps) = (0 < length p) × NoneEmpty ps
 -- parts that make a file of an edition
 pub record Makes (e : Edition) (ps : List (List ℕ)) : Type 0 where
   -- "Byte 2 is the edition"
-  pub known : edition-numbered (e .number) ≡ e
-  -- "2 to 17 parts"
-  pub number : Between (least-parts e) (most-parts e) (length ps)
+  pub known : edition-of (file-of e ps) ≡ e
+  -- "2 to 17 parts", so 1 to 16 bays
+  pub number : Between min-bays max-bays (length ps - e .terms)
   pub none-empty : NoneEmpty ps
   -- "The type table has t entries of three bytes", "3 to 256 type entries"
   pub table : (t : ℕ) × (length (getD ps table-part []) ≡ entry-length * t) × Between min-entries max-entries t

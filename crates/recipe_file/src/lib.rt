@@ -4,7 +4,6 @@ ghost use Prim.Native.Nat.{_+_, _*_, _<_, _≤_};
 ghost use lib.ListN.{length};
 ghost use Rattle.calculus.specs.Bytes.{two-byte-values};
 ghost use Rattle.calculus.specs.Limits.{byte-values, min-file-length};
-ghost use Rattle.recipe_file.specs.Editions.{edition-numbered};
 ghost use Rattle.recipe_file.specs.File.{edition-of, bays, pair-offset, offset-of, length-of, part, table-bytes, term-bytes, outside, cause-2, pairs-test, table-length-test, cause-3, layout-refusal};
 ghost use Rattle.recipe_file.specs.FileRule.{FileRule, HasPart, HasBay};
 
@@ -88,19 +87,6 @@ fn is_outside(least: usize, most: usize, n: usize) -> bool
     n < least || most < n
 }
 
-// The edition with a number; the first, where none has it.
-fn edition_numbered(number: usize) -> Edition
-    ensures { λ r. ⌜ r ≡ edition-numbered number ⌝ }
-{
-    if number == 0 {
-        return Edition::FIRST;
-    }
-    if Edition::COUNT < number {
-        return Edition::FIRST;
-    }
-    EDITIONS[number - 1]
-}
-
 // The edition that a recipe says; the first, where it says none that is known.
 pub fn edition_of(recipe: &[u8]) -> Edition
     ensures { λ r. ⌜ r ≡ edition-of (now (recipe .entry)) ⌝ }
@@ -108,7 +94,14 @@ pub fn edition_of(recipe: &[u8]) -> Edition
     if recipe.len() <= 2 {
         return Edition::FIRST;
     }
-    edition_numbered(wide(recipe[2]))
+    let number = wide(recipe[2]);
+    if number == 0 {
+        return Edition::FIRST;
+    }
+    if Edition::COUNT < number {
+        return Edition::FIRST;
+    }
+    EDITIONS[number - 1]
 }
 
 // Cause 2: the opening, the edition, or the number of parts.

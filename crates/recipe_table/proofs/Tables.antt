@@ -10,9 +10,9 @@ use borrow.Author.Tests.{not-false}
 use Rattle.calculus.specs.Causes.{type-entry-cause}
 use Rattle.calculus.specs.Lowest.{cause}
 use Rattle.calculus.specs.Limits.{min-entries, max-entries}
-use Rattle.calculus.specs.Table.{KindsBelow, TableRule, table-test}
+use Rattle.calculus.specs.Table.{TableRule, table-test}
 use Rattle.calculus.specs.Theory.Lowest.{lowest-first, none-fits}
-use Rattle.calculus.specs.Theory.TableTest.{table-test-iff}
+use Rattle.calculus.specs.Theory.TableTest.{KindsBelow, table-test-iff}
 use Rattle.recipe_file.specs.declared.Edition.{Edition}
 use Rattle.recipe_file.specs.File.{edition-of, entry-length, table-bytes, layout-causes, layout-refusal}
 use Rattle.recipe_file.specs.FileRule.{Between, FileRule}

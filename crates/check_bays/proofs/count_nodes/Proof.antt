@@ -3,7 +3,6 @@ use mathlib.Core.Path.{_∙_, sym}
 use Prim.Native.Nat.{_+_, _-_}
 use native.Mathlib.Omega.{arith}
 use borrow.Author.Needs.{needs}
-use Rattle.recipe_file.proofs.Inside.{bays-between}
 use Rattle.check_bays.proofs.Counting.{NodesCounted, counted-all, counted-next, counted-none, counted-not}
 use Rattle.check_bays.proofs.count_nodes.Statement.{statement}
 use Rattle.check_bays.proofs.count_nodes.Tie as tie
@@ -52,7 +51,7 @@ next c =
     (sym (c .before .nodes .given .1) ∙ c .before .before .before .scan-part .ensures)
 
 add-total : tie.Need-add-total Inv-loop μ-loop
-add-total c = omega (arith, next c .bound, bays-between (c .before .before .before .before .before .before .before .before .before .pre .0) .high)
+add-total c = omega (arith, next c .bound, c .before .before .before .before .before .before .before .before .before .pre .0 .has-parts .high)
 
 add-bay : tie.Need-add-bay Inv-loop μ-loop
 add-bay c = search needs

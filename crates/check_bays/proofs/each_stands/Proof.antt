@@ -5,7 +5,6 @@ use Prim.Native.Nat.{_+_, _-_, ℕ}
 use native.Mathlib.Omega.{arith}
 use borrow.Author.Needs.{needs}
 use lib.ListN.{length}
-use Rattle.recipe_file.proofs.Inside.{bays-between}
 use Rattle.recipe_table.specs.Entries.{table-of, type-table}
 use Rattle.recipe_table.proofs.Tables.{count-between}
 use Rattle.check_bays.proofs.Standing.{Stood, stood-all, stood-next, stood-none, stood-not}
@@ -62,7 +61,7 @@ next c =
     (sym (c .before .nodes .given .1) ∙ c .before .before .before .glance .ensures)
 
 add-total : tie.Need-add-total Inv-loop μ-loop
-add-total c = omega (arith, next c .counted .bound, bays-between (loop c .before .before .before .before .pre .0) .high)
+add-total c = omega (arith, next c .counted .bound, loop c .before .before .before .before .pre .0 .has-parts .high)
 
 add-bay : tie.Need-add-bay Inv-loop μ-loop
 add-bay c = search needs

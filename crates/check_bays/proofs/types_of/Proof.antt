@@ -5,7 +5,6 @@ use Prim.Native.Nat.{_-_, ℕ}
 use native.Mathlib.Omega.{arith}
 use borrow.Author.Needs.{needs}
 use Rattle.calculus.specs.Verdict.{is-many}
-use Rattle.recipe_file.proofs.Inside.{bays-between}
 use Rattle.recipe_table.specs.Entries.{table-of, type-table}
 use Rattle.check_bays.proofs.Typing.{Typing, typing-all, typing-next, typing-none, typing-not}
 use Rattle.check_bays.proofs.types_of.Statement.{statement}
@@ -45,7 +44,7 @@ many-at-requires : tie.Need-many-at-requires Inv-loop μ-loop
 many-at-requires c κs = search needs
 
 array-write-numbers : tie.Need-array-write-numbers Inv-loop μ-loop
-array-write-numbers c = omega (arith, bays-between (c .before .before .before .before .before .before .before .before .before .before .pre .0 .terms .laid) .high)
+array-write-numbers c = omega (arith, c .before .before .before .before .before .before .before .before .before .before .pre .0 .terms .laid .has-parts .high)
 
 add-bay : tie.Need-add-bay Inv-loop μ-loop
 add-bay c = search needs

@@ -7,7 +7,6 @@ use native.Mathlib.Omega.{arith}
 use borrow.Author.Tests.{not-true, not-false}
 use borrow.Author.Needs.{needs}
 use Rattle.recipe_file.specs.File.{edition-of}
-use Rattle.recipe_file.proofs.Inside.{bays-between}
 use Rattle.check_recipe.proofs.Verdicts.{Admitted, admitted, all-pass, file-refused, filed, parts-refused, refused-linear, refused-once, refused-untyped}
 use Rattle.check_recipe.proofs.check.Statement.{statement}
 use Rattle.check_recipe.proofs.check.Tie as tie
@@ -94,7 +93,7 @@ bay-count-requires : tie.Need-bay-count-requires
 bay-count-requires c κs = let e = at-8 (at-9 (c .before .before .before)) in (eighth e .scoped .terms .laid, says (first e))
 
 cast-t9 : tie.Need-cast-t9
-cast-t9 c = omega (arith, bays-between (eighth (at-8 (at-9 (c .before .before .before .before))) .scoped .terms .laid) .high, c .bay-count .ensures)
+cast-t9 c = omega (arith, eighth (at-8 (at-9 (c .before .before .before .before))) .scoped .terms .laid .has-parts .high, c .bay-count .ensures)
 
 returns-6 : tie.Need-returns-6
 returns-6 c =

@@ -17,22 +17,22 @@ use Rattle.calculus.specs.Syntax.{Exp, at}
 use Rattle.calculus.specs.Typing.{Derivation}
 use Rattle.calculus.specs.Limits.{max-bays, max-nesting, max-recipe-nodes}
 use Rattle.calculus.specs.Image.{nodes}
-use Rattle.calculus.specs.Table.{Table, KindsBelow, TableRule, type-at}
+use Rattle.calculus.specs.Table.{Table, TableRule, type-at}
 use Rattle.calculus.specs.Verdict.{type-causes, verdict}
 use Rattle.calculus.specs.Recipe.{setting-types, Admitted}
 use Rattle.calculus.specs.Theory.Tests.{clash, leb-sound, leb-complete, ltb-complete, ltb-false, ltb-not}
 use Rattle.calculus.specs.Theory.Lists.{at-bound, at-below}
 use Rattle.calculus.specs.Theory.Tabulate.{length-tabulate, tabulate-at, tabulate-parts, tabulate-is, each-below-sound, each-below-complete, nodes-tabulate}
 use Rattle.calculus.specs.Theory.Lowest.{lowest-parts}
-use Rattle.calculus.specs.Theory.TableTest.{table-test-iff}
+use Rattle.calculus.specs.Theory.TableTest.{KindsBelow, table-test-iff}
 use Rattle.calculus.specs.Theory.Verdict.{accepted-iff, verdict-iff, verdict-derived-iff}
 use Rattle.term.specs.Reader.{one-term, read-term}
 use Rattle.term.specs.Expressions.{bytes, nesting, FitsBytes}
 use Rattle.term.proofs.Expressions.{one-term-sound, one-term-complete, term-of-bytes}
-use Rattle.recipe_file.specs.File.{edition-of, bays, first-term, table-bytes, term-bytes, cause-1, cause-2, cause-3}
+use Rattle.recipe_file.specs.File.{edition-of, bays, table-bytes, term-bytes, cause-1, cause-2, cause-3}
 use Rattle.recipe_file.specs.FileRule.{FileRule}
 use Rattle.recipe_file.proofs.LaidOut.{or-parts, or-false, laid-iff}
-use Rattle.recipe_file.proofs.Inside.{length-table-bytes, bays-between}
+use Rattle.recipe_file.proofs.Inside.{length-table-bytes}
 use Rattle.recipe_table.specs.Entries.{table-of, type-table, cause-4, table-causes}
 use Rattle.check_spec.specs.Bays.{bay-term, bay-terms, cause-5, cause-6, term-causes}
 use Rattle.check_spec.specs.Verdict.{refusal, number-in, bay-type-number, bay-type-numbers}
@@ -75,7 +75,7 @@ module _ (s : List ℕ) (b : Bytes s) (n : NoCause s) where
 
   bay-is-term : (bay : ℕ) → bay < bays s → (term-bytes s bay ≡ bytes (bay-term s bay)) × FitsBytes (bay-term s bay)
   unfolding cause-5 bay-term term-bytes
-  bay-is-term bay l = one-term-sound (term-bytes s bay) (part-bytes s (first-term s + bay) b)
+  bay-is-term bay l = one-term-sound (term-bytes s bay) (part-bytes s (edition-of s .terms + bay) b)
       (each-below-sound (bays s) (λ k. one-term (read-term (term-bytes s k))) (not-false _ (n .not-5)) bay l)
 
   bay-limits : (each-below (bays s) (λ k. leb (nesting (bay-term s k)) max-nesting) ≡ true) × (ltb max-recipe-nodes (sum-below (bays s) (λ k. nodes (bay-term s k))) ≡ false)
@@ -141,7 +141,7 @@ module _ {s : List ℕ} {T : Table} {es : List Exp} (r : Recipe s T es) where
   }
 
   few-bays : bays s ≤ max-bays
-  few-bays = bays-between (r .laid) .high
+  few-bays = r .laid .has-parts .high
 
   -- causes 4 to 11 as the calculus has them, so what it says of runs holds of this recipe's
   pub admitted : Admitted T es

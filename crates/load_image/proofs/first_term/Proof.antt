@@ -1,17 +1,15 @@
 -- `load_image::first_term` meets its contract.
 use mathlib.Core.Path.{_∙_, ap}
 use Rattle.recipe_file.specs.declared.Edition.{Edition}
-use Rattle.recipe_file.specs.File.{first-term, offset-of}
+use Rattle.recipe_file.specs.File.{offset-of}
 use Rattle.load_image.proofs.Names.{first-pair}
 use Rattle.load_image.proofs.first_term.Statement.{statement}
 use Rattle.load_image.proofs.first_term.Tie as tie
 
 offset-of-requires : tie.Need-offset-of-requires
-unfolding first-term
 offset-of-requires c κs = let (l, e) = c .before .pre in rw e (first-pair l)
 
 returns : tie.Need-returns
-unfolding first-term
 returns c =
     let start = c .before .before in
     c .offset-of .ensures .0 ∙ ap (λ (e : Edition). offset-of (start .args .recipe .now) (e .terms)) (start .pre .1)

@@ -8,14 +8,14 @@ use lib.ListN.{length, take, drop}
 use Rattle.calculus.specs.Bytes.{Bytes, two-bytes}
 use Rattle.calculus.specs.Limits.{first-head, max-image-length}
 use Rattle.calculus.specs.Lists.{tabulate}
-use Rattle.recipe_file.specs.File.{bays, offset-of, first-term}
+use Rattle.recipe_file.specs.File.{bays, offset-of}
 use Rattle.recipe_file.specs.FileRule.{FileRule}
 use Rattle.buffer.specs.Written.{Wrote}
 use Rattle.buffer.specs.Theory.Writes.{same, known-as}
 use Rattle.buffer.specs.Theory.TwoBytes.{length-two-bytes}
 use Rattle.image_layout.specs.Encoded.{expressions, head-offset}
 use Rattle.image_layout.specs.Theory.Turns.{room-kept, heads-end}
-use Rattle.load_image.specs.Starting.{setting, setting-length, starting-at, starting-names}
+use Rattle.load_image.specs.Starting.{first-term, setting, setting-length, starting-at, starting-names}
 use Rattle.load_image.specs.Theory.Parts.{terms-begin-inside}
 use Rattle.load_spec.specs.Theory.Image.{laid, starting-fits}
 use Rattle.load_image.proofs.Names.{few-bays, starting-room, settings-length, starting-length, starting-wrote}

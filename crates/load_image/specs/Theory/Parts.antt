@@ -9,12 +9,12 @@ use lib.Seq.{drop-drop, drop-length}
 use Rattle.calculus.specs.Lists.{tabulate}
 use Rattle.calculus.specs.Theory.Tests.{ltb-complete, ltb-not}
 use Rattle.calculus.specs.Theory.Tabulate.{tabulate-same}
-use Rattle.recipe_file.specs.File.{first-term, bays, offset-of, length-of, part, term-bytes}
+use Rattle.recipe_file.specs.File.{bays, offset-of, length-of, part, term-bytes}
 use Rattle.recipe_file.specs.FileRule.{FileRule}
-use Rattle.recipe_file.proofs.Inside.{bays-between, length-part, term-is-part}
+use Rattle.recipe_file.proofs.Inside.{length-part, term-is-part}
 use Rattle.image_layout.specs.Encoded.{expressions}
 use Rattle.image_layout.specs.Theory.Components.{expressions-append, so-far, so-far-none, so-far-next}
-use Rattle.load_image.specs.Starting.{setting, bay-thread, starting-at, starting-names}
+use Rattle.load_image.specs.Starting.{first-term, setting, bay-thread, starting-at, starting-names}
 
 -- two lists by index, one after the other
 pub tabulate-append : {A : Type 0} (n m : ℕ) (f : ℕ → A) → tabulate (n + m) f ≡ tabulate n f ++ tabulate m (λ i. f (n + i))
@@ -63,9 +63,9 @@ module _ (s : List ℕ) (laid : FileRule s) where
   unfolding bays
   all-end =
       let last = bays s - 1 in
-      let e : bays s ≡ suc last = omega (arith, bays-between laid .low) in
+      let e : bays s ≡ suc last = omega (arith, laid .has-parts .low) in
       ap (λ (n : ℕ). offset-of s (first-term s) + so-far (bay-thread s) n) e
-      ∙ omega (arith, so-far-next (bay-thread s) last, bay-begins last (omega arith), bay-length last (omega arith), laid .last (first-term s + last) (omega (arith, bays-between laid .low)))
+      ∙ omega (arith, so-far-next (bay-thread s) last, bay-begins last (omega arith), bay-length last (omega arith), laid .last (first-term s + last) (omega (arith, laid .has-parts .low)))
 
   -- the bays' terms are the end of the file
   pub terms-are-end : expressions (tabulate (bays s) (bay-thread s)) ≡ drop (offset-of s (first-term s)) s
