@@ -7,7 +7,7 @@ use lib.Dec.{eqb, ltb}
 use lib.ListN.{drop, length, replicate}
 use Rattle.calculus.specs.Limits.{max-bays, max-image-length}
 use Rattle.calculus.specs.Causes.{buffer-cause}
-use Rattle.calculus.specs.Lowest.{Cause, cause, lowest}
+use Rattle.calculus.specs.Lowest.{Cause, cause, first-cause}
 use Rattle.recipe_file.specs.File.{bays}
 use Rattle.check_spec.specs.Verdict.{bay-type-numbers, check-causes}
 use Rattle.load_spec.specs.Starting.{starting-image}
@@ -26,7 +26,7 @@ load-causes s room = cause buffer-cause (ltb room max-image-length) ∷ check-ca
 
 -- the number of the first that fits, 0 where none does
 unfoldable pub load-refusal : List ℕ → ℕ → ℕ
-load-refusal s room = lowest (load-causes s room)
+load-refusal s room = first-cause (load-causes s room)
 
 -- what a load answers
 unfoldable pub loaded-of : List ℕ → ℕ → Loaded

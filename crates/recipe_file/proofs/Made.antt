@@ -8,7 +8,7 @@ use lib.Seq.{drop-append-seam, drop-drop, getD-drop, take-append-seam}
 use Rattle.calculus.specs.Bytes.{two-bytes, word}
 use Rattle.calculus.specs.Limits.{min-bays, max-bays}
 use Rattle.recipe_file.specs.declared.Edition.{Edition}
-use Rattle.recipe_file.specs.File.{edition-of, parts, bays, table-part, pair-offset, offset-of, length-of, part}
+use Rattle.recipe_file.specs.File.{parts, bays, table-part, pair-offset, offset-of, length-of, part}
 use Rattle.recipe_file.specs.FileRule.{Between, FileRule}
 use Rattle.recipe_file.specs.Whole.{pairs-of, joined, file-of, parts-from, all-parts, NoneEmpty, Makes}
 use Rattle.recipe_file.proofs.Editions.{EditionRule, edition-rule}

@@ -6,7 +6,7 @@ use lib.Dec.{eqb, ltb}
 use lib.ListN.{drop, getD, length, take}
 use Rattle.calculus.specs.Bytes.{word}
 use Rattle.calculus.specs.Causes.{file-length-cause, opening-cause, layout-cause}
-use Rattle.calculus.specs.Lowest.{Cause, cause, lowest}
+use Rattle.calculus.specs.Lowest.{Cause, cause, first-cause}
 use Rattle.calculus.specs.Limits.{min-file-length, max-file-length, min-bays, max-bays, min-entries, max-entries}
 use Rattle.recipe_file.specs.declared.Edition.{Edition}
 use Rattle.recipe_file.specs.Editions.{edition-1, editions}
@@ -93,6 +93,6 @@ cause-3 s = not (pairs-test s (parts s) 0 (pair-offset (parts s))) || not (table
 abbrev pub layout-causes : List ℕ → List Cause
 layout-causes s = cause file-length-cause (cause-1 s) ∷ cause opening-cause (cause-2 s) ∷ cause layout-cause (cause-3 s) ∷ []
 
--- document 01, "The lowest number that fits wins", for causes 1 to 3; 0 where none fits
+-- the number of the first of them that fits, 0 where none does
 unfoldable pub layout-refusal : List ℕ → ℕ
-layout-refusal s = lowest (layout-causes s)
+layout-refusal s = first-cause (layout-causes s)

@@ -11,7 +11,7 @@ use Rattle.calculus.specs.Causes.{type-entry-cause}
 use Rattle.calculus.specs.Lowest.{cause}
 use Rattle.calculus.specs.Limits.{min-entries, max-entries}
 use Rattle.calculus.specs.Table.{TableRule, table-test}
-use Rattle.calculus.specs.Theory.Lowest.{lowest-first, none-fits}
+use Rattle.calculus.specs.Theory.Lowest.{first-cause-front, none-fits}
 use Rattle.calculus.specs.Theory.TableTest.{KindsBelow, table-test-iff}
 use Rattle.recipe_file.specs.declared.Edition.{Edition}
 use Rattle.recipe_file.specs.File.{edition-of, entry-length, table-bytes, layout-causes, layout-refusal}
@@ -42,7 +42,7 @@ module _ {s : List ℕ} (l : FileRule s) where
 -- a cause below 4 is the answer
 pub layout-first : (s : List ℕ) (r : ℕ) → r ≡ layout-refusal s → (r ≡ 0 → ⊥) → r ≡ table-refusal s
 unfolding layout-refusal table-refusal
-layout-first s r e f = e ∙ sym (lowest-first (layout-causes s) (cause type-entry-cause (cause-4 s) ∷ []) (λ z. f (e ∙ z)))
+layout-first s r e f = e ∙ sym (first-cause-front (layout-causes s) (cause type-entry-cause (cause-4 s) ∷ []) (λ z. f (e ∙ z)))
 
 -- else the table decides
 module _ (s : List ℕ) (n : Edition) (says : n ≡ edition-of s) (r : ℕ) (e : r ≡ layout-refusal s) (z : r ≡ 0) (a : List Entry) (is-table : a ≡ filled (type-table s))

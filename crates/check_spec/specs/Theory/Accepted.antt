@@ -23,7 +23,7 @@ use Rattle.calculus.specs.Recipe.{setting-types, Admitted}
 use Rattle.calculus.specs.Theory.Tests.{clash, leb-sound, leb-complete, ltb-complete, ltb-false, ltb-not}
 use Rattle.calculus.specs.Theory.Lists.{at-bound, at-below}
 use Rattle.calculus.specs.Theory.Tabulate.{length-tabulate, tabulate-at, tabulate-parts, tabulate-is, each-below-sound, each-below-complete, nodes-tabulate}
-use Rattle.calculus.specs.Theory.Lowest.{lowest-parts}
+use Rattle.calculus.specs.Theory.Lowest.{first-cause-parts}
 use Rattle.calculus.specs.Theory.TableTest.{KindsBelow, table-test-iff}
 use Rattle.calculus.specs.Theory.Verdict.{accepted-iff, verdict-iff, verdict-derived-iff}
 use Rattle.term.specs.Reader.{one-term, read-term}
@@ -53,7 +53,7 @@ pub no-cause-iff : (s : List ℕ) → (refusal s ≡ 0) ↔ NoCause s
 unfolding refusal verdict
 no-cause-iff s = (
   λ e.
-      let ((a, (b, (c, (d, (f, (g, u)))))), v) = lowest-parts (table-causes s ++ term-causes s) (type-causes (type-table s) (bay-terms s)) tt e in
+      let ((a, (b, (c, (d, (f, (g, u)))))), v) = first-cause-parts (table-causes s ++ term-causes s) (type-causes (type-table s) (bay-terms s)) tt e in
       record { not-1 = a; not-2 = b; not-3 = c; not-4 = d; not-5 = f; not-6 = g; not-7-to-11 = v },
   λ n. rw (n .not-1, n .not-2, n .not-3, n .not-4, n .not-5, n .not-6) (n .not-7-to-11),
 )

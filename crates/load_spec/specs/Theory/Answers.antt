@@ -1,4 +1,4 @@
--- What a load answers and leaves, from the lowest cause that fits.
+-- What a load answers and leaves, from the first cause that fits.
 use mathlib.Core.Path.{_≡_, refl, sym}
 use mathlib.Core.Bool.{Bool, cond, false, true}
 use mathlib.Core.List.{List, _++_}
