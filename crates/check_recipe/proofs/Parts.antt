@@ -5,8 +5,8 @@ use mathlib.Core.List.{List, _∷_}
 use Prim.Native.Nat.{ℕ}
 use lib.Dec.{ltb}
 use borrow.Author.Tests.{not-false}
-use Rattle.calculus.specs.Theory.Lowest.{lowest-first, lowest-parts, none-fits}
-use Rattle.calculus.specs.Lowest.{cause, lowest}
+use Rattle.calculus.specs.Theory.Lowest.{first-cause-front, first-cause-parts, none-fits}
+use Rattle.calculus.specs.Lowest.{cause, first-cause}
 use Rattle.calculus.specs.Causes.{no-term-cause, term-size-cause, scope-cause, annotation-cause}
 use Rattle.calculus.specs.Lists.{each-below, sum-below}
 use Rattle.calculus.specs.Limits.{max-recipe-nodes}
@@ -37,7 +37,7 @@ module _ (s : List ℕ) where
 
   -- the number, by five tests
   by-tests : parts-refusal s
-      ≡ lowest (cause no-term-cause (not single) ∷ cause term-size-cause (not (each-passes s Nesting) || ltb max-recipe-nodes total) ∷ scope-causes s)
+      ≡ first-cause (cause no-term-cause (not single) ∷ cause term-size-cause (not (each-passes s Nesting) || ltb max-recipe-nodes total) ∷ scope-causes s)
   unfolding parts-refusal cause-5 cause-6 bay-single bay-nodes each-passes bay-passes passes
   by-tests = refl
 
@@ -52,7 +52,7 @@ module _ (s : List ℕ) where
 
   pub by-terms : (terms : ℕ) → terms ≡ terms-refusal s → (terms ≡ 0 → ⊥) → terms ≡ parts-refusal s
   unfolding terms-refusal parts-refusal
-  by-terms terms e d = e ∙ sym (lowest-first (term-causes s) (scope-causes s) (λ z. d (e ∙ z)))
+  by-terms terms e d = e ∙ sym (first-cause-front (term-causes s) (scope-causes s) (λ z. d (e ∙ z)))
 
   module _ (l : FileRule s) (r : TableRule (type-table s)) (e : terms-refusal s ≡ 0) where
     pub terms-stand : Terms s
@@ -75,6 +75,6 @@ module _ (s : List ℕ) where
   pub none-of-parts : FileRule s → TableRule (type-table s) → parts-refusal s ≡ 0 → ScopedTerms s
   unfolding parts-refusal terms-refusal
   none-of-parts l r e =
-      let ((p, (q, u)), z) = lowest-parts (term-causes s) (scope-causes s) tt e in
+      let ((p, (q, u)), z) = first-cause-parts (term-causes s) (scope-causes s) tt e in
       let (t, n) = neither s l r (rw (p, q) refl) in
       record { terms = t; shallow = n; scope = not-false (each-passes s Scope) (none-fits (scope-causes s) tt z .0) }

@@ -8,7 +8,7 @@ use lib.Dec.{ltb}
 use borrow.Author.Tests.{not-false}
 use Rattle.recipe_file.proofs.LaidOut.{or-parts}
 use Rattle.calculus.specs.Theory.Lowest.{none-fits}
-use Rattle.calculus.specs.Lowest.{Cause, cause, lowest}
+use Rattle.calculus.specs.Lowest.{Cause, cause, first-cause}
 use Rattle.calculus.specs.Causes.{no-term-cause, term-size-cause}
 use Rattle.calculus.specs.Lists.{each-below, sum-below}
 use Rattle.calculus.specs.Limits.{max-recipe-nodes}
@@ -36,7 +36,7 @@ module _ (s : List ℕ) where
   abbrev tests : List Cause
   tests = cause no-term-cause (not single) ∷ cause term-size-cause (not (each-passes s Nesting) || ltb max-recipe-nodes total) ∷ []
 
-  by-tests : terms-refusal s ≡ lowest tests
+  by-tests : terms-refusal s ≡ first-cause tests
   unfolding terms-refusal cause-5 cause-6 bay-single bay-nodes each-passes bay-passes passes
   by-tests = refl
 

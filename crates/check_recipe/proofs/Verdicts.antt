@@ -5,8 +5,8 @@ use mathlib.Core.List.{List, [], _++_, _∷_}
 use Prim.Native.Nat.{ℕ}
 use native.Mathlib.Omega.{arith}
 use lib.ListN.{length}
-use Rattle.calculus.specs.Theory.Lowest.{lowest-first, lowest-rest, none-fits}
-use Rattle.calculus.specs.Lowest.{Cause, cause, lowest}
+use Rattle.calculus.specs.Theory.Lowest.{first-cause-front, first-cause-rest, none-fits}
+use Rattle.calculus.specs.Lowest.{Cause, cause, first-cause}
 use Rattle.calculus.specs.Causes.{type-cause, linearity-cause, bay-once-cause}
 use Rattle.calculus.specs.Lists.{each-below}
 use Rattle.calculus.specs.Table.{TableRule}
@@ -61,9 +61,9 @@ module _ (s : List ℕ) where
   abbrev behind-table : List Cause
   behind-table = (term-causes s ++ scope-causes s) ++ late
 
-  by-causes : refusal s ≡ lowest (table-causes s ++ behind-table)
+  by-causes : refusal s ≡ first-cause (table-causes s ++ behind-table)
   unfolding refusal
-  by-causes = ap (λ (cs : List Cause). lowest (table-causes s ++ (term-causes s ++ cs))) by-bays
+  by-causes = ap (λ (cs : List Cause). first-cause (table-causes s ++ (term-causes s ++ cs))) by-bays
 
   -- what a refusal's number says
   refused-is : (n : ℕ) → refusal s ≡ n → (n ≡ 0 → ⊥) → refused n ≡ verdict-of s
@@ -79,26 +79,26 @@ module _ (s : List ℕ) where
 module _ (s : List ℕ) (file : ℕ) (e : file ≡ table-refusal s) where
   pub file-refused : (file ≡ 0 → ⊥) → refused file ≡ verdict-of s
   unfolding table-refusal
-  file-refused d = refused-is s file (by-causes s ∙ lowest-first (table-causes s) (behind-table s) (λ z. d (e ∙ z)) ∙ sym e) d
+  file-refused d = refused-is s file (by-causes s ∙ first-cause-front (table-causes s) (behind-table s) (λ z. d (e ∙ z)) ∙ sym e) d
 
   pub filed : file ≡ 0 → FileRule s × TableRule (type-table s)
-  filed z = table-admitted-iff s .0 (sym e ∙ z)
+  filed z = let (l, (k, r)) = table-admitted-iff s .0 (sym e ∙ z) in (l, r)
 
 -- The parts
 
 -- no cause up to 8 fits
 pub record Admitted (s : List ℕ) : Type 0 where
   pub scoped : ScopedTerms s
-  pub rest : refusal s ≡ lowest (late s)
+  pub rest : refusal s ≡ first-cause (late s)
 
 module _ (s : List ℕ) (file : ℕ) (e : file ≡ table-refusal s) (z : file ≡ 0) (parts : ℕ) (f : parts ≡ parts-refusal s) where
-  past-file : refusal s ≡ lowest (behind-table s)
+  past-file : refusal s ≡ first-cause (behind-table s)
   unfolding table-refusal
-  past-file = by-causes s ∙ lowest-rest (table-causes s) (behind-table s) (none-fits (table-causes s) tt (sym e ∙ z))
+  past-file = by-causes s ∙ first-cause-rest (table-causes s) (behind-table s) (none-fits (table-causes s) tt (sym e ∙ z))
 
   pub parts-refused : (parts ≡ 0 → ⊥) → refused parts ≡ verdict-of s
   unfolding parts-refusal
-  parts-refused d = refused-is s parts (past-file ∙ lowest-first (term-causes s ++ scope-causes s) (late s) (λ w. d (f ∙ w)) ∙ sym f) d
+  parts-refused d = refused-is s parts (past-file ∙ first-cause-front (term-causes s ++ scope-causes s) (late s) (λ w. d (f ∙ w)) ∙ sym f) d
 
   pub admitted : parts ≡ 0 → Admitted s
   unfolding parts-refusal
@@ -106,7 +106,7 @@ module _ (s : List ℕ) (file : ℕ) (e : file ≡ table-refusal s) (z : file �
       let (l, r) = filed s file e z in
       record {
         scoped = none-of-parts s l r (sym f ∙ w);
-        rest = past-file ∙ lowest-rest (term-causes s ++ scope-causes s) (late s) (none-fits (term-causes s ++ scope-causes s) tt (sym f ∙ w));
+        rest = past-file ∙ first-cause-rest (term-causes s ++ scope-causes s) (late s) (none-fits (term-causes s ++ scope-causes s) tt (sym f ∙ w));
       }
 
 -- Causes 9 to 11

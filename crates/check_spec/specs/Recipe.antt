@@ -3,17 +3,17 @@
 use mathlib.Core.Path.{_≡_}
 use mathlib.Core.Option.{some}
 use mathlib.Core.List.{List, [], _∷_, map}
-use Prim.Native.Nat.{_≤_, ℕ}
+use Prim.Native.Nat.{_<_, _≤_, ℕ}
 use lib.ListN.{length}
 use Rattle.calculus.specs.Types.{many, LinType, multiplicity}
 use Rattle.calculus.specs.Syntax.{Exp, thread-of, at}
 use Rattle.calculus.specs.Typing.{Derivation}
 use Rattle.calculus.specs.Limits.{max-nesting, max-recipe-nodes}
 use Rattle.calculus.specs.Image.{nodes-all}
-use Rattle.calculus.specs.Table.{Table, TableRule, type-at}
+use Rattle.calculus.specs.Table.{Entry, Table, TableRule, type-at}
 use Rattle.calculus.specs.Recipe.{setting-types}
 use Rattle.term.specs.Expressions.{bytes, nesting, FitsBytes}
-use Rattle.recipe_file.specs.File.{bays, table-bytes, term-bytes}
+use Rattle.recipe_file.specs.File.{edition-of, bays, table-bytes, term-bytes}
 use Rattle.recipe_file.specs.FileRule.{FileRule}
 
 -- document 01, "entries of three bytes: kind, p, q"
@@ -29,8 +29,9 @@ Derived T b e = (α : LinType) × Derivation (type-at T) (setting-types b) [] e 
 pub record Recipe (s : List ℕ) (T : Table) (es : List Exp) : Type 0 where
   -- causes 1 to 3: the layout and its limits
   pub laid : FileRule s
-  -- cause 4: the first part is the table, and it keeps its rule
+  -- cause 4: the first part is the table, and it keeps its rule, with the kinds of the edition
   pub table : table-bytes s ≡ entry-bytes T
+  pub kinds : (k : ℕ) (x : Entry) → at T k ≡ some x → x .kind < edition-of s .kinds
   pub table-rule : TableRule T
   -- cause 5: each other part is the bytes of an expression that the node forms can write
   pub count : length es ≡ bays s

@@ -2,7 +2,7 @@
 
 -- the bays' parts and terms: from the tests to the expressions, and back
 pub mod Bays
--- what is answered, from the lowest cause that fits
+-- what is answered, from the first cause that fits
 pub mod Answers
 -- accepted exactly when the file says a recipe that the papers ask for; the recipe is unique, and so are the types answered
 pub mod Accepted

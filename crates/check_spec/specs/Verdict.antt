@@ -6,7 +6,7 @@ use mathlib.Core.List.{List, [], _++_}
 use Prim.Native.Nat.{ℕ}
 use lib.Dec.{eqb, ltb}
 use lib.ListN.{replicate}
-use Rattle.calculus.specs.Lowest.{Cause, lowest}
+use Rattle.calculus.specs.Lowest.{Cause, first-cause}
 use Rattle.calculus.specs.Lists.{tabulate}
 use Rattle.calculus.specs.Limits.{max-bays}
 use Rattle.calculus.specs.Verdict.{type-causes, type-number}
@@ -19,9 +19,9 @@ use Rattle.check_spec.specs.Bays.{bay-term, bay-terms, term-causes}
 abbrev pub check-causes : List ℕ → List Cause
 check-causes s = table-causes s ++ (term-causes s ++ type-causes (type-table s) (bay-terms s))
 
--- the number of the lowest that fits, 0 where none does
+-- the number of the first that fits, 0 where none does
 unfoldable pub refusal : List ℕ → ℕ
-refusal s = lowest (check-causes s)
+refusal s = first-cause (check-causes s)
 
 -- a number, or 0 where there is none
 unfoldable pub number-in : Option ℕ → ℕ

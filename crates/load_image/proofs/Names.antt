@@ -6,12 +6,12 @@ use native.Mathlib.Omega.{arith}
 use lib.ListN.{length, length-append, drop, take, length-drop}
 use lib.Seq.{take-all}
 use Rattle.calculus.specs.Bytes.{Bytes, two-bytes}
-use Rattle.calculus.specs.Limits.{max-bays, max-image-length}
+use Rattle.calculus.specs.Limits.{byte-values, max-bays, max-image-length}
 use Rattle.calculus.specs.Lists.{tabulate}
 use Rattle.calculus.specs.Theory.Tests.{ltb-complete, ltb-not}
-use Rattle.recipe_file.specs.File.{first-term, bays, pair-offset, offset-of, term-bytes, table-bytes}
+use Rattle.recipe_file.specs.File.{bays, pair-offset, offset-of, term-bytes}
 use Rattle.recipe_file.specs.FileRule.{FileRule}
-use Rattle.recipe_file.proofs.Inside.{bays-between, length-table-bytes}
+use Rattle.recipe_file.proofs.Inside.{few-parts, pairs-inside, term-is-part}
 use Rattle.check_spec.specs.Verdict.{refusal}
 use Rattle.buffer.specs.Written.{Wrote}
 use Rattle.buffer.specs.Theory.Writes.{then, known-as}
@@ -21,19 +21,20 @@ use Rattle.image_layout.specs.Heads.{Says}
 use Rattle.image_layout.specs.Theory.Components.{expressions-append, so-far, so-far-none, so-far-next, length-tabulated}
 use Rattle.image_layout.specs.Theory.Turns.{Room, image-turns}
 use Rattle.load_spec.specs.Starting.{starting-image}
-use Rattle.load_image.specs.Starting.{setting, setting-length, bay-thread, starting-at, starting-names}
+use Rattle.load_image.specs.Starting.{first-term, setting, setting-length, bay-thread, starting-at, starting-names}
 use Rattle.load_image.specs.Theory.Parts.{starting-parts, terms-are-end}
 use Rattle.load_spec.specs.Theory.Image.{laid, starting-fits}
 use Rattle.load_image.specs.Theory.Image.{starting-tabulated}
 
 -- at most 16 bays
 pub few-bays : {s : List ℕ} → FileRule s → bays s ≤ max-bays
-few-bays l = bays-between l .high
+few-bays l = l .has-parts .high
 
--- the first term stands behind the pairs and the table
-pub first-begins : {s : List ℕ} → FileRule s → pair-offset (bays s + 1) + length (table-bytes s) ≡ offset-of s first-term
-unfolding bays
-first-begins {s} l = omega (arith, l .first, l .next 0 (omega (arith, l .has-parts .low)), length-table-bytes l, l .has-parts .low)
+-- the first term's pair stands in the file
+pub first-pair : {s : List ℕ} → FileRule s → (first-term s < byte-values) × (pair-offset (first-term s + 1) ≤ length s)
+first-pair l =
+    let h = term-is-part (record { laid = l; below = l .has-parts .low }) in
+    (omega (arith, h .below, few-parts l), omega (arith, h .below, pairs-inside l))
 
 -- what the head of name k says
 pub says-setting : (s : List ℕ) (k : ℕ) → k < bays s → Says (record { kind = cell-kind; companion = 0; size = setting-length }) (starting-at s k)
@@ -58,15 +59,15 @@ module _ (s : List ℕ) (b : Bytes s) (accepted : refusal s ≡ 0) where
       record { fits-in = omega arith; small = omega arith }
 
   -- where the expressions of all names end
-  pub expressions-length : so-far (starting-at s) (starting-names s) ≡ setting-length * bays s + (length s - offset-of s first-term)
+  pub expressions-length : so-far (starting-at s) (starting-names s) ≡ setting-length * bays s + (length s - offset-of s (first-term s))
   expressions-length =
       let l = laid s b accepted in
       ap (λ (E : List Encoded). length (expressions E)) (starting-parts s)
       ∙ simp (expressions-append, length-append)
-      (omega (arith, settings-length (bays s), ap length (terms-are-end s l), length-drop (offset-of s first-term) s))
+      (omega (arith, settings-length (bays s), ap length (terms-are-end s l), length-drop (offset-of s (first-term s)) s))
 
   -- the whole length, in its three parts
-  pub starting-length : head-offset (starting-names s) + (setting-length * bays s + (length s - offset-of s first-term)) ≤ max-image-length
+  pub starting-length : head-offset (starting-names s) + (setting-length * bays s + (length s - offset-of s (first-term s))) ≤ max-image-length
   starting-length =
       omega (arith, expressions-length, length-tabulated (starting-names s) (starting-at s), ap length (starting-tabulated s b accepted), starting-fits s b accepted)
 
@@ -75,11 +76,11 @@ module _ (s : List ℕ) (b : Bytes s) (accepted : refusal s ≡ 0) where
       → Wrote old 0 (two-bytes (starting-names s)) a first
       → Wrote a first (heads (head-offset (starting-names s)) (tabulate (starting-names s) (starting-at s))) c second
       → Wrote c second (expressions (tabulate (bays s) (λ k. setting))) d third
-      → Wrote d third (take (length s - offset-of s first-term) (drop (offset-of s first-term) s)) out last
+      → Wrote d third (take (length s - offset-of s (first-term s)) (drop (offset-of s (first-term s)) s)) out last
       → Wrote old 0 (starting-image s) out last
   starting-wrote u h p t =
       let l = laid s b accepted in
-      let all = take-all (length s - offset-of s first-term) (drop (offset-of s first-term) s) (omega (arith, length-drop (offset-of s first-term) s)) in
-      let e : expressions (tabulate (bays s) (λ k. setting)) ++ take (length s - offset-of s first-term) (drop (offset-of s first-term) s) ≡ expressions (tabulate (starting-names s) (starting-at s)) =
+      let all = take-all (length s - offset-of s (first-term s)) (drop (offset-of s (first-term s)) s) (omega (arith, length-drop (offset-of s (first-term s)) s)) in
+      let e : expressions (tabulate (bays s) (λ k. setting)) ++ take (length s - offset-of s (first-term s)) (drop (offset-of s (first-term s)) s) ≡ expressions (tabulate (starting-names s) (starting-at s)) =
       rw (all, ← (terms-are-end s l), starting-parts s, expressions-append) refl in
       known-as (image-turns (starting-names s) (starting-at s) u h (known-as (then p t) e)) (sym (starting-tabulated s b accepted))

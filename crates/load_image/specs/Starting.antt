@@ -4,10 +4,14 @@ use mathlib.Core.Bool.{cond}
 use mathlib.Core.List.{List, [], _∷_}
 use Prim.Native.Nat.{ℕ, _+_, _-_}
 use lib.Dec.{ltb}
-use Rattle.recipe_file.specs.File.{bays, term-bytes}
+use Rattle.recipe_file.specs.File.{edition-of, bays, term-bytes}
 use Rattle.calculus.specs.Kinds.{thread-kind, cell-kind}
 use Rattle.term.specs.Forms.{num-tag}
 use Rattle.image_layout.specs.Encoded.{Encoded}
+
+-- the part of the first bay's term
+abbrev pub first-term : List ℕ → ℕ
+first-term s = edition-of s .terms
 
 -- the starting image name by name (Theory.Image, `starting-tabulated`): a setting, "a cell of num, starting at 0"
 abbrev pub setting : Encoded

@@ -6,9 +6,9 @@ use image_layout::Head;
 use image_layout::Next;
 use image_layout::put_head;
 use numbers::Image;
+use recipe_file::Edition;
 use recipe_file::bay_count;
-use recipe_file::pair_offset;
-use recipe_file::table_bytes;
+use recipe_file::offset_of;
 use recipe_file::term_bytes;
 use term::Node;
 ghost use mathlib.Core.Path.{_≡_};
@@ -17,7 +17,7 @@ ghost use lib.ListN.{length};
 ghost use Rattle.calculus.specs.Bytes.{two-byte-values};
 ghost use Rattle.calculus.specs.Limits.{first-head, max-image-length};
 ghost use Rattle.calculus.specs.Lists.{tabulate};
-ghost use Rattle.recipe_file.specs.File.{bays, offset-of, first-term};
+ghost use Rattle.recipe_file.specs.File.{edition-of, bays, offset-of};
 ghost use Rattle.recipe_file.specs.FileRule.{FileRule};
 ghost use Rattle.check_spec.specs.Verdict.{refusal};
 ghost use Rattle.buffer.specs.Written.{Wrote};
@@ -25,25 +25,25 @@ ghost use Rattle.image_layout.specs.Encoded.{heads, head-offset, expressions};
 ghost use Rattle.image_layout.specs.Heads.{Says};
 ghost use Rattle.image_layout.specs.Theory.Turns.{Room};
 ghost use Rattle.load_spec.specs.Starting.{starting-image};
-ghost use Rattle.load_image.specs.Starting.{setting, setting-length, starting-at, starting-names};
+ghost use Rattle.load_image.specs.Starting.{first-term, setting, setting-length, starting-at, starting-names};
 
 // The bytes of what a setting holds first, num 0.
 const SETTING_LENGTH: usize = 3;
 
-// Where the first bay's term begins: behind the pairs and the type table.
-fn first_term(recipe: &[u8]) -> usize
-    requires { ⌜ FileRule (now recipe) ⌝ }
-    ensures { λ r. ⌜ r ≡ offset-of (now (recipe .entry)) first-term ⌝ }
+// Where the first bay's term begins.
+fn first_term(recipe: &[u8], edition: Edition) -> usize
+    requires { ⌜ FileRule (now recipe) × (edition ≡ edition-of (now recipe)) ⌝ }
+    ensures { λ r. ⌜ r ≡ offset-of (now (recipe .entry)) (first-term (now (recipe .entry))) ⌝ }
 {
-    pair_offset(bay_count(recipe) + 1) + table_bytes(recipe).len()
+    offset_of(recipe, edition.terms)
 }
 
 // The head of name k.
-fn head_of(recipe: &[u8], k: usize) -> Head
-    requires { ⌜ FileRule (now recipe) × (k < starting-names (now recipe)) ⌝ }
+fn head_of(recipe: &[u8], edition: Edition, k: usize) -> Head
+    requires { ⌜ FileRule (now recipe) × (k < starting-names (now recipe)) × (edition ≡ edition-of (now recipe)) ⌝ }
     ensures { λ r. ⌜ Says r (starting-at (now (recipe .entry)) k) ⌝ }
 {
-    let bays = bay_count(recipe);
+    let bays = bay_count(recipe, edition);
     if k < bays {
         return Head {
             kind: Image::CELL,
@@ -54,16 +54,16 @@ fn head_of(recipe: &[u8], k: usize) -> Head
     Head {
         kind: Image::THREAD,
         companion: 0,
-        size: term_bytes(recipe, k - bays).len(),
+        size: term_bytes(recipe, edition, k - bays).len(),
     }
 }
 
 // Writes the heads of all names.
-fn put_heads(out: &mut [u8], at: usize, recipe: &[u8]) -> usize
-    requires { ⌜ FileRule (now recipe) × (Room (starting-names (now recipe)) (starting-at (now recipe)) (now out) × (at ≡ first-head)) ⌝ }
+fn put_heads(out: &mut [u8], at: usize, recipe: &[u8], edition: Edition) -> usize
+    requires { ⌜ (FileRule (now recipe) × (edition ≡ edition-of (now recipe))) × (Room (starting-names (now recipe)) (starting-at (now recipe)) (now out) × (at ≡ first-head)) ⌝ }
     ensures { λ r. ⌜ Wrote (now (out .entry)) at (heads (head-offset (starting-names (now (recipe .entry)))) (tabulate (starting-names (now (recipe .entry))) (starting-at (now (recipe .entry))))) (now (out .exit)) r ⌝ }
 {
-    let bays = bay_count(recipe);
+    let bays = bay_count(recipe, edition);
     let names = bays + bays;
     let mut next = Next {
         head: at,
@@ -71,7 +71,7 @@ fn put_heads(out: &mut [u8], at: usize, recipe: &[u8]) -> usize
     };
     let mut k = 0;
     while k < names {
-        next = put_head(out, next, head_of(recipe, k));
+        next = put_head(out, next, head_of(recipe, edition, k));
         k += 1;
     }
     next.head
@@ -101,19 +101,19 @@ fn put_settings(out: &mut [u8], at: usize, bays: usize) -> usize
 }
 
 // Writes the starting image. The bays' terms stand one after the other at the end of the recipe, as they are to stand in the image: one copy.
-pub fn put_starting(recipe: &[u8], out: &mut [u8]) -> usize
-    requires { ⌜ (refusal (now recipe) ≡ 0) × (max-image-length ≤ length (now out)) ⌝ }
+pub fn put_starting(recipe: &[u8], edition: Edition, out: &mut [u8]) -> usize
+    requires { ⌜ (refusal (now recipe) ≡ 0) × (max-image-length ≤ length (now out)) × (edition ≡ edition-of (now recipe)) ⌝ }
     ensures { λ r. ⌜ Wrote (now (out .entry)) 0 (starting-image (now (recipe .entry))) (now (out .exit)) r × (r ≤ max-image-length) ⌝ }
 {
-    let bays = bay_count(recipe);
+    let bays = bay_count(recipe, edition);
     let after_names = put_u16(out, 0, bays + bays);
-    let after_heads = put_heads(out, after_names, recipe);
+    let after_heads = put_heads(out, after_names, recipe, edition);
     let after_settings = put_settings(out, after_heads, bays);
     put_part(
         out,
         after_settings,
         recipe,
-        first_term(recipe),
+        first_term(recipe, edition),
         recipe.len(),
     )
 }

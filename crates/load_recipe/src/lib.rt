@@ -32,7 +32,8 @@ pub fn load(recipe: &[u8], out: &mut [u8]) -> Loaded
     if refusal != 0 {
         return refused(refusal);
     }
-    let length = load_image::put_starting(recipe, out);
+    let edition = recipe_file::edition_of(recipe);
+    let length = load_image::put_starting(recipe, edition, out);
     let types = verdict.types;
     Loaded {
         refusal: 0,

@@ -2,5 +2,5 @@
 
 -- the starting image of an accepted recipe keeps the rules of an image
 pub mod Image
--- what is answered and left, from the lowest cause that fits
+-- what is answered and left, from the first cause that fits
 pub mod Answers

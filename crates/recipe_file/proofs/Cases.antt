@@ -2,10 +2,13 @@
 use mathlib.Core.Path.{_≡_, refl}
 use mathlib.Core.Bool.{false, true}
 use mathlib.Core.List.{List, [], _++_, _∷_}
-use Prim.Native.Nat.{_+_, suc, zero, ℕ}
+use Prim.Native.Nat.{_+_, _-_, suc, zero, ℕ}
 use lib.ListN.{replicate}
 use Rattle.calculus.specs.Bytes.{word}
-use Rattle.recipe_file.specs.File.{parts, bays, table-bytes, term-bytes, pair-offset, offset-of, length-of, part, outside, cause-1, opens, edition-known, cause-2, pairs-test, table-length-test, cause-3, layout-refusal}
+use Rattle.calculus.specs.Limits.{min-bays, max-bays, min-parts, max-parts}
+use Rattle.recipe_file.proofs.Causes.{bays-outside}
+use Rattle.recipe_file.specs.Editions.{edition-1}
+use Rattle.recipe_file.specs.File.{parts, bays, table-bytes, term-bytes, pair-offset, offset-of, length-of, part, outside, cause-1, opens, edition-of, cause-2, pairs-test, table-length-test, cause-3, layout-refusal}
 
 -- "table of three entries"
 abbrev table-3 : List ℕ
@@ -20,7 +23,7 @@ abbrev pub case-A : List ℕ
 case-A = one-bay (0x0C ∷ 0 ∷ 9 ∷ 0 ∷ 0x15 ∷ 0 ∷ 1 ∷ 0 ∷ []) (table-3 ++ (3 ∷ []))
 
 pub case-A-laid : layout-refusal case-A ≡ 0
-unfolding layout-refusal cause-1 cause-2 cause-3 outside opens edition-known parts pairs-test offset-of length-of word table-length-test
+unfolding layout-refusal cause-1 cause-2 cause-3 outside opens edition-of bays parts pairs-test offset-of length-of word table-length-test
 case-A-laid = refl
 
 pub case-A-table : table-bytes case-A ≡ table-3
@@ -28,11 +31,11 @@ unfolding table-bytes part offset-of length-of word
 case-A-table = refl
 
 pub case-A-term : term-bytes case-A 0 ≡ 3 ∷ []
-unfolding term-bytes part offset-of length-of word
+unfolding term-bytes edition-of part offset-of length-of word
 case-A-term = refl
 
 pub case-A-bays : bays case-A ≡ 1
-unfolding bays parts
+unfolding bays edition-of parts
 case-A-bays = refl
 
 -- an empty file, 11 bytes, 8,193 bytes
@@ -61,51 +64,59 @@ abbrev pub many-bays : ℕ → List ℕ
 many-bays b = 0x4C ∷ 0x46 ∷ 1 ∷ (b + 1) ∷ pair-offset (b + 1) ∷ 0 ∷ 9 ∷ 0 ∷ pairs-from b (pair-offset (b + 1) + 9) ++ table-3 ++ replicate b 3
 
 pub case-J-17 : layout-refusal (many-bays 16) ≡ 0
-unfolding layout-refusal cause-1 cause-2 cause-3 outside opens edition-known parts pairs-test offset-of length-of word table-length-test pairs-from
+unfolding layout-refusal cause-1 cause-2 cause-3 outside opens edition-of bays parts pairs-test offset-of length-of word table-length-test pairs-from
 case-J-17 = refl
 
 pub case-J-18 : layout-refusal (many-bays 17) ≡ 2
-unfolding layout-refusal cause-1 cause-2 outside opens edition-known parts pairs-from
+unfolding layout-refusal cause-1 cause-2 outside opens edition-of bays parts pairs-from
 case-J-18 = refl
 
 -- no bay
 pub one-part : layout-refusal (many-bays 0) ≡ 2
-unfolding layout-refusal cause-1 cause-2 outside opens edition-known parts pairs-from
+unfolding layout-refusal cause-1 cause-2 outside opens edition-of bays parts pairs-from
 one-part = refl
 
--- another opening, another edition
+-- document 01, "n outside 2 to 17", in its edition
+pub two-to-seventeen : (n : ℕ) → outside min-parts max-parts n ≡ outside min-bays max-bays (n - edition-1 .terms)
+two-to-seventeen n = bays-outside (edition-1 .terms) n
+
+-- another opening, editions 0 and 2
 pub other-opening : layout-refusal (0x4C ∷ 0x45 ∷ replicate 10 0) ≡ 2
 unfolding layout-refusal cause-1 cause-2 outside opens
 other-opening = refl
 
+pub edition-0 : layout-refusal (0x4C ∷ 0x46 ∷ 0 ∷ 2 ∷ replicate 10 0) ≡ 2
+unfolding layout-refusal cause-1 cause-2 outside opens edition-of bays
+edition-0 = refl
+
 pub other-edition : layout-refusal (0x4C ∷ 0x46 ∷ 2 ∷ 2 ∷ replicate 10 0) ≡ 2
-unfolding layout-refusal cause-1 cause-2 outside opens edition-known
+unfolding layout-refusal cause-1 cause-2 outside opens edition-of bays
 other-edition = refl
 
 -- a file that is shorter than its pairs
 pub cut-pairs : layout-refusal (0x4C ∷ 0x46 ∷ 1 ∷ 17 ∷ replicate 10 0) ≡ 3
-unfolding layout-refusal cause-1 cause-2 cause-3 outside opens edition-known parts pairs-test offset-of length-of word
+unfolding layout-refusal cause-1 cause-2 cause-3 outside opens edition-of bays parts pairs-test offset-of length-of word
 cut-pairs = refl
 
 -- a gap between table and term, a byte over, a term of length zero, a table of ten bytes, a table of two entries
 pub gap : layout-refusal (one-bay (12 ∷ 0 ∷ 9 ∷ 0 ∷ 22 ∷ 0 ∷ 1 ∷ 0 ∷ []) (table-3 ++ (3 ∷ 3 ∷ []))) ≡ 3
-unfolding layout-refusal cause-1 cause-2 cause-3 outside opens edition-known parts pairs-test offset-of length-of word
+unfolding layout-refusal cause-1 cause-2 cause-3 outside opens edition-of bays parts pairs-test offset-of length-of word
 gap = refl
 
 pub byte-over : layout-refusal (case-A ++ (0 ∷ [])) ≡ 3
-unfolding layout-refusal cause-1 cause-2 cause-3 outside opens edition-known parts pairs-test offset-of length-of word
+unfolding layout-refusal cause-1 cause-2 cause-3 outside opens edition-of bays parts pairs-test offset-of length-of word
 byte-over = refl
 
 pub no-term : layout-refusal (one-bay (12 ∷ 0 ∷ 9 ∷ 0 ∷ 21 ∷ 0 ∷ 0 ∷ 0 ∷ []) table-3) ≡ 3
-unfolding layout-refusal cause-1 cause-2 cause-3 outside opens edition-known parts pairs-test offset-of length-of word
+unfolding layout-refusal cause-1 cause-2 cause-3 outside opens edition-of bays parts pairs-test offset-of length-of word
 no-term = refl
 
 pub ten-bytes : layout-refusal (one-bay (12 ∷ 0 ∷ 10 ∷ 0 ∷ 22 ∷ 0 ∷ 1 ∷ 0 ∷ []) (table-3 ++ (3 ∷ 3 ∷ []))) ≡ 3
-unfolding layout-refusal cause-1 cause-2 cause-3 outside opens edition-known parts pairs-test offset-of length-of word table-length-test
+unfolding layout-refusal cause-1 cause-2 cause-3 outside opens edition-of bays parts pairs-test offset-of length-of word table-length-test
 ten-bytes = refl
 
 pub two-entries : layout-refusal (one-bay (12 ∷ 0 ∷ 6 ∷ 0 ∷ 18 ∷ 0 ∷ 1 ∷ 0 ∷ []) (0 ∷ 0 ∷ 0 ∷ 1 ∷ 0 ∷ 0 ∷ 3 ∷ [])) ≡ 3
-unfolding layout-refusal cause-1 cause-2 cause-3 outside opens edition-known parts pairs-test offset-of length-of word table-length-test
+unfolding layout-refusal cause-1 cause-2 cause-3 outside opens edition-of bays parts pairs-test offset-of length-of word table-length-test
 two-entries = refl
 
 pub most-entries : table-length-test 768 ≡ true

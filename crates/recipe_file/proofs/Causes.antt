@@ -1,15 +1,33 @@
 -- Causes 2 and 3 and the lowest cause, by the tests that led to an answer.
-use mathlib.Core.Path.{_∙_, _≡_, refl, sym}
-use mathlib.Core.Bool.{Bool, false, not, true}
+use mathlib.Core.Path.{_∙_, _≡_, ap₂, refl, sym}
+use mathlib.Core.Bool.{Bool, _||_, false, not, true}
 use mathlib.Core.List.{List}
-use Prim.Native.Nat.{_%_, _*_, _<_, _≤_, ℕ}
-use borrow.Author.Tests.{eq-eqb, ne-eqb}
+use Prim.Native.Nat.{_%_, _*_, _+_, _-_, _<_, _≤_, ℕ}
+use native.Mathlib.Decide.{decLt}
+use native.Mathlib.Omega.{arith}
+use borrow.Author.Tests.{eq-eqb, le-ltb, lt-ltb, ne-eqb}
+use lib.Dec.{ltb}
 use lib.ListN.{getD, length}
 use Rattle.calculus.specs.Causes.{file-length-cause, opening-cause, layout-cause}
-use Rattle.calculus.specs.Limits.{min-entries, max-entries, min-file-length, max-file-length, min-parts, max-parts}
-use Rattle.recipe_file.specs.File.{edition, opening, parts, table-part, pair-offset, length-of, outside, cause-1, opens, edition-known, cause-2, pairs-test, entry-length, table-length-test, cause-3, layout-refusal}
+use Rattle.calculus.specs.Limits.{min-entries, max-entries, min-bays, max-bays, min-file-length, max-file-length}
+use Rattle.recipe_file.specs.declared.Edition.{Edition}
+use Rattle.recipe_file.specs.File.{edition-of, opening, parts, bays, table-part, pair-offset, length-of, outside, cause-1, opens, cause-2, pairs-test, entry-length, table-length-test, cause-3, layout-refusal}
 use Rattle.recipe_file.proofs.Chains.{pairs-cut}
 use Rattle.recipe_file.proofs.LaidOut.{between}
+
+-- n is outside what the bays leave exactly when b is outside 1 to 16
+pub bays-outside : (terms n : ℕ) → outside (terms + min-bays) (terms + max-bays) n ≡ outside min-bays max-bays (n - terms)
+unfolding outside
+bays-outside terms n = ap₂ _||_ (same-test n (terms + min-bays) (n - terms) min-bays (λ l. omega arith) (λ l. omega arith)) (same-test (terms + max-bays) n max-bays (n - terms) (λ l. omega arith) (λ l. omega arith))
+  where
+    same-test : (a b c d : ℕ) → (a < b → c < d) → (c < d → a < b) → ltb a b ≡ ltb c d
+    same-test a b c d f g = elim (decLt a b) [
+      | yes l ↦ lt-ltb a b l ∙ sym (lt-ltb c d (f l))
+      | no n ↦ le-ltb a b (omega arith) ∙ sym (le-ltb c d (elim (decLt c d) [
+        | yes l ↦ absurd (n (g l))
+        | no m ↦ omega arith
+      ]))
+    ]
 
 -- cause 2
 module _ (s : List ℕ) where
@@ -27,13 +45,14 @@ module _ (s : List ℕ) where
       unfolding opens
       opened = rw (eq-eqb (getD s 0 0) 0x4C a, eq-eqb (getD s 1 0) 0x46 b) refl
 
-      pub other-edition : (getD s 2 0 ≡ edition → ⊥) → true ≡ cause-2 s
-      unfolding cause-2 edition-known
-      other-edition f = rw (opened, ne-eqb (getD s 2 0) edition f) refl
+      module _ (e : Edition) (says : e ≡ edition-of s) where
+        pub other-edition : (getD s 2 0 ≡ e .number → ⊥) → true ≡ cause-2 s
+        unfolding cause-2
+        other-edition f = rw (opened, ← says, ne-eqb (getD s 2 0) (e .number) f) refl
 
-      pub opening-stands : getD s 2 0 ≡ edition → (n : ℕ) → n ≡ getD s 3 0 → outside min-parts max-parts n ≡ cause-2 s
-      unfolding cause-2 edition-known parts
-      opening-stands c n e = rw (opened, eq-eqb (getD s 2 0) edition c, e) refl
+        pub opening-stands : getD s 2 0 ≡ e .number → (n : ℕ) → n ≡ getD s 3 0 → outside (e .terms + min-bays) (e .terms + max-bays) n ≡ cause-2 s
+        unfolding cause-2 bays parts
+        opening-stands c n p = rw (opened, ← says, eq-eqb (getD s 2 0) (e .number) c, ← p) (bays-outside (e .terms) n)
 
 -- the table's length
 pub no-multiple : (n : ℕ) → (n % entry-length ≡ 0 → ⊥) → false ≡ table-length-test n

@@ -7,9 +7,10 @@ use native.Mathlib.Omega.{arith}
 use borrow.Author.Tests.{eq-eqb, eqb-true, eqb-false, ne-eqb, not-true}
 use lib.Dec.{eqb}
 use lib.ListN.{length}
+use Rattle.calculus.specs.Limits.{min-bays, max-bays}
 use Rattle.calculus.specs.Theory.Tests.{and-true, and-parts}
-use Rattle.recipe_file.specs.File.{parts, pair-offset, offset-of, length-of, pairs-test}
-use Rattle.recipe_file.specs.FileRule.{FileRule}
+use Rattle.recipe_file.specs.File.{parts, bays, pair-offset, offset-of, length-of, pairs-test}
+use Rattle.recipe_file.specs.FileRule.{Between, FileRule}
 
 -- k pairs, of which i is the first and its part begins at `at`, keep the layout to the end of the file
 abbrev pub Chain : List ℕ → ℕ → ℕ → ℕ → Type 0
@@ -88,5 +89,10 @@ chain-of s l (suc k) i at e f g =
       chain-of s l k (i + 1) (at + length-of s i) (omega arith) (λ h. omega (arith, l .next i (omega arith))) (λ h. omega (arith, l .last i (omega arith))),
     )
 
+-- with a bay there is a part
+pub some-part : (s : List ℕ) → Between min-bays max-bays (bays s) → 0 < parts s
+unfolding bays
+some-part s b = omega (arith, b .low)
+
 pub chain : (s : List ℕ) → FileRule s → Chain s (parts s) 0 (pair-offset (parts s))
-chain s l = chain-of s l (parts s) 0 (pair-offset (parts s)) (omega arith) (λ h. l .first) (λ h. absurd (omega (arith, l .has-parts .low)))
+chain s l = chain-of s l (parts s) 0 (pair-offset (parts s)) (omega arith) (λ h. l .first) (λ h. absurd (omega (arith, some-part s (l .has-parts))))

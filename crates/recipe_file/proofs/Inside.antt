@@ -4,10 +4,16 @@ use mathlib.Core.List.{List}
 use Prim.Native.Nat.{_+_, _-_, _<_, _≤_, suc, zero, ℕ}
 use native.Mathlib.Omega.{arith}
 use lib.ListN.{length, length-drop, length-take}
-use Rattle.calculus.specs.Limits.{max-bays}
-use Rattle.recipe_file.specs.File.{parts, table-part, first-term, bays, pair-offset, offset-of, length-of, part, table-bytes}
-use Rattle.recipe_file.specs.FileRule.{Between, FileRule, HasPart, HasBay}
-use Rattle.recipe_file.proofs.Chains.{chain-room, chain-inside, chain}
+use Rattle.calculus.specs.Limits.{byte-values}
+use Rattle.recipe_file.specs.File.{parts, table-part, edition-of, bays, pair-offset, offset-of, length-of, part, table-bytes}
+use Rattle.recipe_file.specs.FileRule.{FileRule, HasPart, HasBay}
+use Rattle.recipe_file.proofs.Editions.{edition-rule}
+use Rattle.recipe_file.proofs.Chains.{some-part, chain-room, chain-inside, chain}
+
+-- "Byte 3 is n"
+pub few-parts : {s : List ℕ} → FileRule s → parts s < byte-values
+unfolding bays
+few-parts {s} l = omega (arith, l .has-parts .high, edition-rule s .one-byte)
 
 pub pairs-inside : {s : List ℕ} → FileRule s → pair-offset (parts s) ≤ length s
 pairs-inside {s} l = omega (arith, chain-room s (parts s) 0 (pair-offset (parts s)) (chain s l))
@@ -21,20 +27,15 @@ length-part {s} {i} h = let w = part-inside h in simp (length-take, length-drop)
 
 -- the table and the terms are parts
 pub table-is-part : {s : List ℕ} → FileRule s → HasPart s table-part
-table-is-part l = record { laid = l; below = omega (arith, l .has-parts .low) }
+table-is-part l = record { laid = l; below = some-part _ (l .has-parts) }
 
 pub length-table-bytes : {s : List ℕ} → FileRule s → length (table-bytes s) ≡ length-of s table-part
 unfolding table-bytes
 length-table-bytes l = length-part (table-is-part l)
 
-pub term-is-part : {s : List ℕ} {bay : ℕ} → HasBay s bay → HasPart s (first-term + bay)
+pub term-is-part : {s : List ℕ} {bay : ℕ} → HasBay s bay → HasPart s (edition-of s .terms + bay)
 unfolding bays
 term-is-part h = record { laid = h .laid; below = omega (arith, h .below) }
-
--- "2 to 17 parts", so 1 to 16 bays
-pub bays-between : {s : List ℕ} → FileRule s → Between 1 max-bays (bays s)
-unfolding bays
-bays-between l = record { low = omega (arith, l .has-parts .low); high = omega (arith, l .has-parts .high) }
 
 -- "sorted by offset"
 sorted-by : (s : List ℕ) → FileRule s → (i k : ℕ) → i + suc k < parts s → offset-of s i < offset-of s (i + suc k)

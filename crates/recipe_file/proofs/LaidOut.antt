@@ -9,11 +9,11 @@ use borrow.Author.Tests.{eq-eqb, eqb-true, le-ltb, ltb-false, not-false, not-tru
 use lib.Dec.{eqb, ltb}
 use lib.ListN.{getD, length, take}
 use Rattle.calculus.specs.Theory.Lowest.{none-fits}
-use Rattle.calculus.specs.Limits.{min-file-length, max-file-length, min-parts, max-parts, min-entries, max-entries}
+use Rattle.calculus.specs.Limits.{min-file-length, max-file-length, min-bays, max-bays, min-entries, max-entries}
 use Rattle.calculus.specs.Theory.Tests.{and-true, and-parts}
-use Rattle.recipe_file.specs.File.{opening, edition, parts, table-part, pair-offset, length-of, outside, cause-1, opens, edition-known, cause-2, pairs-test, entry-length, table-length-test, cause-3, layout-refusal, layout-causes}
+use Rattle.recipe_file.specs.File.{opening, edition-of, parts, bays, table-part, pair-offset, length-of, outside, cause-1, opens, cause-2, pairs-test, entry-length, table-length-test, cause-3, layout-refusal, layout-causes}
 use Rattle.recipe_file.specs.FileRule.{Between, FileRule}
-use Rattle.recipe_file.proofs.Chains.{chain-sound, chain-complete, chain-first, chain-next, chain-last, chain-some, chain}
+use Rattle.recipe_file.proofs.Chains.{some-part, chain-sound, chain-complete, chain-first, chain-next, chain-last, chain-some, chain}
 
 -- tests
 pub or-parts : (a b : Bool) → (a || b) ≡ false → (a ≡ false) × (b ≡ false)
@@ -67,20 +67,20 @@ entries-complete n (t, e, b) =
     (ap not (within 9 768 n (record { low = omega (arith, b .low); high = omega (arith, b .high) })))
 
 pub laid : (s : List ℕ) → cause-1 s ≡ false → cause-2 s ≡ false → cause-3 s ≡ false → FileRule s
-unfolding cause-1 cause-2 cause-3 edition-known
+unfolding cause-1 cause-2 cause-3
 laid s e₁ e₂ e₃ =
     let size = between min-file-length max-file-length (length s) e₁ in
     let (o, f) = or-parts (not (opens s)) _ e₂ in
-    let (v, n) = or-parts (not (edition-known s)) (outside min-parts max-parts (parts s)) f in
+    let (v, n) = or-parts (not (eqb (getD s 2 0) (edition-of s .number))) (outside min-bays max-bays (bays s)) f in
     let (p, t) = or-parts (not (pairs-test s (parts s) 0 (pair-offset (parts s)))) (not (table-length-test (length-of s table-part))) e₃ in
-    let ps = between min-parts max-parts (parts s) n in
+    let ps = between min-bays max-bays (bays s) n in
     let c = chain-sound s (parts s) 0 (pair-offset (parts s)) (not-false _ p) in
     record {
       size = size;
       opens-so = opens-sound s (omega (arith, size .low)) (not-false (opens s) o);
-      has-edition = eqb-true (getD s 2 0) edition (not-false (eqb (getD s 2 0) edition) v);
+      has-edition = eqb-true (getD s 2 0) (edition-of s .number) (not-false _ v);
       has-parts = ps;
-      first = chain-first s c (omega (arith, ps .low));
+      first = chain-first s c (some-part s ps);
       next = chain-next s c;
       last = chain-last s c;
       some-length = chain-some s c;
@@ -93,10 +93,10 @@ module _ {s : List ℕ} (l : FileRule s) where
   no-cause-1 = within min-file-length max-file-length (length s) (l .size)
 
   pub no-cause-2 : cause-2 s ≡ false
-  unfolding cause-2 edition-known
+  unfolding cause-2
   no-cause-2 =
       or-false (ap not (opens-complete s (l .opens-so)))
-      (or-false (ap not (eq-eqb (getD s 2 0) edition (l .has-edition))) (within min-parts max-parts (parts s) (l .has-parts)))
+      (or-false (ap not (eq-eqb (getD s 2 0) (edition-of s .number) (l .has-edition))) (within min-bays max-bays (bays s) (l .has-parts)))
 
   pub no-cause-3 : cause-3 s ≡ false
   unfolding cause-3

@@ -1,3 +1,5 @@
+-- what every known edition keeps
+pub mod Editions
 -- the pairs, one after the other
 mod Chains
 -- what a reader of a laid out file uses

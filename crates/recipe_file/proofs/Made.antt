@@ -6,9 +6,12 @@ use native.Mathlib.Omega.{arith}
 use lib.ListN.{drop, getD, length, length-append, length-drop, length-take}
 use lib.Seq.{drop-append-seam, drop-drop, getD-drop, take-append-seam}
 use Rattle.calculus.specs.Bytes.{two-bytes, word}
-use Rattle.recipe_file.specs.File.{edition, parts, table-part, pair-offset, offset-of, length-of, part}
-use Rattle.recipe_file.specs.FileRule.{FileRule}
+use Rattle.calculus.specs.Limits.{min-bays, max-bays}
+use Rattle.recipe_file.specs.declared.Edition.{Edition}
+use Rattle.recipe_file.specs.File.{parts, bays, table-part, pair-offset, offset-of, length-of, part}
+use Rattle.recipe_file.specs.FileRule.{Between, FileRule}
 use Rattle.recipe_file.specs.Whole.{pairs-of, joined, file-of, parts-from, all-parts, NoneEmpty, Makes}
+use Rattle.recipe_file.proofs.Editions.{EditionRule, edition-rule}
 use Rattle.recipe_file.proofs.Chains.{Chain, chain-first, chain-next, chain-last, chain-some, chain-inside}
 
 -- the number whose bytes stand at j
@@ -60,51 +63,58 @@ unfolding joined
 length-joined [] f = omega arith
 length-joined (p ∷ ps) (f, g) = omega (arith, length-append p (joined ps), length-joined ps g)
 
-module _ (ps : List (List ℕ)) (k : Makes ps) where
-  whole : Chain (file-of ps) (parts (file-of ps)) 0 (pair-offset (parts (file-of ps))) × (all-parts (file-of ps) ≡ ps)
+module _ (e : Edition) (ps : List (List ℕ)) (k : Makes e ps) where
+  whole : Chain (file-of e ps) (parts (file-of e ps)) 0 (pair-offset (parts (file-of e ps))) × (all-parts (file-of e ps) ≡ ps)
   unfolding file-of parts all-parts
   whole =
-      let j : drop (pair-offset (length ps)) (file-of ps) ≡ joined ps =
-      behind-four 0x4C 0x46 edition (length ps) (pairs-of (pair-offset (length ps)) ps) (joined ps) (pair-offset (length ps)) (omega (arith, length-pairs (pair-offset (length ps)) ps)) in
-      made (file-of ps) ps 0 (pair-offset (length ps)) (joined ps) (k .none-empty) refl j
+      let j : drop (pair-offset (length ps)) (file-of e ps) ≡ joined ps =
+      behind-four 0x4C 0x46 (e .number) (length ps) (pairs-of (pair-offset (length ps)) ps) (joined ps) (pair-offset (length ps)) (omega (arith, length-pairs (pair-offset (length ps)) ps)) in
+      made (file-of e ps) ps 0 (pair-offset (length ps)) (joined ps) (k .none-empty) refl j
       (omega (arith, length-append (pairs-of (pair-offset (length ps)) ps) (joined ps), length-pairs (pair-offset (length ps)) ps))
 
-  pub made-parts : all-parts (file-of ps) ≡ ps
+  edition : EditionRule e
+  edition = rw (k .known) at (edition-rule (file-of e ps))
+
+  pub made-parts : all-parts (file-of e ps) ≡ ps
   made-parts = whole .1
 
-  parts-made : parts (file-of ps) ≡ length ps
+  parts-made : parts (file-of e ps) ≡ length ps
   unfolding file-of parts
   parts-made = refl
 
-  first-part : (qs : List (List ℕ)) → 0 < length qs → (n i : ℕ) → parts-from (file-of ps) n i ≡ qs → part (file-of ps) i ≡ getD qs 0 []
+  first-part : (qs : List (List ℕ)) → 0 < length qs → (n i : ℕ) → parts-from (file-of e ps) n i ≡ qs → part (file-of e ps) i ≡ getD qs 0 []
   unfolding parts-from
   first-part [] h n i e = absurd (omega arith)
   first-part (q ∷ qs) h zero i e = absurd (omega (arith, ap length e))
   first-part (q ∷ qs) h (suc n) i e = ap (λ (x : List (List ℕ)). getD x 0 []) e
 
-  table-length : length-of (file-of ps) 0 ≡ length (getD ps table-part [])
+  table-length : length-of (file-of e ps) 0 ≡ length (getD ps table-part [])
   unfolding all-parts part
   table-length =
-      let s = file-of ps in
+      let s = file-of e ps in
       let n : 0 < parts s = omega (arith, parts-made, k .number .low) in
       let i = chain-inside s (whole .0) 0 n in
       let t : part s 0 ≡ getD ps 0 [] = first-part ps (omega (arith, k .number .low)) (parts s) 0 made-parts in
       let l : length (part s 0) ≡ length-of s 0 = simp (length-take, length-drop) (omega arith) in
       sym l ∙ ap length t
 
-  pub made-laid : FileRule (file-of ps)
+  bays-made : Between min-bays max-bays (bays (file-of e ps))
+  unfolding bays
+  bays-made = rw (k .known, parts-made) (k .number)
+
+  pub made-laid : FileRule (file-of e ps)
   unfolding file-of parts
   made-laid =
-      let s = file-of ps in
+      let s = file-of e ps in
       let n = length-joined ps (k .none-empty) in
       record {
-        size = record { low = omega (arith, k .number .low, length-append (pairs-of (pair-offset (length ps)) ps) (joined ps), length-pairs (pair-offset (length ps)) ps); high = k .short };
+        size = record { low = omega (arith, k .number .low, edition .behind-table, length-append (pairs-of (pair-offset (length ps)) ps) (joined ps), length-pairs (pair-offset (length ps)) ps); high = k .short };
         opens-so = refl;
-        has-edition = refl;
-        has-parts = k .number;
+        has-edition = ap (λ (f : Edition). f .number) (sym (k .known));
+        has-parts = bays-made;
         first = chain-first s (whole .0) (omega (arith, k .number .low));
         next = chain-next s (whole .0);
         last = chain-last s (whole .0);
         some-length = chain-some s (whole .0);
-        entries = let (t, e, b) = k .table in (t, table-length ∙ e, b);
+        entries = let (t, q, b) = k .table in (t, table-length ∙ q, b);
       }

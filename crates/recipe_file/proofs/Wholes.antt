@@ -1,5 +1,5 @@
--- A file that is laid out is the file of its parts: opening, edition, number of parts, pairs, parts. So files with equal parts are equal.
-use mathlib.Core.Path.{_∙_, _≡_, ap, refl, sym}
+-- A file that is laid out is the file of its parts: opening, edition, number of parts, pairs, parts. So files of one edition with equal parts are equal.
+use mathlib.Core.Path.{_∙_, _≡_, ap, ap₂, refl, sym}
 use mathlib.Core.List.{List, [], _++_, _∷_}
 use Prim.Native.Nat.{_%_, _*_, _+_, _/_, _<_, _≤_, suc, zero, ℕ}
 use native.Mathlib.Numerals.{add-one}
@@ -7,7 +7,7 @@ use native.Mathlib.Omega.{arith}
 use lib.ListN.{drop, getD, length, take, take-append-drop}
 use lib.Seq.{drop-cons, drop-drop, drop-length}
 use Rattle.calculus.specs.Bytes.{Bytes, two-bytes, word}
-use Rattle.recipe_file.specs.File.{opening, edition, parts, pair-offset, offset-of, length-of, part}
+use Rattle.recipe_file.specs.File.{opening, edition-of, parts, pair-offset, offset-of, length-of, part}
 use Rattle.recipe_file.specs.FileRule.{FileRule}
 use Rattle.recipe_file.specs.Whole.{pairs-of, joined, file-of, parts-from, all-parts}
 use Rattle.recipe_file.proofs.Chains.{Chain, chain}
@@ -58,19 +58,19 @@ module _ (s : List ℕ) (l : FileRule s) where
       rw (n, q, g, ← o, bytes-word s b (pair-offset i), bytes-word s b (pair-offset i + 2), f, four s (pair-offset i) (4 * k) (omega arith)) refl
 
 -- the first four bytes
-head : (s : List ℕ) → 4 ≤ length s → take (length opening) s ≡ opening → getD s 2 0 ≡ edition → s ≡ opening ++ (edition ∷ parts s ∷ drop 4 s)
+head : (s : List ℕ) (n : ℕ) → 4 ≤ length s → take (length opening) s ≡ opening → getD s 2 0 ≡ n → s ≡ opening ++ (n ∷ parts s ∷ drop 4 s)
 unfolding parts
-head [] h e f = absurd (omega arith)
-head (a ∷ []) h e f = absurd (omega arith)
-head (a ∷ b ∷ []) h e f = absurd (omega arith)
-head (a ∷ b ∷ c ∷ []) h e f = absurd (omega arith)
-head (a ∷ b ∷ c ∷ d ∷ s) h e f =
+head [] n h e f = absurd (omega arith)
+head (a ∷ []) n h e f = absurd (omega arith)
+head (a ∷ b ∷ []) n h e f = absurd (omega arith)
+head (a ∷ b ∷ c ∷ []) n h e f = absurd (omega arith)
+head (a ∷ b ∷ c ∷ d ∷ s) n h e f =
     let p : a ≡ 0x4C = cc in
     let q : b ≡ 0x46 = cc in
     rw (p, q, f) refl
 
 -- the file is the opening, the edition, the number of its parts, their pairs, and the parts
-pub one-reading : (s : List ℕ) → FileRule s → Bytes s → file-of (all-parts s) ≡ s
+pub one-reading : (s : List ℕ) → FileRule s → Bytes s → file-of (edition-of s) (all-parts s) ≡ s
 unfolding file-of all-parts
 one-reading s l b =
     let n = length-parts s (parts s) 0 in
@@ -78,8 +78,8 @@ one-reading s l b =
     let p = pairs-from s l b (parts s) 0 (pair-offset (parts s)) (omega arith) c in
     let q = joined-from s l (parts s) 0 (pair-offset (parts s)) c in
     let e : drop (pair-offset (parts s)) s ≡ drop (4 * parts s) (drop 4 s) = sym (drop-drop (4 * parts s) 4 s) in
-    rw (n, p, q, e, take-append-drop) (sym (head s (omega (arith, l .size .low)) (l .opens-so) (l .has-edition)))
+    rw (n, p, q, e, take-append-drop) (sym (head s (edition-of s .number) (omega (arith, l .size .low)) (l .opens-so) (l .has-edition)))
 
--- so a file is known by its parts
-pub same-parts : (s s′ : List ℕ) → FileRule s → FileRule s′ → Bytes s → Bytes s′ → all-parts s ≡ all-parts s′ → s ≡ s′
-same-parts s s′ l l′ b b′ e = sym (one-reading s l b) ∙ (ap file-of e ∙ one-reading s′ l′ b′)
+-- so a file is known by its edition and its parts
+pub same-parts : (s s′ : List ℕ) → FileRule s → FileRule s′ → Bytes s → Bytes s′ → edition-of s ≡ edition-of s′ → all-parts s ≡ all-parts s′ → s ≡ s′
+same-parts s s′ l l′ b b′ d e = sym (one-reading s l b) ∙ (ap₂ file-of d e ∙ one-reading s′ l′ b′)

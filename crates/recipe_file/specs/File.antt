@@ -6,16 +6,18 @@ use lib.Dec.{eqb, ltb}
 use lib.ListN.{drop, getD, length, take}
 use Rattle.calculus.specs.Bytes.{word}
 use Rattle.calculus.specs.Causes.{file-length-cause, opening-cause, layout-cause}
-use Rattle.calculus.specs.Lowest.{Cause, cause, lowest}
-use Rattle.calculus.specs.Limits.{min-file-length, max-file-length, min-parts, max-parts, min-entries, max-entries}
+use Rattle.calculus.specs.Lowest.{Cause, cause, first-cause}
+use Rattle.calculus.specs.Limits.{min-file-length, max-file-length, min-bays, max-bays, min-entries, max-entries}
+use Rattle.recipe_file.specs.declared.Edition.{Edition}
+use Rattle.recipe_file.specs.Editions.{edition-1, editions}
 
 -- document 01, "Bytes 0 and 1 are 4C 46"
 abbrev pub opening : List ℕ
 opening = 0x4C ∷ 0x46 ∷ []
 
--- document 01, "Byte 2 is the edition, 01"
-abbrev pub edition : ℕ
-edition = 1
+-- document 01, "Byte 2 is the edition": the one that a file says; the first, where it says none that is known
+unfoldable pub edition-of : List ℕ → Edition
+edition-of s = getD editions (getD s 2 0 - 1) edition-1
 
 -- document 01, "Byte 3 is n, the number of parts"
 unfoldable pub parts : List ℕ → ℕ
@@ -41,13 +43,9 @@ part s i = take (length-of s i) (drop (offset-of s i) s)
 abbrev pub table-part : ℕ
 table-part = 0
 
--- "then one term for each" bay: the part of the first
-abbrev pub first-term : ℕ
-first-term = 1
-
--- "b = n − 1 bays"
+-- "then one term for each of b = n − 1 bays": which part is the first, the edition says
 unfoldable pub bays : List ℕ → ℕ
-bays s = parts s - first-term
+bays s = parts s - edition-of s .terms
 
 -- the bytes of the type table
 unfoldable pub table-bytes : List ℕ → List ℕ
@@ -55,7 +53,7 @@ table-bytes s = part s table-part
 
 -- the bytes of a bay's term
 unfoldable pub term-bytes : List ℕ → ℕ → List ℕ
-term-bytes s bay = part s (first-term + bay)
+term-bytes s bay = part s (edition-of s .terms + bay)
 
 -- n is below `least` or above `most`
 unfoldable pub outside : ℕ → ℕ → ℕ → Bool
@@ -69,13 +67,9 @@ cause-1 s = outside min-file-length max-file-length (length s)
 unfoldable pub opens : List ℕ → Bool
 opens s = eqb (getD s 0 0) (getD opening 0 0) && eqb (getD s 1 0) (getD opening 1 0)
 
--- "Byte 2 is the edition, 01" as a test
-unfoldable pub edition-known : List ℕ → Bool
-edition-known s = eqb (getD s 2 0) edition
-
--- document 01, cause 2: "first two bytes, edition, or n outside 2 to 17"
+-- document 01, cause 2: "first two bytes, edition, or n outside 2 to 17", so b outside 1 to 16 (proofs.Cases, `two-to-seventeen`)
 unfoldable pub cause-2 : List ℕ → Bool
-cause-2 s = not (opens s) || (not (edition-known s) || outside min-parts max-parts (parts s))
+cause-2 s = not (opens s) || (not (eqb (getD s 2 0) (edition-of s .number)) || outside min-bays max-bays (bays s))
 
 -- document 01, "each next one where the former ends, the last ends with the file. No length is zero": k pairs, of which i is the first, and its part is to
 -- begin at `at`. Since parts go on from 4 + 4n to the end of the file, a file that is shorter fails (proofs.Chains, `pairs-cut`).
@@ -99,6 +93,6 @@ cause-3 s = not (pairs-test s (parts s) 0 (pair-offset (parts s))) || not (table
 abbrev pub layout-causes : List ℕ → List Cause
 layout-causes s = cause file-length-cause (cause-1 s) ∷ cause opening-cause (cause-2 s) ∷ cause layout-cause (cause-3 s) ∷ []
 
--- document 01, "The lowest number that fits wins", for causes 1 to 3; 0 where none fits
+-- the number of the first of them that fits, 0 where none does
 unfoldable pub layout-refusal : List ℕ → ℕ
-layout-refusal s = lowest (layout-causes s)
+layout-refusal s = first-cause (layout-causes s)

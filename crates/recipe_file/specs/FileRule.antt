@@ -4,8 +4,8 @@ use mathlib.Core.Path.{_≡_}
 use mathlib.Core.List.{List}
 use Prim.Native.Nat.{_*_, _+_, _<_, _≤_, ℕ}
 use lib.ListN.{getD, length, take}
-use Rattle.calculus.specs.Limits.{min-file-length, max-file-length, min-parts, max-parts, min-entries, max-entries}
-use Rattle.recipe_file.specs.File.{opening, edition, parts, table-part, bays, pair-offset, offset-of, length-of, entry-length}
+use Rattle.calculus.specs.Limits.{min-file-length, max-file-length, min-bays, max-bays, min-entries, max-entries}
+use Rattle.recipe_file.specs.File.{opening, edition-of, parts, table-part, bays, pair-offset, offset-of, length-of, entry-length}
 
 -- n is from `least` to `most`
 pub record Between (least most n : ℕ) : Type 0 where
@@ -18,10 +18,10 @@ pub record FileRule (s : List ℕ) : Type 0 where
   pub size : Between min-file-length max-file-length (length s)
   -- "Bytes 0 and 1 are 4C 46"
   pub opens-so : take (length opening) s ≡ opening
-  -- "Byte 2 is the edition, 01"
-  pub has-edition : getD s 2 0 ≡ edition
-  -- "2 to 17 parts"
-  pub has-parts : Between min-parts max-parts (parts s)
+  -- "Byte 2 is the edition"
+  pub has-edition : getD s 2 0 ≡ edition-of s .number
+  -- "2 to 17 parts", so 1 to 16 bays
+  pub has-parts : Between min-bays max-bays (bays s)
   -- "The first part begins at 4 + 4n"
   pub first : offset-of s 0 ≡ pair-offset (parts s)
   -- "each next one where the former ends"; so the pairs are "sorted by offset" (proofs.Inside, `sorted`)

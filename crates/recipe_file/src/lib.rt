@@ -4,7 +4,7 @@ ghost use Prim.Native.Nat.{_+_, _*_, _<_, _≤_};
 ghost use lib.ListN.{length};
 ghost use Rattle.calculus.specs.Bytes.{two-byte-values};
 ghost use Rattle.calculus.specs.Limits.{byte-values, min-file-length};
-ghost use Rattle.recipe_file.specs.File.{bays, pair-offset, offset-of, length-of, part, table-bytes, term-bytes, outside, cause-2, pairs-test, table-length-test, cause-3, layout-refusal};
+ghost use Rattle.recipe_file.specs.File.{edition-of, bays, pair-offset, offset-of, length-of, part, table-bytes, term-bytes, outside, cause-2, pairs-test, table-length-test, cause-3, layout-refusal};
 ghost use Rattle.recipe_file.specs.FileRule.{FileRule, HasPart, HasBay};
 
 mod cursor;
@@ -16,13 +16,35 @@ use numbers::Recipe;
 // The first two bytes of every recipe.
 pub const OPENING: [u8; 2] = *b"LF";
 
-// The edition that is read.
-pub const EDITION: u8 = 1;
+// An edition of the recipe file: how many node forms and kinds of types it has, the first ones, and from which part on the parts are terms.
+pub struct Edition {
+    pub number: u8,
+    pub forms: u8,
+    pub kinds: u8,
+    pub terms: usize,
+}
 
-// What the parts are: the type table, then a term for each bay.
+impl Edition {
+    // Document 01's.
+    pub const FIRST: Edition = Edition {
+        number: 1,
+        forms: 10,
+        kinds: 5,
+        terms: 1,
+    };
+
+    // How many are known.
+    pub const COUNT: usize = 1;
+}
+
+// Those that are known, in the order of their numbers.
+const EDITIONS: [Edition; Edition::COUNT] = [Edition::FIRST];
+
+// The part that is the type table.
 const TABLE_PART: usize = 0;
 
-const FIRST_TERM: usize = 1;
+// A recipe has a bay at least.
+const MIN_BAYS: usize = 1;
 
 // The bytes of an entry of the type table.
 pub const ENTRY_LENGTH: usize = 3;
@@ -43,7 +65,7 @@ fn wide(byte: u8) -> usize
 }
 
 // The offset that pair i says.
-fn offset_of(recipe: &[u8], i: usize) -> usize
+pub fn offset_of(recipe: &[u8], i: usize) -> usize
     requires { ⌜ (i < byte-values) × (pair-offset (i + 1) ≤ length (now recipe)) ⌝ }
     ensures { λ r. ⌜ (r ≡ offset-of (now (recipe .entry)) i) × (r < two-byte-values) ⌝ }
 {
@@ -65,9 +87,26 @@ fn is_outside(least: usize, most: usize, n: usize) -> bool
     n < least || most < n
 }
 
+// The edition that a recipe says; the first, where it says none that is known.
+pub fn edition_of(recipe: &[u8]) -> Edition
+    ensures { λ r. ⌜ r ≡ edition-of (now (recipe .entry)) ⌝ }
+{
+    if recipe.len() <= 2 {
+        return Edition::FIRST;
+    }
+    let number = wide(recipe[2]);
+    if number == 0 {
+        return Edition::FIRST;
+    }
+    if Edition::COUNT < number {
+        return Edition::FIRST;
+    }
+    EDITIONS[number - 1]
+}
+
 // Cause 2: the opening, the edition, or the number of parts.
-fn opening_breaks(recipe: &[u8]) -> bool
-    requires { ⌜ min-file-length ≤ length (now recipe) ⌝ }
+fn opening_breaks(recipe: &[u8], edition: Edition) -> bool
+    requires { ⌜ (min-file-length ≤ length (now recipe)) × (edition ≡ edition-of (now recipe)) ⌝ }
     ensures { λ r. ⌜ r ≡ cause-2 (now (recipe .entry)) ⌝ }
 {
     if recipe[0] != OPENING[0] {
@@ -76,10 +115,12 @@ fn opening_breaks(recipe: &[u8]) -> bool
     if recipe[1] != OPENING[1] {
         return true;
     }
-    if recipe[2] != EDITION {
+    if recipe[2] != edition.number {
         return true;
     }
-    is_outside(Recipe::MIN_PARTS, Recipe::MAX_PARTS, wide(recipe[3]))
+    let least = edition.terms + MIN_BAYS;
+    let most = edition.terms + Recipe::MAX_BAYS;
+    is_outside(least, most, wide(recipe[3]))
 }
 
 // The parts of n pairs follow each other from the pairs to the end of the file, and none is empty.
@@ -132,13 +173,14 @@ fn layout_breaks(recipe: &[u8]) -> bool
 }
 
 // The lowest of causes 1 to 3 that fits, or 0.
-pub fn layout_refusal(recipe: &[u8]) -> u8
+pub fn layout_refusal(recipe: &[u8], edition: Edition) -> u8
+    requires { ⌜ edition ≡ edition-of (now recipe) ⌝ }
     ensures { λ r. ⌜ r ≡ layout-refusal (now (recipe .entry)) ⌝ }
 {
     if is_outside(Recipe::MIN_FILE, Recipe::MAX_FILE, recipe.len()) {
         return Cause::FILE_LENGTH;
     }
-    if opening_breaks(recipe) {
+    if opening_breaks(recipe, edition) {
         return Cause::OPENING;
     }
     if layout_breaks(recipe) {
@@ -148,11 +190,11 @@ pub fn layout_refusal(recipe: &[u8]) -> u8
 }
 
 // How many bays a recipe has.
-pub fn bay_count(recipe: &[u8]) -> usize
-    requires { ⌜ FileRule (now recipe) ⌝ }
+pub fn bay_count(recipe: &[u8], edition: Edition) -> usize
+    requires { ⌜ FileRule (now recipe) × (edition ≡ edition-of (now recipe)) ⌝ }
     ensures { λ r. ⌜ r ≡ bays (now (recipe .entry)) ⌝ }
 {
-    wide(recipe[3]) - FIRST_TERM
+    wide(recipe[3]) - edition.terms
 }
 
 // The part that pair i names, as it stands in the recipe.
@@ -174,9 +216,9 @@ pub fn table_bytes(recipe: &[u8]) -> &[u8]
 }
 
 // The bytes of a bay's term.
-pub fn term_bytes(recipe: &[u8], bay: usize) -> &[u8]
-    requires { ⌜ HasBay (now recipe) bay ⌝ }
+pub fn term_bytes(recipe: &[u8], edition: Edition, bay: usize) -> &[u8]
+    requires { ⌜ HasBay (now recipe) bay × (edition ≡ edition-of (now recipe)) ⌝ }
     ensures { λ r. ⌜ now r ≡ term-bytes (now (recipe .entry)) bay ⌝ }
 {
-    part(recipe, FIRST_TERM + bay)
+    part(recipe, edition.terms + bay)
 }

@@ -5,17 +5,18 @@ use mathlib.Core.List.{List, [], _++_, _∷_}
 use Prim.Native.Nat.{ℕ}
 use Rattle.calculus.specs.Bytes.{word}
 use Rattle.calculus.specs.Table.{test-entry, entry-test, entries-test, same-entry, new-to, distinct-test, entry-is, table-test}
-use Rattle.recipe_file.specs.File.{parts, offset-of, length-of, part, table-bytes, outside, cause-1, opens, edition-known, cause-2, pairs-test, table-length-test, cause-3}
+use Rattle.recipe_file.specs.Editions.{edition-1}
+use Rattle.recipe_file.specs.File.{bays, parts, offset-of, length-of, part, table-bytes, outside, cause-1, opens, edition-of, cause-2, pairs-test, table-length-test, cause-3}
 use Rattle.recipe_file.proofs.Cases.{case-A}
 use Rattle.recipe_table.specs.Entries.{table-of, type-table, cause-4, table-refusal}
 
 pub case-A-stands : table-refusal case-A ≡ 0
-unfolding table-refusal cause-1 cause-2 cause-3 cause-4 outside opens edition-known parts pairs-test offset-of length-of word table-length-test type-table table-bytes part table-of table-test entries-test entry-test distinct-test new-to same-entry entry-is test-entry
+unfolding table-refusal cause-1 cause-2 cause-3 cause-4 outside opens edition-of bays parts pairs-test offset-of length-of word table-length-test type-table table-bytes part table-of table-test entries-test entry-test distinct-test new-to same-entry entry-is test-entry
 case-A-stands = refl
 
 -- the table of some bytes keeps its rules
 abbrev stands : List ℕ → Bool
-stands l = table-test (table-of l)
+stands l = table-test (edition-1 .kinds) (table-of l)
 
 abbrev first-three : List ℕ
 first-three = 0 ∷ 0 ∷ 0 ∷ 1 ∷ 0 ∷ 0 ∷ 2 ∷ 1 ∷ 0 ∷ []

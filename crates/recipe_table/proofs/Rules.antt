@@ -62,6 +62,14 @@ module _ (k kind p q : ℕ) where
     pub function-not : k ≤ p → ltb p k ≡ calculus.entry-test k kind p q
     function-not e = le-ltb p k e ∙ sym (function k kind p q h f b ∙ rw (le-ltb p k e) refl)
 
+-- the kind is one of the edition's, or not
+module _ (kinds kind : ℕ) (t : Bool) where
+  pub kind-known : kind < kinds → {r : Bool} → r ≡ t → r ≡ (ltb kind kinds && t)
+  kind-known h e = rw (lt-ltb kind kinds h) e
+
+  pub kind-not : kinds ≤ kind → false ≡ (ltb kind kinds && t)
+  kind-not h = rw (le-ltb kind kinds h) refl
+
 -- the first three entries
 is-at : (a : List Entry) (count k : ℕ) (x : calculus.Entry) → count ≤ length a → k < count → calculus.entry-is (as-table a count) k x ≡ stands-at a k x
 unfolding calculus.entry-is calculus.test-entry stands-at
@@ -82,20 +90,20 @@ module _ (a : List Entry) (t : Bool) (e : t ≡ calculus.same-entry (as-entry (g
     cell-third f = rw (← e, p, ← e′, f) refl
 
 -- the table
-module _ (a : List Entry) (count : ℕ) (h : count ≤ length a) (l : min-entries ≤ count) where
-  rules : calculus.table-test (as-table a count)
-      ≡ (calculus.entries-test 0 (as-table a count) && (calculus.distinct-test (as-table a count) && first-three a))
+module _ (kinds : ℕ) (a : List Entry) (count : ℕ) (h : count ≤ length a) (l : min-entries ≤ count) where
+  rules : calculus.table-test kinds (as-table a count)
+      ≡ (calculus.entries-test kinds 0 (as-table a count) && (calculus.distinct-test (as-table a count) && first-three a))
   unfolding calculus.table-test first-three
   rules =
       rw (is-at a count unit-entry calculus.entry-of-unit h (omega arith), is-at a count num-entry calculus.entry-of-num h (omega arith), is-at a count setting-entry calculus.entry-of-setting h (omega arith)) refl
 
-  module _ (t : Bool) (e : t ≡ calculus.entries-test 0 (as-table a count)) where
-    pub entry-broken : t ≡ false → false ≡ calculus.table-test (as-table a count)
+  module _ (t : Bool) (e : t ≡ calculus.entries-test kinds 0 (as-table a count)) where
+    pub entry-broken : t ≡ false → false ≡ calculus.table-test kinds (as-table a count)
     entry-broken f = sym (rules ∙ rw (← e, f) refl)
 
     module _ (p : t ≡ true) (u : Bool) (d : u ≡ calculus.distinct-test (as-table a count)) where
-      pub entry-twice : u ≡ false → false ≡ calculus.table-test (as-table a count)
+      pub entry-twice : u ≡ false → false ≡ calculus.table-test kinds (as-table a count)
       entry-twice f = sym (rules ∙ rw (← e, p, ← d, f) refl)
 
-      pub table-kept : u ≡ true → first-three a ≡ calculus.table-test (as-table a count)
+      pub table-kept : u ≡ true → first-three a ≡ calculus.table-test kinds (as-table a count)
       table-kept f = sym (rules ∙ rw (← e, p, ← d, f) refl)

@@ -5,6 +5,7 @@ use mathlib.Core.List.{List, [], _∷_}
 use Prim.Native.Nat.{_+_, _<_, _≤_, ℕ}
 use native.Mathlib.Numerals.{add-one}
 use native.Mathlib.Omega.{arith}
+use lib.Dec.{ltb}
 use lib.ListN.{drop, drop-of-length-le, getD, length}
 use lib.Seq.{drop-cons}
 use Rattle.calculus.specs.Table as calculus
@@ -30,8 +31,8 @@ pub passed-end : {from : ℕ → Bool} {first end i : ℕ} → Passed from first
 passed-end {from} {first} {end} {i} w h e = let z : i ≡ end = omega (arith, w .inside) in sym (w .same ∙ (rw z e))
 
 -- the three tests of a table
-unfoldable pub entries-from : calculus.Table → ℕ → Bool
-entries-from T i = calculus.entries-test i (drop i T)
+unfoldable pub entries-from : ℕ → calculus.Table → ℕ → Bool
+entries-from kinds T i = calculus.entries-test kinds i (drop i T)
 
 unfoldable pub new-from : calculus.Entry → calculus.Table → ℕ → Bool
 new-from x T i = calculus.new-to x (drop i T)
@@ -45,10 +46,10 @@ module _ (a : List Entry) (count : ℕ) (h : count ≤ length a) where
       let k : i < length (as-table a count) = rw (length-as-table a count h) l in
       rw (add-one i, drop-cons (as-table a count) i (calculus.entry 0 0 0), entry-of a count h i l) refl
 
-  pub entries-turn : (i : ℕ) → i < count → entries-from (as-table a count) i
-      ≡ (calculus.entry-test i (getD a i unused .kind) (getD a i unused .p) (getD a i unused .q) && entries-from (as-table a count) (i + 1))
+  pub entries-turn : (kinds i : ℕ) → i < count → entries-from kinds (as-table a count) i
+      ≡ ((ltb (getD a i unused .kind) kinds && calculus.entry-test i (getD a i unused .kind) (getD a i unused .p) (getD a i unused .q)) && entries-from kinds (as-table a count) (i + 1))
   unfolding entries-from calculus.entries-test
-  entries-turn i l = rw (next i l, add-one i) refl
+  entries-turn kinds i l = rw (next i l, add-one i) refl
 
   pub new-turn : (x : calculus.Entry) (i : ℕ) → i < count → new-from x (as-table a count) i
       ≡ (not (calculus.same-entry x (as-entry (getD a i unused))) && new-from x (as-table a count) (i + 1))
@@ -63,9 +64,9 @@ module _ (a : List Entry) (count : ℕ) (h : count ≤ length a) where
   none-left : drop count (as-table a count) ≡ []
   none-left = drop-of-length-le (as-table a count) {i = count} (rw (length-as-table a count h) (omega arith))
 
-  pub entries-done : entries-from (as-table a count) count ≡ true
+  pub entries-done : (kinds : ℕ) → entries-from kinds (as-table a count) count ≡ true
   unfolding entries-from calculus.entries-test
-  entries-done = rw none-left refl
+  entries-done kinds = rw none-left refl
 
   pub new-done : (x : calculus.Entry) → new-from x (as-table a count) count ≡ true
   unfolding new-from calculus.new-to

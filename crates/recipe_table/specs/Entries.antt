@@ -3,9 +3,9 @@ use mathlib.Core.Bool.{Bool, not}
 use mathlib.Core.List.{List, [], _++_, _∷_}
 use Prim.Native.Nat.{ℕ}
 use Rattle.calculus.specs.Causes.{type-entry-cause}
-use Rattle.calculus.specs.Lowest.{Cause, cause, lowest}
+use Rattle.calculus.specs.Lowest.{Cause, cause, first-cause}
 use Rattle.calculus.specs.Table.{entry, Table, table-test}
-use Rattle.recipe_file.specs.File.{table-bytes, layout-causes}
+use Rattle.recipe_file.specs.File.{edition-of, table-bytes, layout-causes}
 
 -- the entries that the bytes of a table say; bytes that make no whole entry say none
 unfoldable pub table-of : List ℕ → Table
@@ -20,12 +20,12 @@ type-table s = table-of (table-bytes s)
 
 -- document 01, cause 4: "a type entry breaks its rule"
 unfoldable pub cause-4 : List ℕ → Bool
-cause-4 s = not (table-test (type-table s))
+cause-4 s = not (table-test (edition-of s .kinds) (type-table s))
 
 -- causes 1 to 4 with their numbers
 abbrev pub table-causes : List ℕ → List Cause
 table-causes s = layout-causes s ++ (cause type-entry-cause (cause-4 s) ∷ [])
 
--- document 01, "The lowest number that fits wins", for causes 1 to 4; 0 where none fits
+-- the number of the first of them that fits, 0 where none does
 unfoldable pub table-refusal : List ℕ → ℕ
-table-refusal s = lowest (table-causes s)
+table-refusal s = first-cause (table-causes s)

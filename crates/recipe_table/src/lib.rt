@@ -1,10 +1,12 @@
 // The type table: read by value, and its rules.
 ghost use mathlib.Core.Path.{_≡_};
+ghost use mathlib.Core.Bool.{_&&_};
 ghost use Prim.Native.Nat.{_-_, _≤_, _/_};
+ghost use lib.Dec.{ltb};
 ghost use lib.ListN.{length};
 ghost use Rattle.calculus.specs.Limits.{min-entries, max-entries};
 ghost use Rattle.calculus.specs.Table.{entry, entry-test, entries-test, same-entry, distinct-test, table-test};
-ghost use Rattle.recipe_file.specs.File.{entry-length};
+ghost use Rattle.recipe_file.specs.File.{edition-of, entry-length};
 ghost use Rattle.recipe_file.specs.FileRule.{Between, FileRule};
 ghost use Rattle.recipe_table.specs.Entries.{table-of, type-table, table-refusal};
 ghost use Rattle.recipe_table.specs.Keys.{Coded, absent};
@@ -14,6 +16,7 @@ use numbers::Cause;
 use numbers::Recipe;
 use numbers::Type;
 use recipe_file::ENTRY_LENGTH;
+use recipe_file::Edition;
 
 // An entry of the type table.
 pub struct Entry {
@@ -78,13 +81,16 @@ pub fn read_table(bytes: &[u8]) -> [Entry; Recipe::MAX_ENTRIES]
     table
 }
 
-// The entry with number k keeps the rule of its kind.
-fn entry_stands(it: Entry, k: usize) -> bool
-    ensures { λ r. ⌜ r ≡ entry-test k (it .kind) (it .p) (it .q) ⌝ }
+// The entry with number k is of one of the first `kinds` kinds, and keeps the rule of its kind.
+fn entry_stands(it: Entry, k: usize, kinds: u8) -> bool
+    ensures { λ r. ⌜ r ≡ (ltb (it .kind) kinds && entry-test k (it .kind) (it .p) (it .q)) ⌝ }
 {
     let kind = it.kind;
     let p = it.p as usize;
     let q = it.q as usize;
+    if kinds <= kind {
+        return false;
+    }
     if kind <= Type::NUM {
         return p == 0 && q == 0;
     }
@@ -108,13 +114,13 @@ fn is_same(a: Entry, b: Entry) -> bool
 }
 
 // Each entry keeps its rule.
-fn entries_stand(table: [Entry; Recipe::MAX_ENTRIES], count: usize) -> bool
+fn entries_stand(table: [Entry; Recipe::MAX_ENTRIES], count: usize, kinds: u8) -> bool
     requires { ⌜ count ≤ max-entries ⌝ }
-    ensures { λ r. ⌜ r ≡ entries-test 0 (as-table table count) ⌝ }
+    ensures { λ r. ⌜ r ≡ entries-test kinds 0 (as-table table count) ⌝ }
 {
     let mut i = 0;
     while i < count {
-        if !entry_stands(table[i], i) {
+        if !entry_stands(table[i], i, kinds) {
             return false;
         }
         i += 1;
@@ -174,12 +180,12 @@ fn first_stand(table: [Entry; Recipe::MAX_ENTRIES]) -> bool
     is_same(table[SETTING_AT], Entry::SETTING)
 }
 
-// The table keeps its rules.
-pub fn table_stands(table: [Entry; Recipe::MAX_ENTRIES], count: usize) -> bool
+// The table keeps its rules, in an edition with so many kinds.
+pub fn table_stands(table: [Entry; Recipe::MAX_ENTRIES], count: usize, kinds: u8) -> bool
     requires { ⌜ Between min-entries max-entries count ⌝ }
-    ensures { λ r. ⌜ r ≡ table-test (as-table table count) ⌝ }
+    ensures { λ r. ⌜ r ≡ table-test kinds (as-table table count) ⌝ }
 {
-    if !entries_stand(table, count) {
+    if !entries_stand(table, count, kinds) {
         return false;
     }
     if !entries_differ(table, count) {
@@ -207,14 +213,15 @@ pub fn entry_count(recipe: &[u8]) -> usize
 }
 
 // The lowest of causes 1 to 4 that fits, or 0.
-pub fn table_refusal(recipe: &[u8]) -> u8
+pub fn table_refusal(recipe: &[u8], edition: Edition) -> u8
+    requires { ⌜ edition ≡ edition-of (now recipe) ⌝ }
     ensures { λ r. ⌜ r ≡ table-refusal (now (recipe .entry)) ⌝ }
 {
-    let layout = recipe_file::layout_refusal(recipe);
+    let layout = recipe_file::layout_refusal(recipe, edition);
     if layout != 0 {
         return layout;
     }
-    if !table_stands(table_in(recipe), entry_count(recipe)) {
+    if !table_stands(table_in(recipe), entry_count(recipe), edition.kinds) {
         return Cause::TYPE_ENTRY;
     }
     0

@@ -11,13 +11,14 @@ use Rattle.calculus.specs.Theory.Tests.{ltb-complete, ltb-not}
 use Rattle.buffer.specs.Written.{Wrote}
 use Rattle.buffer.specs.Theory.Writes.{beyond, known-as, then}
 use Rattle.check_spec.specs.Verdict.{refusal}
+use Rattle.check_spec.specs.Theory.Answers.{refusal-small}
 use Rattle.load_spec.specs.Starting.{starting-image}
 use Rattle.load_spec.specs.declared.Loaded.{Loaded}
 use Rattle.load_spec.specs.Loading.{load-refusal, loaded-of, out-after-load}
 use Rattle.load_spec.specs.Theory.Answers as answers
 use Rattle.recipe_text.specs.Text.{Read, image-line, max-text-length, text-left, text-of, text-within, verdict-line}
 use Rattle.recipe_text.specs.Theory.Digits.{length-accepted, length-image-line, length-verdict-line}
-use Rattle.recipe_text.specs.Theory.Lines.{refusal-small, text-accepted, text-of-longer, text-refused}
+use Rattle.recipe_text.specs.Theory.Lines.{text-accepted, text-of-longer, text-refused}
 
 -- a number of bytes, and what is left
 abbrev pub Leaves : List ℕ → List ℕ → ℕ → List ℕ → Type 0

@@ -6,7 +6,7 @@ use mathlib.Core.List.{List, [], _∷_}
 use Prim.Native.Nat.{ℕ, _<_, _≤_, suc, zero}
 use native.Mathlib.Omega.{arith}
 use Rattle.calculus.specs.Syntax.{at}
-use Rattle.calculus.specs.Lowest.{Cause, cause, lowest, Lowest}
+use Rattle.calculus.specs.Lowest.{Cause, cause, first-cause, Lowest}
 use Rattle.calculus.specs.Theory.Tests.{clash}
 
 -- causes in the order of their numbers, all above m; all numbers at most n
@@ -27,14 +27,14 @@ above m (c ∷ cs) (l, a) zero h = let e : c .number ≡ _ = ap (λ (x : Cause).
 above m (c ∷ cs) (l, a) (suc i) h = let n = above (c .number) cs a i h in omega arith
 
 -- in that order the first that fits is the lowest
-pub ascending-lowest : (m : ℕ) (cs : List Cause) → Ascending m cs → Lowest cs (lowest cs)
+pub ascending-lowest : (m : ℕ) (cs : List Cause) → Ascending m cs → Lowest cs (first-cause cs)
 ascending-lowest m [] a = record { one-that-fits = λ n. absurd (n refl); none-lower = λ i k h. absurd (clash (cc)) }
 ascending-lowest m (c ∷ cs) (l, a) = go (c .fits) refl (ascending-lowest (c .number) cs a)
   where
     here : (k : ℕ) → some c ≡ some (cause k true) → (c .number ≡ k) × (c .fits ≡ true)
     here k p = let q : c ≡ cause k true = cc in (ap (λ (x : Cause). x .number) q, ap (λ (x : Cause). x .fits) q)
 
-    go : (b : Bool) → c .fits ≡ b → Lowest cs (lowest cs) → Lowest (c ∷ cs) (cond b (c .number) (lowest cs))
+    go : (b : Bool) → c .fits ≡ b → Lowest cs (first-cause cs) → Lowest (c ∷ cs) (cond b (c .number) (first-cause cs))
     go true q rest = record {
       one-that-fits = λ n. (0, λ i. some (record { number = c .number; fits = q i }));
       none-lower = λ i k h. (omega arith, first i k h);
@@ -48,14 +48,14 @@ ascending-lowest m (c ∷ cs) (l, a) = go (c .fits) refl (ascending-lowest (c .n
       none-lower = later;
     }
       where
-        later : (i k : ℕ) → at (c ∷ cs) i ≡ some (cause k true) → (¬ (lowest cs ≡ 0)) × (lowest cs ≤ k)
+        later : (i k : ℕ) → at (c ∷ cs) i ≡ some (cause k true) → (¬ (first-cause cs ≡ 0)) × (first-cause cs ≤ k)
         later zero k h = absurd (clash (let e = here k h .1 in cc))
         later (suc i) k h = rest .none-lower i k h
 
-pub lowest-at-most : (n : ℕ) (cs : List Cause) → AtMost n cs → lowest cs ≤ n
-lowest-at-most n [] a = omega arith
-lowest-at-most n (c ∷ cs) (l, a) = go (c .fits) (lowest-at-most n cs a)
+pub first-cause-at-most : (n : ℕ) (cs : List Cause) → AtMost n cs → first-cause cs ≤ n
+first-cause-at-most n [] a = omega arith
+first-cause-at-most n (c ∷ cs) (l, a) = go (c .fits) (first-cause-at-most n cs a)
   where
-    go : (b : Bool) → lowest cs ≤ n → cond b (c .number) (lowest cs) ≤ n
+    go : (b : Bool) → first-cause cs ≤ n → cond b (c .number) (first-cause cs) ≤ n
     go true r = l
     go false r = r

@@ -35,8 +35,8 @@ T5 = entry 0 0 0 ∷ entry 1 0 0 ∷ entry 2 1 0 ∷ entry 4 1 1 ∷ entry 4 2 3
 abbrev pub T7 : Table
 T7 = entry 0 0 0 ∷ entry 1 0 0 ∷ entry 2 1 0 ∷ entry 3 1 0 ∷ entry 4 3 0 ∷ entry 4 1 4 ∷ entry 4 5 0 ∷ []
 
--- the tables keep the rules
-pub tables : (table-test T3 ≡ true) × (table-test T5 ≡ true) × (table-test T7 ≡ true)
+-- the tables keep the rules, with five kinds
+pub tables : (table-test 5 T3 ≡ true) × (table-test 5 T5 ≡ true) × (table-test 5 T7 ≡ true)
 unfolding table-test entries-test entry-test distinct-test new-to same-entry entry-is test-entry
 tables = (refl, refl, refl)
 
@@ -164,7 +164,7 @@ case-C-binds = (_, refl, (3, (_, refl, refl), refl))
 case-C-admitted : Admitted T7 (term-C ∷ [])
 unfolding nodes sum-in sum-all verdict every scoped scoped-const annotated annotated-const on-function on-once-function on-cell is-many test-entry type-number const-number on-number result-number applied-number lambda-number outside-many linear-parameter linear uses
 case-C-admitted = record {
-  table = table-test-iff T7 .0 (tables .2);
+  table = table-test-iff 5 T7 .0 (tables .2) .1;
   written = written;
   bays = omega arith;
   size = omega arith;

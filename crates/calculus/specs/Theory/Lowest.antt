@@ -1,11 +1,11 @@
--- The lowest cause that fits: laws of lists of causes.
+-- The first cause that fits: laws of lists of causes.
 use mathlib.Core.Path.{_≡_, refl}
 use mathlib.Core.Bool.{Bool, _&&_, cond, false, true}
 use mathlib.Core.List.{List, [], _++_, _∷_, append-nil}
 use Prim.Native.Nat.{suc, zero, ℕ}
 use native.Mathlib.Omega.{arith}
 use lib.Dec.{T}
-use Rattle.calculus.specs.Lowest.{Cause, lowest}
+use Rattle.calculus.specs.Lowest.{Cause, first-cause}
 
 -- no cause of a list fits
 abbrev pub NoneFits : List Cause → Type 0
@@ -23,19 +23,19 @@ numbered [] = true
 numbered (c ∷ cs) = positive (c .number) && numbered cs
 
 -- where the first part of a list answers, the rest does not matter
-pub lowest-first : (cs ds : List Cause) → ¬ (lowest cs ≡ 0) → lowest (cs ++ ds) ≡ lowest cs
-lowest-first [] ds n = absurd (n refl)
-lowest-first (c ∷ cs) ds n = go (c .fits) n (lowest-first cs ds)
+pub first-cause-front : (cs ds : List Cause) → ¬ (first-cause cs ≡ 0) → first-cause (cs ++ ds) ≡ first-cause cs
+first-cause-front [] ds n = absurd (n refl)
+first-cause-front (c ∷ cs) ds n = go (c .fits) n (first-cause-front cs ds)
   where
-    go : (b : Bool) → ¬ (cond b (c .number) (lowest cs) ≡ 0) → (¬ (lowest cs ≡ 0) → lowest (cs ++ ds) ≡ lowest cs)
-        → cond b (c .number) (lowest (cs ++ ds)) ≡ cond b (c .number) (lowest cs)
+    go : (b : Bool) → ¬ (cond b (c .number) (first-cause cs) ≡ 0) → (¬ (first-cause cs ≡ 0) → first-cause (cs ++ ds) ≡ first-cause cs)
+        → cond b (c .number) (first-cause (cs ++ ds)) ≡ cond b (c .number) (first-cause cs)
     go true n h = refl
     go false n h = h n
 
 -- where nothing in it fits, the rest decides
-pub lowest-rest : (cs ds : List Cause) → NoneFits cs → lowest (cs ++ ds) ≡ lowest ds
-lowest-rest [] ds n = refl
-lowest-rest (c ∷ cs) ds n = rw (n .0) (lowest-rest cs ds (n .1))
+pub first-cause-rest : (cs ds : List Cause) → NoneFits cs → first-cause (cs ++ ds) ≡ first-cause ds
+first-cause-rest [] ds n = refl
+first-cause-rest (c ∷ cs) ds n = rw (n .0) (first-cause-rest cs ds (n .1))
 
 -- where the answer is 0, nothing fits
 first-fails : (b : Bool) (n m : ℕ) (cs : List Cause) → T (positive n && numbered cs) → cond b n m ≡ 0 → (b ≡ false) × T (numbered cs) × (m ≡ 0)
@@ -43,12 +43,12 @@ first-fails b zero m cs t e = absurd t
 first-fails true (suc n) m cs t e = absurd (omega arith)
 first-fails false (suc n) m cs t e = (refl, t, e)
 
-pub lowest-parts : (cs ds : List Cause) → T (numbered cs) → lowest (cs ++ ds) ≡ 0 → NoneFits cs × (lowest ds ≡ 0)
-lowest-parts [] ds t e = (tt, e)
-lowest-parts (c ∷ cs) ds t e =
-    let (p, u, z) = first-fails (c .fits) (c .number) (lowest (cs ++ ds)) cs t e in
-    let (r, w) = lowest-parts cs ds u z in
+pub first-cause-parts : (cs ds : List Cause) → T (numbered cs) → first-cause (cs ++ ds) ≡ 0 → NoneFits cs × (first-cause ds ≡ 0)
+first-cause-parts [] ds t e = (tt, e)
+first-cause-parts (c ∷ cs) ds t e =
+    let (p, u, z) = first-fails (c .fits) (c .number) (first-cause (cs ++ ds)) cs t e in
+    let (r, w) = first-cause-parts cs ds u z in
     ((p, r), w)
 
-pub none-fits : (cs : List Cause) → T (numbered cs) → lowest cs ≡ 0 → NoneFits cs
-none-fits cs t e = lowest-parts cs [] t (rw (append-nil cs) e) .0
+pub none-fits : (cs : List Cause) → T (numbered cs) → first-cause cs ≡ 0 → NoneFits cs
+none-fits cs t e = first-cause-parts cs [] t (rw (append-nil cs) e) .0

@@ -3,16 +3,15 @@ use mathlib.Core.Path.{_∙_, sym}
 use Prim.Native.Nat.{_+_, _-_}
 use native.Mathlib.Omega.{arith}
 use borrow.Author.Needs.{needs}
-use Rattle.recipe_file.proofs.Inside.{bays-between}
 use Rattle.check_bays.proofs.Counting.{NodesCounted, counted-all, counted-next, counted-none, counted-not}
 use Rattle.check_bays.proofs.count_nodes.Statement.{statement}
 use Rattle.check_bays.proofs.count_nodes.Tie as tie
 
 abbrev Inv-loop : tie.InvT-loop
-Inv-loop recipe bays total₀ bay₀ total bay = NodesCounted recipe bay total
+Inv-loop recipe edition bays total₀ bay₀ total bay = NodesCounted recipe bay total
 
 abbrev μ-loop : tie.MeasureT-loop
-μ-loop recipe bays total₀ bay₀ total bay = bays - bay
+μ-loop recipe edition bays total₀ bay₀ total bay = bays - bay
 
 bay-count-requires : tie.Need-bay-count-requires Inv-loop μ-loop
 bay-count-requires c κs = search needs
@@ -35,7 +34,7 @@ enum-told c = search needs
 returns : tie.Need-returns Inv-loop μ-loop
 returns c =
     let l = c .before .before .before .before .before in
-    counted-not (l .before .before .before .pre) (omega arith) (c .before .before .before .term-bytes .ensures)
+    counted-not (l .before .before .before .pre .0) (omega arith) (c .before .before .before .term-bytes .ensures)
     (sym (c .enum-told .given .1) ∙ c .before .before .scan-part .ensures)
 
 -- the next turn
@@ -48,11 +47,11 @@ loop c = c .before .before .before .before .before .before
 next : (c : AtNodes) → NodesCounted (loop c .before .before .before .args .recipe .now) (loop c .loop .bay + 1) (loop c .loop .total + c .before .nodes .given .0 .0)
 next c =
     let l = loop c in
-    counted-next (l .before .before .before .pre) (omega arith) (c .before .before .before .before .term-bytes .ensures) _ (l .loop .inv)
+    counted-next (l .before .before .before .pre .0) (omega arith) (c .before .before .before .before .term-bytes .ensures) _ (l .loop .inv)
     (sym (c .before .nodes .given .1) ∙ c .before .before .before .scan-part .ensures)
 
 add-total : tie.Need-add-total Inv-loop μ-loop
-add-total c = omega (arith, next c .bound, bays-between (c .before .before .before .before .before .before .before .before .before .pre) .high)
+add-total c = omega (arith, next c .bound, c .before .before .before .before .before .before .before .before .before .pre .0 .has-parts .high)
 
 add-bay : tie.Need-add-bay Inv-loop μ-loop
 add-bay c = search needs

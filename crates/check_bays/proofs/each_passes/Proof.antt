@@ -11,19 +11,19 @@ use Rattle.check_bays.proofs.each_passes.Statement.{statement}
 use Rattle.check_bays.proofs.each_passes.Tie as tie
 
 abbrev Inv-loop : tie.InvT-loop
-Inv-loop recipe test bays bay₀ bay = Passed (file.bays recipe) (bay-passes recipe test) bay
+Inv-loop recipe edition test bays bay₀ bay = Passed (file.bays recipe) (bay-passes recipe test) bay
 
 abbrev μ-loop : tie.MeasureT-loop
-μ-loop recipe test bays bay₀ bay = bays - bay
+μ-loop recipe edition test bays bay₀ bay = bays - bay
 
 bay-count-requires : tie.Need-bay-count-requires Inv-loop μ-loop
-bay-count-requires c κs = c .before .pre .laid
+bay-count-requires c κs = (c .before .pre .0 .laid, c .before .pre .1)
 
 loop-holds : tie.Need-loop-holds Inv-loop μ-loop
 loop-holds c = passed-none _ _
 
 bay-passes-requires : tie.Need-bay-passes-requires Inv-loop μ-loop
-bay-passes-requires c κs = (c .before .before .before .before .pre, omega arith)
+bay-passes-requires c κs = let p = c .before .before .before .before .pre in (p .0, omega arith, p .1)
 
 returns : tie.Need-returns Inv-loop μ-loop
 unfolding each-passes

@@ -5,7 +5,6 @@ use Prim.Native.Nat.{_+_, _-_, ℕ}
 use native.Mathlib.Omega.{arith}
 use borrow.Author.Needs.{needs}
 use lib.ListN.{length}
-use Rattle.recipe_file.proofs.Inside.{bays-between}
 use Rattle.recipe_table.specs.Entries.{table-of, type-table}
 use Rattle.recipe_table.proofs.Tables.{count-between}
 use Rattle.check_bays.proofs.Standing.{Stood, stood-all, stood-next, stood-none, stood-not}
@@ -13,10 +12,10 @@ use Rattle.check_bays.proofs.each_stands.Statement.{statement}
 use Rattle.check_bays.proofs.each_stands.Tie as tie
 
 abbrev Inv-loop : tie.InvT-loop
-Inv-loop recipe bays table total₀ bay₀ total bay = Stood recipe bay total
+Inv-loop recipe edition bays table total₀ bay₀ total bay = Stood recipe bay total
 
 abbrev μ-loop : tie.MeasureT-loop
-μ-loop recipe bays table total₀ bay₀ total bay = bays - bay
+μ-loop recipe edition bays table total₀ bay₀ total bay = bays - bay
 
 bay-count-requires : tie.Need-bay-count-requires Inv-loop μ-loop
 bay-count-requires c κs = search needs
@@ -34,7 +33,7 @@ glance-requires : tie.Need-glance-requires Inv-loop μ-loop
 unfolding type-table
 glance-requires c κs =
     let l = c .before .before in
-    omega (arith, ap (λ (t : List ℕ). length (table-of t)) (l .before .table-bytes .ensures), count-between (l .before .before .before .before .pre) .high)
+    omega (arith, ap (λ (t : List ℕ). length (table-of t)) (l .before .table-bytes .ensures), count-between (l .before .before .before .before .pre .0) .high)
 
 enum-known-nodes : tie.Need-enum-known-nodes Inv-loop μ-loop
 enum-known-nodes c = search needs
@@ -45,7 +44,7 @@ enum-told c = search needs
 returns : tie.Need-returns Inv-loop μ-loop
 returns c =
     let l = c .before .before .before .before .before in
-    stood-not (l .before .before .before .before .pre) (omega (arith, l .before .before .bay-count .ensures)) (c .before .before .before .term-bytes .ensures) (l .before .table-bytes .ensures) (l .before .before .bay-count .ensures)
+    stood-not (l .before .before .before .before .pre .0) (omega (arith, l .before .before .bay-count .ensures)) (c .before .before .before .term-bytes .ensures) (l .before .table-bytes .ensures) (l .before .before .bay-count .ensures)
     (sym (c .enum-told .given .1) ∙ c .before .before .glance .ensures)
 
 -- the next turn
@@ -58,11 +57,11 @@ loop c = c .before .before .before .before .before .before
 next : (c : AtNodes) → Stood (loop c .before .before .before .before .args .recipe .now) (loop c .loop .bay + 1) (loop c .loop .total + c .before .nodes .given .0 .0)
 next c =
     let l = loop c in
-    stood-next (l .before .before .before .before .pre) (omega (arith, l .before .before .bay-count .ensures)) (c .before .before .before .before .term-bytes .ensures) (l .before .table-bytes .ensures) (l .before .before .bay-count .ensures) _ (l .loop .inv)
+    stood-next (l .before .before .before .before .pre .0) (omega (arith, l .before .before .bay-count .ensures)) (c .before .before .before .before .term-bytes .ensures) (l .before .table-bytes .ensures) (l .before .before .bay-count .ensures) _ (l .loop .inv)
     (sym (c .before .nodes .given .1) ∙ c .before .before .before .glance .ensures)
 
 add-total : tie.Need-add-total Inv-loop μ-loop
-add-total c = omega (arith, next c .counted .bound, bays-between (loop c .before .before .before .before .pre) .high)
+add-total c = omega (arith, next c .counted .bound, loop c .before .before .before .before .pre .0 .has-parts .high)
 
 add-bay : tie.Need-add-bay Inv-loop μ-loop
 add-bay c = search needs

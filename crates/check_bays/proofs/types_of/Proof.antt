@@ -5,17 +5,16 @@ use Prim.Native.Nat.{_-_, ℕ}
 use native.Mathlib.Omega.{arith}
 use borrow.Author.Needs.{needs}
 use Rattle.calculus.specs.Verdict.{is-many}
-use Rattle.recipe_file.proofs.Inside.{bays-between}
 use Rattle.recipe_table.specs.Entries.{table-of, type-table}
 use Rattle.check_bays.proofs.Typing.{Typing, typing-all, typing-next, typing-none, typing-not}
 use Rattle.check_bays.proofs.types_of.Statement.{statement}
 use Rattle.check_bays.proofs.types_of.Tie as tie
 
 abbrev Inv-loop : tie.InvT-loop
-Inv-loop recipe bays table numbers₀ many₀ linear₀ bay₀ numbers many linear bay = Typing recipe bay linear many numbers
+Inv-loop recipe edition bays table numbers₀ many₀ linear₀ bay₀ numbers many linear bay = Typing recipe bay linear many numbers
 
 abbrev μ-loop : tie.MeasureT-loop
-μ-loop recipe bays table numbers₀ many₀ linear₀ bay₀ numbers many linear bay = bays - bay
+μ-loop recipe edition bays table numbers₀ many₀ linear₀ bay₀ numbers many linear bay = bays - bay
 
 bay-count-requires : tie.Need-bay-count-requires Inv-loop μ-loop
 bay-count-requires c κs = search needs
@@ -27,7 +26,7 @@ loop-holds : tie.Need-loop-holds Inv-loop μ-loop
 loop-holds c = typing-none _
 
 walk-bay-requires : tie.Need-walk-bay-requires Inv-loop μ-loop
-walk-bay-requires c κs = (search needs, omega arith)
+walk-bay-requires c κs = (search needs, omega arith, search needs)
 
 enum-known-number : tie.Need-enum-known-number Inv-loop μ-loop
 enum-known-number c = search needs
@@ -45,7 +44,7 @@ many-at-requires : tie.Need-many-at-requires Inv-loop μ-loop
 many-at-requires c κs = search needs
 
 array-write-numbers : tie.Need-array-write-numbers Inv-loop μ-loop
-array-write-numbers c = omega (arith, bays-between (c .before .before .before .before .before .before .before .before .before .before .pre .terms .laid) .high)
+array-write-numbers c = omega (arith, c .before .before .before .before .before .before .before .before .before .before .pre .0 .terms .laid .has-parts .high)
 
 add-bay : tie.Need-add-bay Inv-loop μ-loop
 add-bay c = search needs

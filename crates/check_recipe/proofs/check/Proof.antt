@@ -6,14 +6,17 @@ use Prim.Native.Nat.{ℕ}
 use native.Mathlib.Omega.{arith}
 use borrow.Author.Tests.{not-true, not-false}
 use borrow.Author.Needs.{needs}
-use Rattle.recipe_file.proofs.Inside.{bays-between}
+use Rattle.recipe_file.specs.File.{edition-of}
 use Rattle.check_recipe.proofs.Verdicts.{Admitted, admitted, all-pass, file-refused, filed, parts-refused, refused-linear, refused-once, refused-untyped}
 use Rattle.check_recipe.proofs.check.Statement.{statement}
 use Rattle.check_recipe.proofs.check.Tie as tie
 
 -- past cause 4
 abbrev file : tie.Else1 → List ℕ
-file c = c .before .before .before .args .recipe .now
+file c = c .before .before .before .before .args .recipe .now
+
+says : (c : tie.Else1) → c .before .before .edition-of .result ≡ edition-of (file c)
+says c = c .before .before .edition-of .ensures
 
 -- past cause 8
 abbrev first : tie.Else2 → tie.Else1
@@ -33,6 +36,9 @@ at-9 c = c .before .before
 tenth : (c : tie.Else4) → at-9 c .before .before .types-of .result .linear ≡ true
 tenth c = not-false _ (c .if4 .left)
 
+edition-of-requires : tie.Need-edition-of-requires
+edition-of-requires c κs = search needs
+
 table-refusal-requires : tie.Need-table-refusal-requires
 table-refusal-requires c κs = search needs
 
@@ -43,7 +49,7 @@ returns : tie.Need-returns
 returns c = c .refused .ensures ∙ file-refused _ _ (c .before .before .table-refusal .ensures) (c .before .if1 .taken)
 
 parts-refusal-requires : tie.Need-parts-refusal-requires
-parts-refusal-requires c κs = filed _ _ (c .before .table-refusal .ensures) (c .if1 .left)
+parts-refusal-requires c κs = let (l, r) = filed _ _ (c .before .table-refusal .ensures) (c .if1 .left) in (l, r, says c)
 
 refused-requires-2 : tie.Need-refused-requires-2
 refused-requires-2 c κs = search needs
@@ -54,7 +60,7 @@ returns-2 c =
     c .refused2 .ensures ∙ parts-refused _ _ (f .before .table-refusal .ensures) (f .if1 .left) _ (c .before .before .parts-refusal .ensures) (c .before .if2 .taken)
 
 types-of-requires : tie.Need-types-of-requires
-types-of-requires c κs = eighth c .scoped
+types-of-requires c κs = (eighth c .scoped, says (first c))
 
 refused-requires-3 : tie.Need-refused-requires-3
 refused-requires-3 c κs = search needs
@@ -84,10 +90,10 @@ returns-5 c =
     ∙ refused-once (eighth (at-8 k)) (k .before .before .types-of .ensures) (not-false _ (k .if3 .left)) (tenth j) (not-true _ (c .before .if5 .taken))
 
 bay-count-requires : tie.Need-bay-count-requires
-bay-count-requires c κs = eighth (at-8 (at-9 (c .before .before .before))) .scoped .terms .laid
+bay-count-requires c κs = let e = at-8 (at-9 (c .before .before .before)) in (eighth e .scoped .terms .laid, says (first e))
 
-cast-t8 : tie.Need-cast-t8
-cast-t8 c = omega (arith, bays-between (eighth (at-8 (at-9 (c .before .before .before .before))) .scoped .terms .laid) .high, c .bay-count .ensures)
+cast-t9 : tie.Need-cast-t9
+cast-t9 c = omega (arith, eighth (at-8 (at-9 (c .before .before .before .before))) .scoped .terms .laid .has-parts .high, c .bay-count .ensures)
 
 returns-6 : tie.Need-returns-6
 returns-6 c =
@@ -100,6 +106,7 @@ pub check-spec : {M : Type 1} → statement M
 check-spec =
     tie.close
     (tie.spec
+    edition-of-requires
     table-refusal-requires
     refused-requires
     returns
@@ -114,5 +121,5 @@ check-spec =
     refused-requires-5
     returns-5
     bay-count-requires
-    cast-t8
+    cast-t9
     returns-6)

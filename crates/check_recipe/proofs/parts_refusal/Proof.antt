@@ -27,7 +27,7 @@ returns-2 : tie.Need-returns-2
 returns-2 c = by-terms _ _ (c .before .terms-refusal .ensures) (c .if2 .taken)
 
 each-passes-requires : tie.Need-each-passes-requires
-each-passes-requires c κs = let p = start c .pre in terms-stand _ (p .0) (p .1) (neither c)
+each-passes-requires c κs = let p = start c .pre in (terms-stand _ (p .0) (p .1) (neither c), p .2)
 
 returns-3 : tie.Need-returns-3
 returns-3 c =

@@ -7,7 +7,7 @@ use Rattle.check_recipe.proofs.terms_refusal.Statement.{statement}
 use Rattle.check_recipe.proofs.terms_refusal.Tie as tie
 
 count-nodes-requires : tie.Need-count-nodes-requires
-count-nodes-requires c κs = c .before .pre .0
+count-nodes-requires c κs = search needs
 
 enum-known-nodes : tie.Need-enum-known-nodes
 enum-known-nodes c = search needs
@@ -25,7 +25,7 @@ each-passes-requires : tie.Need-each-passes-requires
 each-passes-requires c κs =
     let p = c .before .before .before .before .before .before .pre in
     let e = sym (c .before .before .nodes .given .1) ∙ c .before .before .before .before .count-nodes .ensures in
-    terms-known _ _ e (p .0) (p .1) (c .if1 .left)
+    (terms-known _ _ e (p .0) (p .1) (c .if1 .left), p .2)
 
 returns-3 : tie.Need-returns-3
 returns-3 c =

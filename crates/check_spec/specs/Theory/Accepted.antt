@@ -17,22 +17,22 @@ use Rattle.calculus.specs.Syntax.{Exp, at}
 use Rattle.calculus.specs.Typing.{Derivation}
 use Rattle.calculus.specs.Limits.{max-bays, max-nesting, max-recipe-nodes}
 use Rattle.calculus.specs.Image.{nodes}
-use Rattle.calculus.specs.Table.{Table, TableRule, table-test, type-at}
+use Rattle.calculus.specs.Table.{Table, TableRule, type-at}
 use Rattle.calculus.specs.Verdict.{type-causes, verdict}
 use Rattle.calculus.specs.Recipe.{setting-types, Admitted}
 use Rattle.calculus.specs.Theory.Tests.{clash, leb-sound, leb-complete, ltb-complete, ltb-false, ltb-not}
 use Rattle.calculus.specs.Theory.Lists.{at-bound, at-below}
 use Rattle.calculus.specs.Theory.Tabulate.{length-tabulate, tabulate-at, tabulate-parts, tabulate-is, each-below-sound, each-below-complete, nodes-tabulate}
-use Rattle.calculus.specs.Theory.Lowest.{lowest-parts}
-use Rattle.calculus.specs.Theory.TableTest.{table-test-iff}
+use Rattle.calculus.specs.Theory.Lowest.{first-cause-parts}
+use Rattle.calculus.specs.Theory.TableTest.{KindsBelow, table-test-iff}
 use Rattle.calculus.specs.Theory.Verdict.{accepted-iff, verdict-iff, verdict-derived-iff}
 use Rattle.term.specs.Reader.{one-term, read-term}
 use Rattle.term.specs.Expressions.{bytes, nesting, FitsBytes}
 use Rattle.term.proofs.Expressions.{one-term-sound, one-term-complete, term-of-bytes}
-use Rattle.recipe_file.specs.File.{bays, first-term, table-bytes, term-bytes, cause-1, cause-2, cause-3}
+use Rattle.recipe_file.specs.File.{edition-of, bays, table-bytes, term-bytes, cause-1, cause-2, cause-3}
 use Rattle.recipe_file.specs.FileRule.{FileRule}
 use Rattle.recipe_file.proofs.LaidOut.{or-parts, or-false, laid-iff}
-use Rattle.recipe_file.proofs.Inside.{length-table-bytes, bays-between}
+use Rattle.recipe_file.proofs.Inside.{length-table-bytes}
 use Rattle.recipe_table.specs.Entries.{table-of, type-table, cause-4, table-causes}
 use Rattle.check_spec.specs.Bays.{bay-term, bay-terms, cause-5, cause-6, term-causes}
 use Rattle.check_spec.specs.Verdict.{refusal, number-in, bay-type-number, bay-type-numbers}
@@ -53,7 +53,7 @@ pub no-cause-iff : (s : List ℕ) → (refusal s ≡ 0) ↔ NoCause s
 unfolding refusal verdict
 no-cause-iff s = (
   λ e.
-      let ((a, (b, (c, (d, (f, (g, u)))))), v) = lowest-parts (table-causes s ++ term-causes s) (type-causes (type-table s) (bay-terms s)) tt e in
+      let ((a, (b, (c, (d, (f, (g, u)))))), v) = first-cause-parts (table-causes s ++ term-causes s) (type-causes (type-table s) (bay-terms s)) tt e in
       record { not-1 = a; not-2 = b; not-3 = c; not-4 = d; not-5 = f; not-6 = g; not-7-to-11 = v },
   λ n. rw (n .not-1, n .not-2, n .not-3, n .not-4, n .not-5, n .not-6) (n .not-7-to-11),
 )
@@ -63,9 +63,9 @@ module _ (s : List ℕ) (b : Bytes s) (n : NoCause s) where
   laid-out : FileRule s
   laid-out = laid-iff s .0 (n .not-1, n .not-2, n .not-3)
 
-  table-stands : TableRule (type-table s)
+  table-stands : KindsBelow (edition-of s .kinds) (type-table s) × TableRule (type-table s)
   unfolding cause-4
-  table-stands = table-test-iff (type-table s) .0 (not-false (table-test (type-table s)) (n .not-4))
+  table-stands = table-test-iff (edition-of s .kinds) (type-table s) .0 (not-false _ (n .not-4))
 
   says-table : table-bytes s ≡ entry-bytes (type-table s)
   unfolding type-table
@@ -75,7 +75,7 @@ module _ (s : List ℕ) (b : Bytes s) (n : NoCause s) where
 
   bay-is-term : (bay : ℕ) → bay < bays s → (term-bytes s bay ≡ bytes (bay-term s bay)) × FitsBytes (bay-term s bay)
   unfolding cause-5 bay-term term-bytes
-  bay-is-term bay l = one-term-sound (term-bytes s bay) (part-bytes s (first-term + bay) b)
+  bay-is-term bay l = one-term-sound (term-bytes s bay) (part-bytes s (edition-of s .terms + bay) b)
       (each-below-sound (bays s) (λ k. one-term (read-term (term-bytes s k))) (not-false _ (n .not-5)) bay l)
 
   bay-limits : (each-below (bays s) (λ k. leb (nesting (bay-term s k)) max-nesting) ≡ true) × (ltb max-recipe-nodes (sum-below (bays s) (λ k. nodes (bay-term s k))) ≡ false)
@@ -87,14 +87,15 @@ module _ (s : List ℕ) (b : Bytes s) (n : NoCause s) where
   says = record {
     laid = laid-out;
     table = says-table;
-    table-rule = table-stands;
+    kinds = table-stands .0;
+    table-rule = table-stands .1;
     count = length-tabulate (bays s) (bay-term s);
     terms = λ bay e h. let (l, q) = tabulate-parts (bays s) (bay-term s) bay h in rw q (bay-is-term bay l);
     shallow = λ bay e h.
         let (l, q) = tabulate-parts (bays s) (bay-term s) bay h in
         rw q (leb-sound _ _ (each-below-sound (bays s) (λ k. leb (nesting (bay-term s k)) max-nesting) (bay-limits .0) bay l));
     few-nodes = rw (nodes-tabulate (bays s) (bay-term s)) (ltb-false _ _ (bay-limits .1));
-    derived = verdict-derived-iff table-stands (bay-terms s) .0 (n .not-7-to-11);
+    derived = verdict-derived-iff (table-stands .1) (bay-terms s) .0 (n .not-7-to-11);
   }
 
 -- and back, for any recipe that the file says
@@ -133,14 +134,14 @@ module _ {s : List ℕ} {T : Table} {es : List Exp} (r : Recipe s T es) where
     not-1 = a;
     not-2 = b;
     not-3 = c;
-    not-4 = rw (table-is, table-test-iff T .1 (r .table-rule)) refl;
+    not-4 = rw (table-is, table-test-iff (edition-of s .kinds) T .1 (r .kinds, r .table-rule)) refl;
     not-5 = rw each-one-term refl;
     not-6 = or-false {a = not (each-below (bays s) (λ k. leb (nesting (bay-term s k)) max-nesting))} (rw each-shallow refl) (ltb-not _ _ nodes-few);
     not-7-to-11 = rw (table-is, terms-are) (verdict-derived-iff (r .table-rule) es .1 (r .derived));
   }
 
   few-bays : bays s ≤ max-bays
-  few-bays = bays-between (r .laid) .high
+  few-bays = r .laid .has-parts .high
 
   -- causes 4 to 11 as the calculus has them, so what it says of runs holds of this recipe's
   pub admitted : Admitted T es

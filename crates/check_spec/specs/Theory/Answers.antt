@@ -1,13 +1,13 @@
--- What a check answers, from the lowest cause that fits.
+-- What a check answers, from the first cause that fits.
 use mathlib.Core.Path.{_≡_, refl, sym}
 use mathlib.Core.Bool.{Bool, cond, false, true}
 use mathlib.Core.List.{List}
 use Prim.Native.Nat.{ℕ, _≤_}
 use native.Mathlib.Omega.{arith}
 use lib.Dec.{eqb}
-use Rattle.calculus.specs.Lowest.{lowest, Lowest}
-use Rattle.calculus.specs.Causes.{buffer-cause}
-use Rattle.calculus.specs.Theory.Ascending.{ascending-lowest, lowest-at-most}
+use Rattle.calculus.specs.Lowest.{Lowest}
+use Rattle.calculus.specs.Causes.{bay-once-cause, buffer-cause}
+use Rattle.calculus.specs.Theory.Ascending.{ascending-lowest, first-cause-at-most}
 use Rattle.calculus.specs.Theory.Tests.{eqb-complete, eqb-differ, eqb-sound}
 use Rattle.check_spec.specs.Verdict.{accepted, check-causes, refusal, refused, verdict-of}
 
@@ -34,11 +34,13 @@ lowest-cause file =
     ascending-lowest 0 (check-causes file)
     (omega arith, (omega arith, (omega arith, (omega arith, (omega arith, (omega arith, (omega arith, (omega arith, (omega arith, (omega arith, (omega arith, tt)))))))))))
 
--- no cause of a file has the number 12
-pub not-12 : (file : List ℕ) → ¬ (refusal file ≡ buffer-cause)
+-- the causes of a file end with 11
+pub refusal-small : (file : List ℕ) → refusal file ≤ bay-once-cause
 unfolding refusal
-not-12 file e =
-    let l : lowest (check-causes file) ≤ 11 =
-    lowest-at-most 11 (check-causes file)
-    (omega arith, (omega arith, (omega arith, (omega arith, (omega arith, (omega arith, (omega arith, (omega arith, (omega arith, (omega arith, (omega arith, tt))))))))))) in
-    omega arith
+refusal-small file =
+    first-cause-at-most bay-once-cause (check-causes file)
+    (omega arith, (omega arith, (omega arith, (omega arith, (omega arith, (omega arith, (omega arith, (omega arith, (omega arith, (omega arith, (omega arith, tt)))))))))))
+
+-- so none has the number 12
+pub not-12 : (file : List ℕ) → ¬ (refusal file ≡ buffer-cause)
+not-12 file e = omega (arith, refusal-small file)

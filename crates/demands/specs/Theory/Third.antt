@@ -17,7 +17,6 @@ use Rattle.calculus.specs.Theory.ConfigRuns.{state-after, config-reply}
 use Rattle.calculus.specs.Bytes.{Bytes}
 use Rattle.calculus.specs.Table.{type-at}
 use Rattle.calculus.specs.Recipe.{start}
-use Rattle.calculus.specs.Theory.Tests.{ltb-not}
 use Rattle.calculus.specs.Theory.Claim.{demand, images}
 use Rattle.recipe_table.specs.Entries.{type-table}
 use Rattle.check_spec.specs.Bays.{bay-terms}
@@ -25,7 +24,8 @@ use Rattle.check_spec.specs.Verdict.{accepted, refusal}
 use Rattle.check_spec.specs.Recipe.{Recipe}
 use Rattle.check_spec.specs.Theory.Accepted.{accepted-exactly, admitted, table-is, terms-are}
 use Rattle.load_spec.specs.Starting.{starting-image}
-use Rattle.load_spec.specs.Loading.{loaded-of, load-refusal, out-after-load}
+use Rattle.load_spec.specs.Loading.{loaded-of, out-after-load}
+use Rattle.load_spec.specs.Theory.Answers.{long as long-enough}
 use Rattle.image.specs.Configuration.{image-of, config-of}
 use Rattle.image.specs.Theory.Exactly.{read-again}
 use Rattle.step_spec.specs.declared.Outcome.the-variants.{Rule, Refused}
@@ -117,8 +117,8 @@ module _ (file : List ℕ) (b : Bytes file) (accepted : refusal file ≡ 0) wher
 
   -- the load leaves the starting image in the first bytes, as many as it answers
   loaded-is : (out : List ℕ) → max-image-length ≤ length out → image-loaded file out ≡ starting-image file
-  unfolding loaded-of out-after-load load-refusal
-  loaded-is out long = rw (ltb-not (length out) max-image-length long, accepted) (take-append-seam (starting-image file) (drop (length (starting-image file)) out))
+  unfolding loaded-of out-after-load
+  loaded-is out long = rw (long-enough file (length out) long, accepted) (take-append-seam (starting-image file) (drop (length (starting-image file)) out))
 
 pub third-demand : ThirdDemand
 unfolding starting-image

@@ -12,16 +12,16 @@ use Rattle.load_image.proofs.put_heads.Statement.{statement}
 use Rattle.load_image.proofs.put_heads.Tie as tie
 
 abbrev Inv-loop : tie.InvT-loop
-Inv-loop out₀ at recipe bays names next₀ k₀ out next k = HeadsTo (starting-names recipe) (starting-at recipe) out₀ at k out next
+Inv-loop out₀ at recipe edition bays names next₀ k₀ out next k = HeadsTo (starting-names recipe) (starting-at recipe) out₀ at k out next
 
 abbrev μ-loop : tie.MeasureT-loop
-μ-loop out₀ at recipe bays names next₀ k₀ out next k = names - k
+μ-loop out₀ at recipe edition bays names next₀ k₀ out next k = names - k
 
 abbrev Counted : Type 0
 Counted = tie.After-bay-count Inv-loop μ-loop
 
 few : (c : Counted) → c .bay-count .result ≤ max-bays
-few c = omega (arith, c .bay-count .ensures, few-bays (c .before .before .before .pre .0))
+few c = omega (arith, c .bay-count .ensures, few-bays (c .before .before .before .pre .0 .0))
 
 loop-holds : tie.Need-loop-holds Inv-loop μ-loop
 loop-holds c = heads-start _ _ (c .before .before .before .pre .1 .1) refl (omega (arith, c .bay-count .ensures))
@@ -40,7 +40,7 @@ below : (t : InLoop) → t .before .loop .k < starting-names (file t)
 below t = omega (arith, t .loop-test .taken, t .before .before .bay-count .ensures)
 
 head-of-requires : tie.Need-head-of-requires Inv-loop μ-loop
-head-of-requires c κs = let t = c .before in (start t .pre .0, below t)
+head-of-requires c κs = let t = c .before in (start t .pre .0 .0, below t, start t .pre .0 .1)
 
 put-head-requires : tie.Need-put-head-requires Inv-loop μ-loop
 put-head-requires c κs = let t = c .before .before in room-head _ _ (t .before .loop .inv) (below t) (c .head-of .ensures) (start t .pre .1 .0)

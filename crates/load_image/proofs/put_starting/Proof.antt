@@ -8,14 +8,14 @@ use lib.ListN.{length, take, drop}
 use Rattle.calculus.specs.Bytes.{Bytes, two-bytes}
 use Rattle.calculus.specs.Limits.{first-head, max-image-length}
 use Rattle.calculus.specs.Lists.{tabulate}
-use Rattle.recipe_file.specs.File.{bays, offset-of, first-term}
+use Rattle.recipe_file.specs.File.{bays, offset-of}
 use Rattle.recipe_file.specs.FileRule.{FileRule}
 use Rattle.buffer.specs.Written.{Wrote}
 use Rattle.buffer.specs.Theory.Writes.{same, known-as}
 use Rattle.buffer.specs.Theory.TwoBytes.{length-two-bytes}
 use Rattle.image_layout.specs.Encoded.{expressions, head-offset}
 use Rattle.image_layout.specs.Theory.Turns.{room-kept, heads-end}
-use Rattle.load_image.specs.Starting.{setting, setting-length, starting-at, starting-names}
+use Rattle.load_image.specs.Starting.{first-term, setting, setting-length, starting-at, starting-names}
 use Rattle.load_image.specs.Theory.Parts.{terms-begin-inside}
 use Rattle.load_spec.specs.Theory.Image.{laid, starting-fits}
 use Rattle.load_image.proofs.Names.{few-bays, starting-room, settings-length, starting-length, starting-wrote}
@@ -42,7 +42,7 @@ are-bytes e i = e .before .shared-slice-known .given i .fits
 is-laid : (e : tie.After-slice-known) → FileRule (file e)
 is-laid e = laid (file e) (are-bytes e) (e .before .before .pre .0)
 
-fits-all : (e : tie.After-slice-known) → head-offset (starting-names (file e)) + (setting-length * bays (file e) + (length (file e) - offset-of (file e) first-term)) ≤ max-image-length
+fits-all : (e : tie.After-slice-known) → head-offset (starting-names (file e)) + (setting-length * bays (file e) + (length (file e) - offset-of (file e) (first-term (file e)))) ≤ max-image-length
 fits-all e = starting-length (file e) (are-bytes e) (e .before .before .pre .0)
 
 abbrev known : tie.After-put-heads-arg → tie.After-slice-known
@@ -63,7 +63,7 @@ names-end c =
     )
 
 bay-count-requires : tie.Need-bay-count-requires
-bay-count-requires c κs = is-laid c
+bay-count-requires c κs = (is-laid c, c .before .before .pre .2)
 
 add-put-u16 : tie.Need-add-put-u16
 add-put-u16 c = omega (arith, c .before .bay-count .ensures, few-bays (is-laid (c .before .before)))
@@ -77,7 +77,7 @@ put-heads-requires : tie.Need-put-heads-requires
 put-heads-requires c κs =
     let at-slice-known = known c in
     let start = at-slice-known .before .before in
-    (is-laid at-slice-known, (room-kept _ _ {old = start .args .out .now} (starting-room (file at-slice-known) (are-bytes at-slice-known) (start .pre .0) (start .pre .1)) (same (names-end c .1)), names-end c .0))
+    ((is-laid at-slice-known, start .pre .2), (room-kept _ _ {old = start .args .out .now} (starting-room (file at-slice-known) (are-bytes at-slice-known) (start .pre .0) (start .pre .1)) (same (names-end c .1)), names-end c .0))
 
 put-settings-requires : tie.Need-put-settings-requires
 put-settings-requires c κs =
@@ -92,7 +92,8 @@ put-settings-requires c κs =
 first-term-requires : tie.Need-first-term-requires
 first-term-requires c κs =
     let at-put-heads = before-put-settings (c .before .before .before) in
-    is-laid (known (at-put-heads .before))
+    let at-slice-known = known (at-put-heads .before) in
+    (is-laid at-slice-known, at-slice-known .before .before .pre .2)
 
 put-part-requires : tie.Need-put-part-requires
 put-part-requires c κs =

@@ -9,12 +9,12 @@ use lib.Seq.{drop-drop, drop-length}
 use Rattle.calculus.specs.Lists.{tabulate}
 use Rattle.calculus.specs.Theory.Tests.{ltb-complete, ltb-not}
 use Rattle.calculus.specs.Theory.Tabulate.{tabulate-same}
-use Rattle.recipe_file.specs.File.{first-term, bays, offset-of, length-of, part, term-bytes}
+use Rattle.recipe_file.specs.File.{bays, offset-of, length-of, part, term-bytes}
 use Rattle.recipe_file.specs.FileRule.{FileRule}
 use Rattle.recipe_file.proofs.Inside.{length-part, term-is-part}
 use Rattle.image_layout.specs.Encoded.{expressions}
 use Rattle.image_layout.specs.Theory.Components.{expressions-append, so-far, so-far-none, so-far-next}
-use Rattle.load_image.specs.Starting.{setting, bay-thread, starting-at, starting-names}
+use Rattle.load_image.specs.Starting.{first-term, setting, bay-thread, starting-at, starting-names}
 
 -- two lists by index, one after the other
 pub tabulate-append : {A : Type 0} (n m : ℕ) (f : ℕ → A) → tabulate (n + m) f ≡ tabulate n f ++ tabulate m (λ i. f (n + i))
@@ -35,45 +35,45 @@ starting-parts s =
     ) refl
 
 module _ (s : List ℕ) (laid : FileRule s) where
-  bay-length : (bay : ℕ) → bay < bays s → length (bay-thread s bay .expression) ≡ length-of s (first-term + bay)
+  bay-length : (bay : ℕ) → bay < bays s → length (bay-thread s bay .expression) ≡ length-of s (first-term s + bay)
   unfolding bay-thread term-bytes
   bay-length bay l = length-part (term-is-part (record { laid = laid; below = l }))
 
   -- where a bay's part begins
-  pub bay-begins : (bay : ℕ) → bay < bays s → offset-of s (first-term + bay) ≡ offset-of s first-term + so-far (bay-thread s) bay
+  pub bay-begins : (bay : ℕ) → bay < bays s → offset-of s (first-term s + bay) ≡ offset-of s (first-term s) + so-far (bay-thread s) bay
   unfolding bays
-  bay-begins zero l = omega (arith, so-far-none (bay-thread s))
+  bay-begins zero l = rw add-zero (omega (arith, so-far-none (bay-thread s)))
   bay-begins (suc bay) l =
-      let e : first-term + bay + 1 ≡ first-term + suc bay = omega arith in
-      ap (offset-of s) (sym e) ∙ omega (arith, laid .next (first-term + bay) (omega arith), bay-begins bay (omega arith), so-far-next (bay-thread s) bay, bay-length bay (omega arith))
+      let e : first-term s + bay + 1 ≡ first-term s + suc bay = omega arith in
+      ap (offset-of s) (sym e) ∙ omega (arith, laid .next (first-term s + bay) (omega arith), bay-begins bay (omega arith), so-far-next (bay-thread s) bay, bay-length bay (omega arith))
 
   -- what stands behind the first bays
-  behind : (bay : ℕ) → bay ≤ bays s → expressions (tabulate bay (bay-thread s)) ++ drop (offset-of s first-term + so-far (bay-thread s) bay) s ≡ drop (offset-of s first-term) s
+  behind : (bay : ℕ) → bay ≤ bays s → expressions (tabulate bay (bay-thread s)) ++ drop (offset-of s (first-term s) + so-far (bay-thread s) bay) s ≡ drop (offset-of s (first-term s)) s
   unfolding tabulate expressions bay-thread term-bytes part
   behind zero l = rw (so-far-none (bay-thread s), add-zero) refl
   behind (suc bay) l =
       let o = bay-begins bay l in
       let n = bay-length bay l in
-      let e : offset-of s first-term + so-far (bay-thread s) (suc bay) ≡ offset-of s (first-term + bay) + length-of s (first-term + bay) = omega (arith, so-far-next (bay-thread s) bay) in
-      rw (e, expressions-append (tabulate bay (bay-thread s)) (bay-thread s bay ∷ []), append-nil, append-assoc, ← drop-drop (length-of s (first-term + bay)) (offset-of s (first-term + bay)) s, take-append-drop, o)
+      let e : offset-of s (first-term s) + so-far (bay-thread s) (suc bay) ≡ offset-of s (first-term s + bay) + length-of s (first-term s + bay) = omega (arith, so-far-next (bay-thread s) bay) in
+      rw (e, expressions-append (tabulate bay (bay-thread s)) (bay-thread s bay ∷ []), append-nil, append-assoc, ← drop-drop (length-of s (first-term s + bay)) (offset-of s (first-term s + bay)) s, take-append-drop, o)
       (behind bay (omega arith))
 
   -- the last part ends with the file
-  all-end : offset-of s first-term + so-far (bay-thread s) (bays s) ≡ length s
+  all-end : offset-of s (first-term s) + so-far (bay-thread s) (bays s) ≡ length s
   unfolding bays
   all-end =
       let last = bays s - 1 in
       let e : bays s ≡ suc last = omega (arith, laid .has-parts .low) in
-      ap (λ (n : ℕ). offset-of s first-term + so-far (bay-thread s) n) e
-      ∙ omega (arith, so-far-next (bay-thread s) last, bay-begins last (omega arith), bay-length last (omega arith), laid .last (first-term + last) (omega (arith, laid .has-parts .low)))
+      ap (λ (n : ℕ). offset-of s (first-term s) + so-far (bay-thread s) n) e
+      ∙ omega (arith, so-far-next (bay-thread s) last, bay-begins last (omega arith), bay-length last (omega arith), laid .last (first-term s + last) (omega (arith, laid .has-parts .low)))
 
   -- the bays' terms are the end of the file
-  pub terms-are-end : expressions (tabulate (bays s) (bay-thread s)) ≡ drop (offset-of s first-term) s
+  pub terms-are-end : expressions (tabulate (bays s) (bay-thread s)) ≡ drop (offset-of s (first-term s)) s
   terms-are-end =
       let e = all-end in
-      let d : drop (offset-of s first-term + so-far (bay-thread s) (bays s)) s ≡ [] = ap (λ (n : ℕ). drop n s) e ∙ drop-length s in
+      let d : drop (offset-of s (first-term s) + so-far (bay-thread s) (bays s)) s ≡ [] = ap (λ (n : ℕ). drop n s) e ∙ drop-length s in
       sym (append-nil _) ∙ ap (λ (l : List ℕ). expressions (tabulate (bays s) (bay-thread s)) ++ l) (sym d) ∙ behind (bays s) (omega arith)
 
   -- and they begin inside it
-  pub terms-begin-inside : offset-of s first-term ≤ length s
+  pub terms-begin-inside : offset-of s (first-term s) ≤ length s
   terms-begin-inside = omega (arith, all-end)

@@ -23,7 +23,7 @@ abbrev before-else2 : tie.Else2 → tie.After-check
 before-else2 c = c .before
 
 abbrev before-put-starting : tie.After-put-starting → tie.Else2
-before-put-starting c = c .before .before
+before-put-starting c = c .before .before .before
 
 returns : tie.Need-returns
 returns c =
@@ -45,12 +45,12 @@ returns-2 c =
 
 put-starting-requires : tie.Need-put-starting-requires
 put-starting-requires c κs =
-    let in-else2 = c .before in
+    let in-else2 = c .before .before in
     let at-check = before-else2 in-else2 in
     let in-else1 = before-check at-check in
     let start = before-else1 in-else1 in
     let a = start .args in
-    (sym (number-is (a .recipe .now) (at-check .check .result) (at-check .check .ensures)) ∙ in-else2 .if2 .left, omega (arith, in-else1 .if1 .left))
+    (sym (number-is (a .recipe .now) (at-check .check .result) (at-check .check .ensures)) ∙ in-else2 .if2 .left, omega (arith, in-else1 .if1 .left), c .before .edition-of .ensures)
 
 returns-3 : tie.Need-returns-3
 returns-3 c =
@@ -72,6 +72,7 @@ load-spec =
     (λ c κs. search needs)
     (λ c κs. search needs)
     returns-2
+    (λ c κs. search needs)
     put-starting-requires
     (λ c. search needs)
     returns-3)

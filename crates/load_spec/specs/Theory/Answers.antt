@@ -1,4 +1,4 @@
--- What a load answers and leaves, from the lowest cause that fits.
+-- What a load answers and leaves, from the first cause that fits.
 use mathlib.Core.Path.{_≡_, refl, sym}
 use mathlib.Core.Bool.{Bool, cond, false, true}
 use mathlib.Core.List.{List, _++_}
@@ -20,7 +20,7 @@ module _ (s : List ℕ) (room : ℕ) where
   short l = rw (ltb-complete room max-image-length l) refl
 
   pub long : max-image-length ≤ room → load-refusal s room ≡ refusal s
-  unfolding load-refusal
+  unfolding load-refusal refusal
   long l = rw (ltb-not room max-image-length l) refl
 
   pub load-refusal-is : loaded-of s room .refusal ≡ load-refusal s room

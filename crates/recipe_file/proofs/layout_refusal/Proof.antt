@@ -11,7 +11,7 @@ returns : tie.Need-returns
 returns c = lowest-1 _ _ (c .before .is-outside .ensures) (c .if1 .taken)
 
 opening-breaks-requires : tie.Need-opening-breaks-requires
-opening-breaks-requires c κs = long-enough (c .before .before .before .args .recipe .now) _ (c .before .is-outside .ensures) (c .if1 .left)
+opening-breaks-requires c κs = let s = c .before .before .before in (long-enough (s .args .recipe .now) _ (c .before .is-outside .ensures) (c .if1 .left), s .pre)
 
 returns-2 : tie.Need-returns-2
 returns-2 c = lowest-2 _ _ (c .before .before .before .is-outside .ensures) (c .before .before .if1 .left) _ (c .before .opening-breaks .ensures) (c .if2 .taken)

@@ -1,5 +1,7 @@
 -- `recipe_file::opening_breaks` meets its contract.
 use mathlib.Core.Path.{_∙_}
+use native.Mathlib.Omega.{arith}
+use Rattle.recipe_file.proofs.Editions.{EditionRule, edition-rule}
 use Rattle.recipe_file.proofs.Causes.{other-first, other-second, other-edition, opening-stands}
 use borrow.Author.Needs.{needs}
 use Rattle.recipe_file.proofs.opening_breaks.Statement.{statement}
@@ -27,7 +29,19 @@ shared-slice-read-if3 : tie.Need-shared-slice-read-if3
 shared-slice-read-if3 c = search needs
 
 returns-3 : tie.Need-returns-3
-returns-3 c = other-edition _ (c .before .before .before .before .if1 .left) (c .before .before .if2 .left) (c .if3 .taken)
+returns-3 c =
+    let e = c .before .before .before in
+    other-edition _ (e .before .before .if1 .left) (e .if2 .left) _ (e .before .before .before .before .before .pre .1) (c .if3 .taken)
+
+-- the edition that the file says
+says : (c : tie.Start) → EditionRule (c .args .edition)
+says c = rw (c .pre .1) (edition-rule (c .args .recipe .now))
+
+add-least : tie.Need-add-least
+add-least c = omega (arith, says (c .before .before .before .before .before .before .before .before .before) .one-byte)
+
+add-most : tie.Need-add-most
+add-most c = omega (arith, says (c .before .before .before .before .before .before .before .before .before .before) .one-byte)
 
 shared-slice-read-wide : tie.Need-shared-slice-read-wide
 shared-slice-read-wide c = search needs
@@ -40,8 +54,9 @@ is-outside-requires c κs = search needs
 
 returns-4 : tie.Need-returns-4
 returns-4 c =
-    let e = c .before .before .before in
-    c .is-outside .ensures ∙ opening-stands _ (e .before .before .before .before .if1 .left) (e .before .before .if2 .left) (e .if3 .left) _ (c .before .wide .ensures .0)
+    let e = c .before .before .before .before .before in
+    let f = e .before .before .before in
+    c .is-outside .ensures ∙ opening-stands _ (f .before .before .if1 .left) (f .if2 .left) _ (f .before .before .before .before .before .pre .1) (e .if3 .left) _ (c .before .wide .ensures .0)
 
 pub opening-breaks-spec : {M : Type 1} → statement M
 opening-breaks-spec =
@@ -55,6 +70,8 @@ opening-breaks-spec =
     returns-2
     shared-slice-read-if3
     returns-3
+    add-least
+    add-most
     shared-slice-read-wide
     wide-requires
     is-outside-requires

@@ -2,16 +2,16 @@
 use native.Mathlib.Nat.{add-sub-cancel-left}
 use native.Mathlib.Omega.{arith}
 use Rattle.recipe_file.specs.File.{part}
-use Rattle.recipe_file.proofs.Inside.{pairs-inside, part-inside}
+use Rattle.recipe_file.proofs.Inside.{few-parts, pairs-inside, part-inside}
 use borrow.Author.Needs.{needs}
 use Rattle.recipe_file.proofs.part.Statement.{statement}
 use Rattle.recipe_file.proofs.part.Tie as tie
 
 offset-of-requires : tie.Need-offset-of-requires
-offset-of-requires c κs = let h = c .before .pre in omega (arith, pairs-inside (h .laid), h .laid .has-parts .high, h .below)
+offset-of-requires c κs = let h = c .before .pre in omega (arith, pairs-inside (h .laid), few-parts (h .laid), h .below)
 
 length-of-requires : tie.Need-length-of-requires
-length-of-requires c κs = let h = c .before .before .pre in omega (arith, pairs-inside (h .laid), h .laid .has-parts .high, h .below)
+length-of-requires c κs = let h = c .before .before .pre in omega (arith, pairs-inside (h .laid), few-parts (h .laid), h .below)
 
 add-result : tie.Need-add-result
 add-result c = search needs

@@ -11,10 +11,10 @@ use Rattle.recipe_table.proofs.entries_stand.Statement.{statement}
 use Rattle.recipe_table.proofs.entries_stand.Tie as tie
 
 abbrev Inv-loop : tie.InvT-loop
-Inv-loop count table i₀ i = Passed (entries-from (as-table table count)) 0 count i
+Inv-loop count kinds table i₀ i = Passed (entries-from kinds (as-table table count)) 0 count i
 
 abbrev μ-loop : tie.MeasureT-loop
-μ-loop count table i₀ i = count - i
+μ-loop count kinds table i₀ i = count - i
 
 inside : (c : tie.Start Inv-loop μ-loop) → c .args .count ≤ length (c .args .t1)
 inside c = omega (arith, c .pre, c .good .0 .1)
@@ -35,7 +35,7 @@ returns : tie.Need-returns Inv-loop μ-loop
 unfolding entries-from
 returns c =
     let l = c .before .before .before .before in
-    passed-not (l .loop .inv) _ _ (entries-turn _ _ (inside (l .before)) _ (c .before .before .before .loop-test .taken)) (c .before .entry-stands .ensures) (not-true _ (c .if1 .taken))
+    passed-not (l .loop .inv) _ _ (entries-turn _ _ (inside (l .before)) _ _ (c .before .before .before .loop-test .taken)) (c .before .entry-stands .ensures) (not-true _ (c .if1 .taken))
 
 add-i : tie.Need-add-i Inv-loop μ-loop
 add-i c = search needs
@@ -46,12 +46,12 @@ loop-less c = search needs
 loop-again : tie.Need-loop-again Inv-loop μ-loop
 loop-again c =
     let l = c .before .before .before .before in
-    passed-next (l .loop .inv) _ _ (entries-turn _ _ (inside (l .before)) _ (c .before .before .before .loop-test .taken)) (c .before .entry-stands .ensures)
+    passed-next (l .loop .inv) _ _ (entries-turn _ _ (inside (l .before)) _ _ (c .before .before .before .loop-test .taken)) (c .before .entry-stands .ensures)
     (c .before .before .before .loop-test .taken) (not-false _ (c .if1 .left))
 
 returns-2 : tie.Need-returns-2 Inv-loop μ-loop
 unfolding entries-from
-returns-2 c = passed-end (c .before .loop .inv) (c .loop-test .left) (entries-done _ _ (inside (c .before .before)))
+returns-2 c = passed-end (c .before .loop .inv) (c .loop-test .left) (entries-done _ _ (inside (c .before .before)) _)
 
 pub entries-stand-spec : {M : Type 1} → statement M
 entries-stand-spec =

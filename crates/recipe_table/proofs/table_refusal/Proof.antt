@@ -26,12 +26,12 @@ table-stands-requires c κs =
 returns-2 : tie.Need-returns-2
 returns-2 c =
     let e = c .before .before .before .before in
-    table-broken _ _ (e .before .layout-refusal .ensures) (e .if1 .left) _ (c .before .before .before .table-in .ensures) _ (c .before .before .entry-count .ensures) _ (c .before .table-stands .ensures) (not-true _ (c .if2 .taken))
+    table-broken _ _ (e .before .before .before .pre) _ (e .before .layout-refusal .ensures) (e .if1 .left) _ (c .before .before .before .table-in .ensures) _ (c .before .before .entry-count .ensures) _ (c .before .table-stands .ensures) (not-true _ (c .if2 .taken))
 
 returns-3 : tie.Need-returns-3
 returns-3 c =
     let e = c .before .before .before .before in
-    table-sound _ _ (e .before .layout-refusal .ensures) (e .if1 .left) _ (c .before .before .before .table-in .ensures) _ (c .before .before .entry-count .ensures) _ (c .before .table-stands .ensures) (not-false _ (c .if2 .left))
+    table-sound _ _ (e .before .before .before .pre) _ (e .before .layout-refusal .ensures) (e .if1 .left) _ (c .before .before .before .table-in .ensures) _ (c .before .before .entry-count .ensures) _ (c .before .table-stands .ensures) (not-false _ (c .if2 .left))
 
 pub table-refusal-spec : {M : Type 1} → statement M
 table-refusal-spec =

@@ -16,7 +16,7 @@ entries-stand-requires : tie.Need-entries-stand-requires
 entries-stand-requires c κs = search needs
 
 returns : tie.Need-returns
-returns c = let s = c .before .before in entry-broken _ _ (inside s) (s .pre .low) _ (c .before .entries-stand .ensures) (not-true _ (c .if1 .taken))
+returns c = let s = c .before .before in entry-broken _ _ _ (inside s) (s .pre .low) _ (c .before .entries-stand .ensures) (not-true _ (c .if1 .taken))
 
 entries-differ-requires : tie.Need-entries-differ-requires
 entries-differ-requires c κs = search needs
@@ -25,7 +25,7 @@ returns-2 : tie.Need-returns-2
 returns-2 c =
     let f = c .before .before in
     let s = f .before .before in
-    entry-twice _ _ (inside s) (s .pre .low) _ (f .before .entries-stand .ensures) (not-false _ (f .if1 .left)) _ (c .before .entries-differ .ensures) (not-true _ (c .if2 .taken))
+    entry-twice _ _ _ (inside s) (s .pre .low) _ (f .before .entries-stand .ensures) (not-false _ (f .if1 .left)) _ (c .before .entries-differ .ensures) (not-true _ (c .if2 .taken))
 
 first-stand-requires : tie.Need-first-stand-requires
 first-stand-requires c κs = search needs
@@ -36,7 +36,7 @@ returns-3 c =
     let f = d .before .before in
     let s = f .before .before in
     c .first-stand .ensures
-    ∙ table-kept _ _ (inside s) (s .pre .low) _ (f .before .entries-stand .ensures) (not-false _ (f .if1 .left)) _ (d .before .entries-differ .ensures) (not-false _ (d .if2 .left))
+    ∙ table-kept _ _ _ (inside s) (s .pre .low) _ (f .before .entries-stand .ensures) (not-false _ (f .if1 .left)) _ (d .before .entries-differ .ensures) (not-false _ (d .if2 .left))
 
 pub table-stands-spec : {M : Type 1} → statement M
 table-stands-spec =

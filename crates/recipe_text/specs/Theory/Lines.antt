@@ -1,43 +1,21 @@
 -- The text by the verdict, and the text of an input that is longer than any recipe.
 use mathlib.Core.Path.{_≡_, _∙_, ap, refl, sym}
-use mathlib.Core.Bool.{Bool, _&&_, _||_, cond, true, false}
-use mathlib.Core.List.{List, [], _∷_, _++_, append-nil}
-use Prim.Native.Nat.{ℕ, _<_, _≤_}
+use mathlib.Core.Bool.{Bool, _||_, true, false}
+use mathlib.Core.List.{List, _++_, append-nil}
+use Prim.Native.Nat.{ℕ, _<_}
 use native.Mathlib.Omega.{arith}
 use native.Mathlib.Decide.{decLt}
-use lib.Dec.{leb, ltb}
+use lib.Dec.{ltb}
 use lib.ListN.{length, take}
 use lib.Seq.{length-take-le, take-all}
-use Rattle.calculus.specs.Causes.{bay-once-cause, file-length-cause}
+use Rattle.calculus.specs.Causes.{file-length-cause}
 use Rattle.calculus.specs.Limits.{max-file-length, min-file-length}
-use Rattle.calculus.specs.Lowest.{Cause, lowest}
-use Rattle.calculus.specs.Verdict.{type-causes}
-use Rattle.calculus.specs.Theory.Tests.{and-parts, eqb-differ, leb-sound, ltb-complete}
+use Rattle.calculus.specs.Theory.Tests.{eqb-differ, ltb-complete}
 use Rattle.recipe_file.specs.File.{cause-1, outside}
-use Rattle.recipe_table.specs.Entries.{table-causes, type-table}
-use Rattle.check_spec.specs.Bays.{bay-terms, term-causes}
 use Rattle.check_spec.specs.Verdict.{refusal}
 use Rattle.check_spec.specs.Theory.Answers.{refusal-is}
 use Rattle.load_spec.specs.Starting.{starting-image}
 use Rattle.recipe_text.specs.Text.{image-line, text-of, verdict-line}
-
--- no cause of a list has a number above k
-abbrev numbers-to : ℕ → List Cause → Bool
-numbers-to k [] = true
-numbers-to k (c ∷ cs) = leb (c .number) k && numbers-to k cs
-
-lowest-to : (k : ℕ) (cs : List Cause) → numbers-to k cs ≡ true → lowest cs ≤ k
-lowest-to k [] e = omega arith
-lowest-to k (c ∷ cs) e = let (a, b) = and-parts (leb (c .number) k) (numbers-to k cs) e in go (c .fits) (leb-sound (c .number) k a) (lowest-to k cs b)
-  where
-    go : (b : Bool) → c .number ≤ k → lowest cs ≤ k → cond b (c .number) (lowest cs) ≤ k
-    go true l m = l
-    go false l m = m
-
--- the causes of a file end with 11
-pub refusal-small : (s : List ℕ) → refusal s ≤ bay-once-cause
-unfolding refusal
-refusal-small s = lowest-to bay-once-cause (table-causes s ++ (term-causes s ++ type-causes (type-table s) (bay-terms s))) refl
 
 module _ (s : List ℕ) where
   -- "if accepted"

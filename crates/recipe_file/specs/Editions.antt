@@ -1,0 +1,11 @@
+-- The editions of the recipe file that are known.
+use mathlib.Core.List.{List, [], _∷_}
+use Rattle.recipe_file.specs.declared.Edition.{Edition}
+
+-- document 01, "the edition, 01": ten node forms, five kinds of types, "one type table, then one term for each" bay
+abbrev pub edition-1 : Edition
+edition-1 = record { number = 1; forms = 10; kinds = 5; terms = 1 }
+
+-- those that are known, in the order of their numbers
+abbrev pub editions : List Edition
+editions = edition-1 ∷ []
