@@ -17,7 +17,8 @@ use Rattle.calculus.specs.Verdict.{on-function, on-once-function, on-cell, is-m
 use Rattle.buffer.specs.Theory.TwoBytes.{number-of-bytes}
 use Rattle.term.specs.Numbers.{value-of, little-endian}
 use Rattle.term.specs.Forms.{form-of, forms}
-use Rattle.term.specs.Reader.{one-term, read, read-term}
+use Rattle.term.specs.Reader.{one-term, read, read-term, of-edition}
+use Rattle.term.specs.Tree.{forms-below}
 use Rattle.term.specs.Expressions.{exp-of, leaf-exp, leaf-forms, nesting, bytes, const-bytes, op-tag, term-of, two-exp}
 use Rattle.recipe_file.specs.Editions.{edition-1}
 use Rattle.recipe_file.specs.File.{edition-of, bays, parts, offset-of, length-of, part, table-bytes, term-bytes, outside, cause-1, opens, cause-2, pairs-test, table-length-test, cause-3}
@@ -671,7 +672,7 @@ pub record Proved : Type 0 where
   pub holds-once : (n : Step) × (at (run-of kept-handle) 3 ≡ some n) × HoldsOnce (type-at (type-table (kept-handle .file))) n 4
 
 pub cases : Proved
-unfolding computed verdict-of refusal bay-type-numbers bay-type-number number-in bay-terms bay-term cause-5 cause-6 cause-4 table-of type-table file-of joined pairs-of two-bytes word bays parts offset-of length-of part table-bytes term-bytes outside cause-1 opens edition-of cause-2 pairs-test table-length-test cause-3 exp-of leaf-exp leaf-forms two-exp nesting one-term read read-term form-of forms value-of tabulate each-below sum-below uses nodes test-entry entry-test entries-test same-entry new-to distinct-test entry-is table-test on-function on-once-function on-cell is-many scoped-const scoped annotated-const annotated const-number on-number result-number applied-number lambda-number type-number outside-many linear-parameter linear every verdict starting-image renewed outcome-of out-after-step step-reply outcome-of-reply out-after-reply config-of decode components image-of encode terms-stand image-stands kind-test companion-test length-test head-agrees head-stands stand-from heads-stand names kind-at companion-at offset-in length-at expression-at encoded-at encoded-all head heads expressions image-bytes bytes const-bytes op-tag little-endian loaded bay-types with-type reply-of sum-in sum-all expression-test is-settled is-awaited handle-for component-test each-test limits-test image-test beside place-app place when-done step-call step-exchange step-meeting step-place step-of substitute plug run-of lambdas identities steps loaded-of load-refusal out-after-load term-of function-at new-types coming result-type future-and-handle type-at read-deep read-at read-entry cell-reading function-reading
+unfolding computed verdict-of refusal bay-type-numbers bay-type-number number-in bay-terms bay-term cause-5 cause-6 cause-4 table-of type-table file-of joined pairs-of two-bytes word bays parts offset-of length-of part table-bytes term-bytes outside cause-1 opens edition-of cause-2 pairs-test table-length-test cause-3 exp-of leaf-exp leaf-forms two-exp nesting one-term of-edition forms-below read read-term form-of forms value-of tabulate each-below sum-below uses nodes test-entry entry-test entries-test same-entry new-to distinct-test entry-is table-test on-function on-once-function on-cell is-many scoped-const scoped annotated-const annotated const-number on-number result-number applied-number lambda-number type-number outside-many linear-parameter linear every verdict starting-image renewed outcome-of out-after-step step-reply outcome-of-reply out-after-reply config-of decode components image-of encode terms-stand image-stands kind-test companion-test length-test head-agrees head-stands stand-from heads-stand names kind-at companion-at offset-in length-at expression-at encoded-at encoded-all head heads expressions image-bytes bytes const-bytes op-tag little-endian loaded bay-types with-type reply-of sum-in sum-all expression-test is-settled is-awaited handle-for component-test each-test limits-test image-test beside place-app place when-done step-call step-exchange step-meeting step-place step-of substitute plug run-of lambdas identities steps loaded-of load-refusal out-after-load term-of function-at new-types coming result-type future-and-handle type-at read-deep read-at read-entry cell-reading function-reading
 cases = record {
   table = refl;
   recipes = λ n h. ap (λ m. num-at (two-bytes n) (two-bytes m)) (number-of-bytes n);

@@ -9,16 +9,17 @@ use lib.ListN.{length, length-drop, length-take}
 use Rattle.calculus.specs.Lists.{sum-below}
 use Rattle.calculus.specs.Limits.{max-file-length}
 use Rattle.calculus.specs.Theory.Tests.{clash}
-use Rattle.term.specs.Reader.{first-tree, Got, got, none, one-term, read-term, tree-at}
+use Rattle.term.specs.Tree.{forms-below}
+use Rattle.term.specs.Reader.{first-tree, Got, got, none, of-edition, one-term, tree-at}
 use Rattle.term.specs.Expressions.{term-of}
 use Rattle.term.proofs.Sizes.{nodes-exp}
 use Rattle.term.proofs.Views.{end-inside, nodes-inside}
-use Rattle.recipe_file.specs.File.{bays, part, term-bytes}
+use Rattle.recipe_file.specs.File.{bays, edition-of, part, term-bytes}
 use Rattle.recipe_file.specs.FileRule.{FileRule}
 use Rattle.term_scan.specs.declared.Part.the-variants.{Nodes, NoTerm}
 use Rattle.term_scan.specs.Extents.{exactly, part-of}
 use Rattle.term_scan.proofs.Answers.{part-single, Single}
-use Rattle.check_spec.specs.Bays.{bay-term}
+use Rattle.check_spec.specs.Bays.{bay-reading, bay-term}
 use Rattle.check_bays.specs.Terms.{bay-single, bay-nodes, nodes-in}
 use Rattle.check_bays.proofs.Each.{failed, Passed, passed-all, passed-next, passed-none}
 
@@ -43,26 +44,31 @@ part-nodes s bay n l h =
     let p = term-bytes s bay in
     omega (arith, h .count, nodes-exp (tree-at p 0), nodes-inside p 0, end-inside (h .good), short s bay, l .size .high)
 
-one-part : (s : List ℕ) (bay n : ℕ) → Single (term-bytes s bay) n → bay-single s bay ≡ true
-unfolding bay-single one-term
-one-part s bay n h = rw (h .reads) refl
+one-part : (s : List ℕ) (bay n : ℕ) → Single (term-bytes s bay) n → forms-below (edition-of s .forms) (tree-at (term-bytes s bay) 0) ≡ true → bay-single s bay ≡ true
+unfolding bay-single one-term of-edition
+one-part s bay n h f = rw (h .reads, f) refl
 
-module _ {s : List ℕ} {bay : ℕ} (l : FileRule s) (b : bay < bays s) {p : List ℕ} (is : p ≡ term-bytes s bay) where
-  pub counted-next : {total : ℕ} (n : ℕ) → NodesCounted s bay total → Nodes n ≡ part-of p → NodesCounted s (bay + 1) (total + n)
+module _ {s : List ℕ} {bay : ℕ} (l : FileRule s) (b : bay < bays s) {p : List ℕ} (is : p ≡ term-bytes s bay) {forms : ℕ} (has : forms ≡ edition-of s .forms) where
+  -- what is read of the part is what is read of the bay
+  same : part-of forms p ≡ part-of (edition-of s .forms) (term-bytes s bay)
+  same = rw (has, is) refl
+
+  pub counted-next : {total : ℕ} (n : ℕ) → NodesCounted s bay total → Nodes n ≡ part-of forms p → NodesCounted s (bay + 1) (total + n)
   unfolding sum-below bay-nodes bay-term
   counted-next {total} n c e =
-      let h : Single (term-bytes s bay) n = part-single (term-bytes s bay) n (e ∙ ap part-of is) in
+      let (h, f) = part-single (edition-of s .forms) (term-bytes s bay) n (e ∙ same) in
       record {
-        passed = passed-next (c .passed) b true (sym (one-part s bay n h)) refl;
+        passed = passed-next (c .passed) b true (sym (one-part s bay n h f)) refl;
         sum = rw (add-one bay) (omega (arith, c .sum, h .count));
         bound = omega (arith, c .bound, part-nodes s bay n l h);
       }
 
-  pub counted-not : NoTerm ≡ part-of p → NoTerm ≡ nodes-in s
+  pub counted-not : NoTerm ≡ part-of forms p → NoTerm ≡ nodes-in s
   unfolding nodes-in part-of bay-single one-term
-  counted-not e = rw (failed (bays s) (bay-single s) bay b (bay-single s bay) refl (over (read-term (term-bytes s bay)) refl (e ∙ ap part-of is))) refl
+  counted-not e =
+      rw (failed (bays s) (bay-single s) bay b (bay-single s bay) refl (over (bay-reading s bay) refl (e ∙ same))) refl
     where
-      over : (g : Got) → read-term (term-bytes s bay) ≡ g → NoTerm ≡ part-of (term-bytes s bay) → bay-single s bay ≡ false
+      over : (g : Got) → bay-reading s bay ≡ g → NoTerm ≡ exactly (bay-reading s bay) → one-term (bay-reading s bay) ≡ false
       over none r q = rw r refl
       over (got t []) r q = absurd (clash (let z : NoTerm ≡ exactly (got t []) = q ∙ ap exactly r in cc))
       over (got t (x ∷ rest)) r q = rw r refl

@@ -10,24 +10,25 @@ use Rattle.calculus.specs.Image.{nodes}
 use Rattle.calculus.specs.Verdict.{scoped}
 use Rattle.calculus.specs.Theory.Tests.{leb-sound}
 use Rattle.calculus.specs.Theory.Tabulate.{each-below-sound}
-use Rattle.term.specs.Reader.{Good, GoodAt, Got, got, none, one-term, read-term}
+use Rattle.term.specs.Reader.{Good, GoodAt, Got, got, none, of-edition, one-term, read-term}
 use Rattle.term.specs.Expressions.{nesting, term-at}
 use Rattle.term.proofs.Fronts.{is-good}
-use Rattle.recipe_file.specs.File.{bays, term-bytes}
+use Rattle.term.proofs.Expressions.{edition-got}
+use Rattle.recipe_file.specs.File.{bays, edition-of, term-bytes}
 use Rattle.recipe_file.specs.FileRule.{HasBay}
 use Rattle.recipe_table.specs.Entries.{type-table}
-use Rattle.check_spec.specs.Bays.{bay-term}
+use Rattle.check_spec.specs.Bays.{bay-reading, bay-term}
 use Rattle.check_bays.specs.declared.Test.the-variants.{Nesting, Scope}
 use Rattle.check_bays.specs.Terms.{bay-single, bay-nodes}
 use Rattle.check_bays.specs.Tests.{passes, bay-passes, each-passes}
 use Rattle.check_bays.specs.Stages.{ScopedTerms, Terms}
 use Rattle.check_bays.proofs.Each.{part-below}
 
-pub good-of : (l : List ℕ) (g : Got) → read-term l ≡ g → one-term g ≡ true → Good l
+pub good-of : (forms : ℕ) (l : List ℕ) (g : Got) → of-edition forms (read-term l) ≡ g → one-term g ≡ true → Good l
 unfolding one-term
-good-of l none r e = absurd (false≢true e)
-good-of l (got t []) r e = is-good l t [] r
-good-of l (got t (x ∷ rest)) r e = absurd (false≢true e)
+good-of forms l none r e = absurd (false≢true e)
+good-of forms l (got t []) r e = is-good l t [] (edition-got forms (read-term l) r .0)
+good-of forms l (got t (x ∷ rest)) r e = absurd (false≢true e)
 
 module _ {s : List ℕ} (t : Terms s) {bay : ℕ} (b : bay < bays s) where
   pub has-bay : HasBay s bay
@@ -38,7 +39,7 @@ module _ {s : List ℕ} (t : Terms s) {bay : ℕ} (b : bay < bays s) where
     unfolding bay-single
     good-part = rw e (record {
       inside = zero-le;
-      good = good-of (term-bytes s bay) (read-term (term-bytes s bay)) refl (each-below-sound (bays s) (bay-single s) (t .single) bay b);
+      good = good-of (edition-of s .forms) (term-bytes s bay) (bay-reading s bay) refl (each-below-sound (bays s) (bay-single s) (t .single) bay b);
     })
 
     pub few-nodes : nodes (term-at l 0) ≤ max-nodes

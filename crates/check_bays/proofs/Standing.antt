@@ -11,15 +11,16 @@ use Rattle.calculus.specs.Limits.{max-nesting, max-recipe-nodes}
 use Rattle.calculus.specs.Verdict.{annotated, scoped}
 use Rattle.calculus.specs.Theory.Tests.{clash}
 use Rattle.term.specs.Tree.{tree-nodes}
-use Rattle.term.specs.Reader.{Got, got, none, one-term, read-term, tree-in}
+use Rattle.term.specs.Reader.{Got, got, none, of-edition, one-term, read-term, tree-in}
 use Rattle.term.specs.Expressions.{exp-of, nesting, term-at, term-of}
-use Rattle.recipe_file.specs.File.{bays, table-bytes, term-bytes}
+use Rattle.term.proofs.Expressions.{edition-got}
+use Rattle.recipe_file.specs.File.{bays, edition-of, table-bytes, term-bytes}
 use Rattle.recipe_file.specs.FileRule.{FileRule}
 use Rattle.term_scan.specs.declared.Part.the-variants.{Nodes, NoTerm}
 use Rattle.term_scan.specs.Extents as extents
 use Rattle.recipe_table.specs.Entries.{table-of, type-table}
 use Rattle.check_prescan.specs.Stands.{exactly, glance, stands}
-use Rattle.check_spec.specs.Bays.{bay-term}
+use Rattle.check_spec.specs.Bays.{bay-reading, bay-term}
 use Rattle.check_bays.specs.declared.Test.the-variants.{Nesting, Scope}
 use Rattle.check_bays.specs.Terms.{bay-nodes, bay-single}
 use Rattle.check_bays.specs.Tests.{bay-passes, each-passes, passes}
@@ -39,13 +40,14 @@ whole-term l e = ap (λ (x : Got). exp-of (tree-in x)) e
 -- the tests of one bay
 pub bay-tests : (s : List ℕ) (bay : ℕ) → bay-stands s bay ≡ (bay-single s bay && (bay-passes s Nesting bay && (bay-passes s Scope bay && bay-annotated s bay)))
 unfolding bay-stands bay-single bay-passes passes bay-annotated bay-term glance stands one-term
-bay-tests s bay = by (read-term (term-bytes s bay)) refl
+bay-tests s bay = by (bay-reading s bay) refl
   where
-    by : (g : Got) → read-term (term-bytes s bay) ≡ g → is-term (exactly (type-table s) (bays s) g) ≡ (one-term g && (leb (nesting (term-at (term-bytes s bay) 0)) max-nesting
+    by : (g : Got) → bay-reading s bay ≡ g → is-term (exactly (type-table s) (bays s) g) ≡ (one-term g && (leb (nesting (term-at (term-bytes s bay) 0)) max-nesting
         && (scoped (length (type-table s)) (bays s) 0 (term-at (term-bytes s bay) 0) && annotated (type-table s) (term-at (term-bytes s bay) 0))))
     by none e = refl
     by (got t []) e =
-        rw (whole-term (term-bytes s bay) e) (is-term-cond (stands (type-table s) (bays s) (exp-of t)) (tree-nodes t))
+        rw (whole-term (term-bytes s bay) (edition-got (edition-of s .forms) (read-term (term-bytes s bay)) e .0))
+        (is-term-cond (stands (type-table s) (bays s) (exp-of t)) (tree-nodes t))
     by (got t (x ∷ r)) e = refl
 
 -- of all bays
@@ -86,9 +88,9 @@ pub stood-none : (s : List ℕ) → Stood s 0 0
 stood-none s = record { passed = passed-none _ _; counted = counted-none s }
 
 -- what stands is a term
-is-part : (T : _) (names n : ℕ) (l : List ℕ) → Nodes n ≡ glance T names l → Nodes n ≡ extents.part-of l
+is-part : (forms : ℕ) (T : _) (names n : ℕ) (l : List ℕ) → Nodes n ≡ glance forms T names l → Nodes n ≡ extents.part-of forms l
 unfolding glance extents.part-of
-is-part T names n l e = by (read-term l) e
+is-part forms T names n l e = by (of-edition forms (read-term l)) e
   where
     by : (g : Got) → Nodes n ≡ exactly T names g → Nodes n ≡ extents.exactly g
     by none e = absurd (clash (cc))
@@ -99,19 +101,19 @@ is-part T names n l e = by (read-term l) e
         go false e = absurd (clash (cc))
     by (got t (x ∷ r)) e = absurd (clash (cc))
 
-module _ {s : List ℕ} {bay : ℕ} (l : FileRule s) (b : bay < bays s) {p t : List ℕ} (is : p ≡ term-bytes s bay) (table : t ≡ table-bytes s) {names : ℕ} (m : names ≡ bays s) where
-  same : glance (table-of t) names p ≡ glance (type-table s) (bays s) (term-bytes s bay)
+module _ {s : List ℕ} {bay : ℕ} (l : FileRule s) (b : bay < bays s) {p t : List ℕ} (is : p ≡ term-bytes s bay) (table : t ≡ table-bytes s) {names : ℕ} (m : names ≡ bays s) {forms : ℕ} (f : forms ≡ edition-of s .forms) where
+  same : glance forms (table-of t) names p ≡ glance (edition-of s .forms) (type-table s) (bays s) (term-bytes s bay)
   unfolding type-table
-  same = rw (is, table, m) refl
+  same = rw (is, table, m, f) refl
 
-  pub stood-next : {total : ℕ} (n : ℕ) → Stood s bay total → Nodes n ≡ glance (table-of t) names p → Stood s (bay + 1) (total + n)
+  pub stood-next : {total : ℕ} (n : ℕ) → Stood s bay total → Nodes n ≡ glance forms (table-of t) names p → Stood s (bay + 1) (total + n)
   unfolding bay-stands
   stood-next n w e = record {
     passed = passed-next (w .passed) b true (ap is-term (e ∙ same)) refl;
-    counted = counted-next l b is n (w .counted) (is-part _ _ _ _ e);
+    counted = counted-next l b is f n (w .counted) (is-part _ _ _ _ _ e);
   }
 
-  pub stood-not : NoTerm ≡ glance (table-of t) names p → false ≡ all-stand s
+  pub stood-not : NoTerm ≡ glance forms (table-of t) names p → false ≡ all-stand s
   unfolding all-stand bay-stands
   stood-not e = rw (failed (bays s) (bay-stands s) bay b false (ap is-term (e ∙ same)) refl) refl
 

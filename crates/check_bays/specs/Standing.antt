@@ -6,7 +6,7 @@ use lib.Dec.{leb}
 use Rattle.calculus.specs.Lists.{each-below, sum-below}
 use Rattle.calculus.specs.Limits.{max-recipe-nodes}
 use Rattle.calculus.specs.Verdict.{annotated}
-use Rattle.recipe_file.specs.File.{bays, term-bytes}
+use Rattle.recipe_file.specs.File.{bays, edition-of, term-bytes}
 use Rattle.term_scan.specs.declared.Part.{Part}
 use Rattle.term_scan.specs.declared.Part.the-variants.{Nodes, NoTerm}
 use Rattle.recipe_table.specs.Entries.{type-table}
@@ -25,7 +25,7 @@ is-term (Nodes n) = true
 
 -- none of causes 5 to 8 fits a bay's part, the nodes of the others apart
 unfoldable pub bay-stands : List ℕ → ℕ → Bool
-bay-stands s bay = is-term (glance (type-table s) (bays s) (term-bytes s bay))
+bay-stands s bay = is-term (glance (edition-of s .forms) (type-table s) (bays s) (term-bytes s bay))
 
 -- none of causes 5 to 8 fits the file
 unfoldable pub all-stand : List ℕ → Bool

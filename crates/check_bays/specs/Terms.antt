@@ -4,15 +4,15 @@ use mathlib.Core.List.{List}
 use Prim.Native.Nat.{ℕ}
 use Rattle.calculus.specs.Lists.{each-below, sum-below}
 use Rattle.calculus.specs.Image.{nodes}
-use Rattle.term.specs.Reader.{one-term, read-term}
-use Rattle.recipe_file.specs.File.{bays, term-bytes}
+use Rattle.term.specs.Reader.{one-term}
+use Rattle.recipe_file.specs.File.{bays}
 use Rattle.term_scan.specs.declared.Part.{Part}
 use Rattle.term_scan.specs.declared.Part.the-variants.{Nodes, NoTerm}
-use Rattle.check_spec.specs.Bays.{bay-term}
+use Rattle.check_spec.specs.Bays.{bay-reading, bay-term}
 
 -- the part of a bay is one term
 unfoldable pub bay-single : List ℕ → ℕ → Bool
-bay-single s bay = one-term (read-term (term-bytes s bay))
+bay-single s bay = one-term (bay-reading s bay)
 
 -- the nodes of a bay's term
 unfoldable pub bay-nodes : List ℕ → ℕ → ℕ

@@ -39,7 +39,7 @@ pub fn count_nodes(recipe: &[u8], edition: Edition) -> Part
     let mut bay: usize = 0;
     while bay < bays {
         let term = recipe_file::term_bytes(recipe, edition, bay);
-        let Part::Nodes(nodes) = term_scan::scan_part(term) else {
+        let Part::Nodes(nodes) = term_scan::scan_part(term, edition.forms) else {
             return Part::NoTerm;
         };
         total += nodes;
@@ -59,7 +59,7 @@ pub fn each_stands(recipe: &[u8], edition: Edition) -> bool
     let mut bay: usize = 0;
     while bay < bays {
         let term = recipe_file::term_bytes(recipe, edition, bay);
-        let Part::Nodes(nodes) = check_prescan::glance(table, bays, term) else {
+        let Part::Nodes(nodes) = check_prescan::glance(edition.forms, table, bays, term) else {
             return false;
         };
         total += nodes;

@@ -72,35 +72,40 @@ module _ (T : Table) (tag arg : ℕ) where
           ∣ (λ f. absurd (f refl)) ∣ (λ f. refl) ∣ end-of-row
 
 -- the tests of a node in the order of the code
-module _ (T : Table) (names frame : ℕ) (h : Node) where
-  pub node-deep : max-nesting ≤ level-of frame → false ≡ node-stands T names frame h
+module _ (forms : ℕ) (T : Table) (names frame : ℕ) (h : Node) where
+  pub node-unknown : forms ≤ h .tag → false ≡ node-stands forms T names frame h
   unfolding node-stands
-  node-deep low = rw (le-ltb (level-of frame) max-nesting low) refl
+  node-unknown high = rw (le-ltb (h .tag) forms high) refl
 
-  module _ (high : level-of frame < max-nesting) where
-    pub node-loose : operand-scoped (length T) names (around-of frame) (h .refers) (h .arg) ≡ false → false ≡ node-stands T names frame h
+  module _ (has : h .tag < forms) where
+    pub node-deep : max-nesting ≤ level-of frame → false ≡ node-stands forms T names frame h
     unfolding node-stands
-    node-loose f = rw (lt-ltb (level-of frame) max-nesting high, f) refl
+    node-deep low = rw (lt-ltb (h .tag) forms has, le-ltb (level-of frame) max-nesting low) refl
 
-    module _ (there : operand-scoped (length T) names (around-of frame) (h .refers) (h .arg) ≡ true) where
-      pub node-typed : node-annotated T (h .tag) (h .arg) ≡ node-stands T names frame h
+    module _ (high : level-of frame < max-nesting) where
+      pub node-loose : operand-scoped (length T) names (around-of frame) (h .refers) (h .arg) ≡ false → false ≡ node-stands forms T names frame h
       unfolding node-stands
-      node-typed = rw (lt-ltb (level-of frame) max-nesting high, there) refl
+      node-loose f = rw (lt-ltb (h .tag) forms has, lt-ltb (level-of frame) max-nesting high, f) refl
 
-      pub node-plain : Known h → (h .refers ≡ to-type → ⊥) → true ≡ node-stands T names frame h
-      node-plain k f = sym (not-annotated T (h .tag) (h .arg) (k .known) (λ z. f (sym (k .refers) ∙ z))) ∙ node-typed
+      module _ (there : operand-scoped (length T) names (around-of frame) (h .refers) (h .arg) ≡ true) where
+        pub node-typed : node-annotated T (h .tag) (h .arg) ≡ node-stands forms T names frame h
+        unfolding node-stands
+        node-typed = rw (lt-ltb (h .tag) forms has, lt-ltb (level-of frame) max-nesting high, there) refl
 
-      pub node-type : Known h → h .refers ≡ to-type → length T ≤ max-entries → TypedNode (h .tag) (h .arg)
-      unfolding operand-scoped bound-of
-      node-type k t few =
-          record { known = k .known; typed = k .refers ∙ t; small = omega (arith, few, ltb-sound (h .arg) (length T) (rw t at there)) }
+        pub node-plain : Known h → (h .refers ≡ to-type → ⊥) → true ≡ node-stands forms T names frame h
+        node-plain k f = sym (not-annotated T (h .tag) (h .arg) (k .known) (λ z. f (sym (k .refers) ∙ z))) ∙ node-typed
+
+        pub node-type : Known h → h .refers ≡ to-type → length T ≤ max-entries → TypedNode (h .tag) (h .arg)
+        unfolding operand-scoped bound-of
+        node-type k t few =
+            record { known = k .known; typed = k .refers ∙ t; small = omega (arith, few, ltb-sound (h .arg) (length T) (rw t at there)) }
 
 -- the next node
-module _ (T : Table) (names frame : ℕ) {front : Front} where
-  pub next-bad : front ≡ Bad → Bad ≡ next-node T names frame front
+module _ (forms : ℕ) (T : Table) (names frame : ℕ) {front : Front} where
+  pub next-bad : front ≡ Bad → Bad ≡ next-node forms T names frame front
   unfolding next-node
   next-bad e = rw e refl
 
-  pub next-picked : {h : Node} {b : Bool} → front ≡ Is h → node-stands T names frame h ≡ b → cond b (Is h) Bad ≡ next-node T names frame front
+  pub next-picked : {h : Node} {b : Bool} → front ≡ Is h → node-stands forms T names frame h ≡ b → cond b (Is h) Bad ≡ next-node forms T names frame front
   unfolding next-node
   next-picked e f = rw (e, f) refl

@@ -13,7 +13,7 @@ use Rattle.term.specs.declared.Front.the-variants.{Bad, Is}
 use Rattle.term.specs.declared.Node.{Node}
 use Rattle.term.specs.Forms.{lambda-tag}
 use Rattle.term.specs.Tree.{tree-nodes}
-use Rattle.term.specs.Reader.{Got, got, none, read-term}
+use Rattle.term.specs.Reader.{Got, got, none, of-edition, read-term}
 use Rattle.term.specs.Expressions.{exp-of, leaf-exp, nesting}
 use Rattle.term_scan.specs.declared.Part.{Part}
 use Rattle.term_scan.specs.declared.Part.the-variants.{Nodes, NoTerm}
@@ -29,9 +29,9 @@ exactly T names none = NoTerm
 exactly T names (got t []) = cond (stands T names (exp-of t)) (Nodes (tree-nodes t)) NoTerm
 exactly T names (got t (x ∷ rest)) = NoTerm
 
--- the same of the bytes of a part
-unfoldable pub glance : Table → ℕ → List ℕ → Part
-glance T names l = exactly T names (read-term l)
+-- the same of the bytes of a part, in an edition with so many node forms
+unfoldable pub glance : ℕ → Table → ℕ → List ℕ → Part
+glance forms T names l = exactly T names (of-edition forms (read-term l))
 
 -- The walk
 
@@ -46,15 +46,16 @@ around-of frame = frame % byte-values
 unfoldable pub node-annotated : Table → ℕ → ℕ → Bool
 node-annotated T tag arg = cond (eqb tag lambda-tag) (on-function T arg (λ p q. true)) (annotated T (leaf-exp tag arg))
 
--- nor do causes 6 and 7
-unfoldable pub node-stands : Table → ℕ → ℕ → Node → Bool
-node-stands T names frame h =
-    ltb (level-of frame) max-nesting && (operand-scoped (length T) names (around-of frame) (h .refers) (h .arg) && node-annotated T (h .tag) (h .arg))
+-- nor do causes 6 and 7, and the edition has its form
+unfoldable pub node-stands : ℕ → Table → ℕ → ℕ → Node → Bool
+node-stands forms T names frame h =
+    ltb (h .tag) forms
+    && (ltb (level-of frame) max-nesting && (operand-scoped (length T) names (around-of frame) (h .refers) (h .arg) && node-annotated T (h .tag) (h .arg)))
 
 -- a node that is there and stands
-unfoldable pub next-node : Table → ℕ → ℕ → Front → Front
-next-node T names frame Bad = Bad
-next-node T names frame (Is h) = cond (node-stands T names frame h) (Is h) Bad
+unfoldable pub next-node : ℕ → Table → ℕ → ℕ → Front → Front
+next-node forms T names frame Bad = Bad
+next-node forms T names frame (Is h) = cond (node-stands forms T names frame h) (Is h) Bad
 
 -- behind the last node
 unfoldable pub ended : List ℕ → ℕ → ℕ → Part

@@ -36,11 +36,14 @@ fn type_stands(table: &[u8], tag: u8, arg: usize) -> bool
     check_annotations::constant_annotated(table, tag, arg)
 }
 
-// Causes 6 to 8 of a node with this frame, its subterms apart.
-fn node_stands(table: &[u8], names: usize, node: Node, frame: u16) -> bool
+// Causes 6 to 8 of a node with this frame, its subterms apart, and whether the edition has its form.
+fn node_stands(forms: u8, table: &[u8], names: usize, node: Node, frame: u16) -> bool
     requires { ⌜ (length (table-of (now table)) ≤ max-entries) × Known node ⌝ }
-    ensures { λ r. ⌜ r ≡ node-stands (table-of (now (table .entry))) names frame node ⌝ }
+    ensures { λ r. ⌜ r ≡ node-stands forms (table-of (now (table .entry))) names frame node ⌝ }
 {
+    if forms <= node.tag {
+        return false;
+    }
     if Recipe::MAX_NESTING <= ((frame / LEVEL) as usize) {
         return false;
     }
@@ -57,14 +60,14 @@ fn node_stands(table: &[u8], names: usize, node: Node, frame: u16) -> bool
 }
 
 // The next node, where none of causes 5 to 8 fits it.
-fn next_node(table: &[u8], names: usize, s: &[u8], here: usize, frame: u16) -> Front
+fn next_node(forms: u8, table: &[u8], names: usize, s: &[u8], here: usize, frame: u16) -> Front
     requires { ⌜ (length (table-of (now table)) ≤ max-entries) × (here ≤ length (now s)) ⌝ }
-    ensures { λ r. ⌜ r ≡ next-node (table-of (now (table .entry))) names frame (node-at (now (s .entry)) here) ⌝ }
+    ensures { λ r. ⌜ r ≡ next-node forms (table-of (now (table .entry))) names frame (node-at (now (s .entry)) here) ⌝ }
 {
     let Front::Is(node) = term::node_at(s, here) else {
         return Front::Bad;
     };
-    if !node_stands(table, names, node, frame) {
+    if !node_stands(forms, table, names, node, frame) {
         return Front::Bad;
     }
     Front::Is(node)
@@ -80,10 +83,11 @@ fn ended(s: &[u8], here: usize, nodes: usize) -> Part
     Part::Nodes(nodes)
 }
 
-// The nodes of a part to which none of causes 5 to 8 fits, apart from the number of nodes in all; otherwise that there is no such term.
-pub fn glance(table: &[u8], names: usize, s: &[u8]) -> Part
+// The nodes of a part to which none of causes 5 to 8 fits in an edition with so many node forms, apart from the number of nodes in all; otherwise that there is
+// no such term.
+pub fn glance(forms: u8, table: &[u8], names: usize, s: &[u8]) -> Part
     requires { ⌜ length (table-of (now table)) ≤ max-entries ⌝ }
-    ensures { λ r. ⌜ r ≡ glance (table-of (now (table .entry))) names (now (s .entry)) ⌝ }
+    ensures { λ r. ⌜ r ≡ glance forms (table-of (now (table .entry))) names (now (s .entry)) ⌝ }
 {
     let mut frames = [0u16; MAX_WAITS];
     let mut waits: usize = 1;
@@ -91,7 +95,7 @@ pub fn glance(table: &[u8], names: usize, s: &[u8]) -> Part
     let mut nodes: usize = 0;
     while 0 < waits {
         let frame = frames[waits - 1];
-        let Front::Is(node) = next_node(table, names, s, here, frame) else {
+        let Front::Is(node) = next_node(forms, table, names, s, here, frame) else {
             return Part::NoTerm;
         };
         let size = node.size;

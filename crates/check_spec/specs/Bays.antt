@@ -9,9 +9,9 @@ use Rattle.calculus.specs.Lists.{tabulate, each-below, sum-below}
 use Rattle.calculus.specs.Syntax.{Exp}
 use Rattle.calculus.specs.Limits.{max-nesting, max-recipe-nodes}
 use Rattle.calculus.specs.Image.{nodes}
-use Rattle.term.specs.Reader.{one-term, read-term}
+use Rattle.term.specs.Reader.{Got, of-edition, one-term, read-term}
 use Rattle.term.specs.Expressions.{nesting, term-of}
-use Rattle.recipe_file.specs.File.{bays, term-bytes}
+use Rattle.recipe_file.specs.File.{bays, edition-of, term-bytes}
 
 -- the expression that a bay's part says
 unfoldable pub bay-term : List ℕ → ℕ → Exp
@@ -21,9 +21,13 @@ bay-term s bay = term-of (term-bytes s bay)
 unfoldable pub bay-terms : List ℕ → List Exp
 bay-terms s = tabulate (bays s) (bay-term s)
 
+-- what is read of a bay's part, with the node forms of the edition
+abbrev pub bay-reading : List ℕ → ℕ → Got
+bay-reading s bay = of-edition (edition-of s .forms) (read-term (term-bytes s bay))
+
 -- document 01, cause 5: "a part is not exactly one term"
 unfoldable pub cause-5 : List ℕ → Bool
-cause-5 s = not (each-below (bays s) (λ bay. one-term (read-term (term-bytes s bay))))
+cause-5 s = not (each-below (bays s) (λ bay. one-term (bay-reading s bay)))
 
 -- document 01, cause 6: "nesting or nodes above the limit", "1,024 nodes over all terms"
 unfoldable pub cause-6 : List ℕ → Bool

@@ -1,6 +1,7 @@
 -- What document 01 and the paper ask of a recipe, with no reader in it: the file s says the type table T and the terms es. It is accepted exactly when there
 -- are such T and es, and then there is one of each (Theory.Accepted).
 use mathlib.Core.Path.{_≡_}
+use mathlib.Core.Bool.{true}
 use mathlib.Core.Option.{some}
 use mathlib.Core.List.{List, [], _∷_, map}
 use Prim.Native.Nat.{_<_, _≤_, ℕ}
@@ -12,7 +13,8 @@ use Rattle.calculus.specs.Limits.{max-nesting, max-recipe-nodes}
 use Rattle.calculus.specs.Image.{nodes-all}
 use Rattle.calculus.specs.Table.{Entry, Table, TableRule, type-at}
 use Rattle.calculus.specs.Recipe.{setting-types}
-use Rattle.term.specs.Expressions.{bytes, nesting, FitsBytes}
+use Rattle.term.specs.Expressions.{bytes, nesting, tree-of, FitsBytes}
+use Rattle.term.specs.Tree.{forms-below}
 use Rattle.recipe_file.specs.File.{edition-of, bays, table-bytes, term-bytes}
 use Rattle.recipe_file.specs.FileRule.{FileRule}
 
@@ -33,9 +35,10 @@ pub record Recipe (s : List ℕ) (T : Table) (es : List Exp) : Type 0 where
   pub table : table-bytes s ≡ entry-bytes T
   pub kinds : (k : ℕ) (x : Entry) → at T k ≡ some x → x .kind < edition-of s .kinds
   pub table-rule : TableRule T
-  -- cause 5: each other part is the bytes of an expression that the node forms can write
+  -- cause 5: each other part is the bytes of an expression that the node forms can write, those of the edition
   pub count : length es ≡ bays s
   pub terms : (bay : ℕ) (e : Exp) → at es bay ≡ some e → (term-bytes s bay ≡ bytes e) × FitsBytes e
+  pub forms : (bay : ℕ) (e : Exp) → at es bay ≡ some e → forms-below (edition-of s .forms) (tree-of e) ≡ true
   -- cause 6: nesting, and nodes over all terms
   pub shallow : (bay : ℕ) (e : Exp) → at es bay ≡ some e → nesting e ≤ max-nesting
   pub few-nodes : nodes-all (map thread-of es) ≤ max-recipe-nodes

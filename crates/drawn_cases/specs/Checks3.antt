@@ -9,7 +9,8 @@ use Rattle.calculus.specs.Table.{test-entry, entry-test, entries-test, same-ent
 use Rattle.calculus.specs.Verdict.{on-function, on-once-function, on-cell, is-many, scoped-const, scoped, annotated-const, annotated, const-number, on-number, result-number, applied-number, lambda-number, type-number, outside-many, linear-parameter, linear, every, verdict}
 use Rattle.term.specs.Numbers.{value-of}
 use Rattle.term.specs.Forms.{form-of, forms}
-use Rattle.term.specs.Reader.{one-term, read, read-term}
+use Rattle.term.specs.Reader.{one-term, read, read-term, of-edition}
+use Rattle.term.specs.Tree.{forms-below}
 use Rattle.term.specs.Expressions.{exp-of, leaf-exp, leaf-forms, nesting, term-of, two-exp}
 use Rattle.recipe_file.specs.File.{edition-of, bays, parts, offset-of, length-of, part, table-bytes, term-bytes, outside, cause-1, opens, cause-2, pairs-test, table-length-test, cause-3}
 use Rattle.recipe_table.specs.Entries.{cause-4, table-of, type-table}
@@ -72,5 +73,5 @@ rows =
     ∷ []
 
 cases : map rechecked rows ≡ rows
-unfolding rechecked verdict-of refusal bay-type-numbers bay-type-number number-in bay-terms bay-term cause-5 cause-6 cause-4 table-of type-table two-bytes word bays parts offset-of length-of part table-bytes term-bytes outside cause-1 opens edition-of cause-2 pairs-test table-length-test cause-3 exp-of leaf-exp leaf-forms two-exp nesting term-of one-term read read-term form-of forms value-of tabulate each-below sum-below uses nodes test-entry entry-test entries-test same-entry new-to distinct-test entry-is table-test on-function on-once-function on-cell is-many scoped-const scoped annotated-const annotated const-number on-number result-number applied-number lambda-number type-number outside-many linear-parameter linear every verdict
+unfolding rechecked verdict-of refusal bay-type-numbers bay-type-number number-in bay-terms bay-term cause-5 cause-6 cause-4 table-of type-table two-bytes word bays parts offset-of length-of part table-bytes term-bytes outside cause-1 opens edition-of cause-2 pairs-test table-length-test cause-3 exp-of leaf-exp leaf-forms two-exp nesting term-of one-term of-edition forms-below read read-term form-of forms value-of tabulate each-below sum-below uses nodes test-entry entry-test entries-test same-entry new-to distinct-test entry-is table-test on-function on-once-function on-cell is-many scoped-const scoped annotated-const annotated const-number on-number result-number applied-number lambda-number type-number outside-many linear-parameter linear every verdict
 cases = refl

@@ -9,7 +9,8 @@ use Rattle.calculus.specs.Table.{test-entry, entry-test, entries-test, same-ent
 use Rattle.calculus.specs.Verdict.{on-function, on-once-function, on-cell, is-many, scoped-const, scoped, annotated-const, annotated, const-number, on-number, result-number, applied-number, lambda-number, type-number, outside-many, linear-parameter, linear, every, verdict}
 use Rattle.term.specs.Numbers.{little-endian, value-of}
 use Rattle.term.specs.Forms.{form-of, forms}
-use Rattle.term.specs.Reader.{one-term, read, read-term}
+use Rattle.term.specs.Reader.{one-term, read, read-term, of-edition}
+use Rattle.term.specs.Tree.{forms-below}
 use Rattle.term.specs.Expressions.{bytes, const-bytes, op-tag, exp-of, leaf-exp, leaf-forms, nesting, term-of, two-exp}
 use Rattle.recipe_file.specs.File.{edition-of, bays, parts, offset-of, length-of, part, table-bytes, term-bytes, outside, cause-1, opens, cause-2, pairs-test, table-length-test, cause-3}
 use Rattle.recipe_table.specs.Entries.{cause-4, table-of, type-table}
@@ -71,7 +72,7 @@ rows =
     ∷ []
 
 computed : map reloaded rows ≡ rows
-unfolding reloaded loaded-of load-refusal starting-image refusal bay-type-numbers bay-type-number number-in bay-terms bay-term cause-5 cause-6 cause-4 table-of type-table two-bytes word bays parts offset-of length-of part table-bytes term-bytes outside cause-1 opens edition-of cause-2 pairs-test table-length-test cause-3 exp-of leaf-exp leaf-forms two-exp nesting one-term read read-term form-of forms value-of tabulate each-below sum-below uses nodes test-entry entry-test entries-test same-entry new-to distinct-test entry-is table-test on-function on-once-function on-cell is-many scoped-const scoped annotated-const annotated const-number on-number result-number applied-number lambda-number type-number outside-many linear-parameter linear every verdict image-of encode head heads expressions image-bytes bytes const-bytes op-tag little-endian loaded bay-types with-type term-of
+unfolding reloaded loaded-of load-refusal starting-image refusal bay-type-numbers bay-type-number number-in bay-terms bay-term cause-5 cause-6 cause-4 table-of type-table two-bytes word bays parts offset-of length-of part table-bytes term-bytes outside cause-1 opens edition-of cause-2 pairs-test table-length-test cause-3 exp-of leaf-exp leaf-forms two-exp nesting one-term of-edition forms-below read read-term form-of forms value-of tabulate each-below sum-below uses nodes test-entry entry-test entries-test same-entry new-to distinct-test entry-is table-test on-function on-once-function on-cell is-many scoped-const scoped annotated-const annotated const-number on-number result-number applied-number lambda-number type-number outside-many linear-parameter linear every verdict image-of encode head heads expressions image-bytes bytes const-bytes op-tag little-endian loaded bay-types with-type term-of
 computed = refl
 
 -- each row holds of every out buffer of its length, whatever that holds

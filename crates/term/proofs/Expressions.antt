@@ -1,6 +1,6 @@
 -- Expressions and their bytes: an expression that fits is read back, and bytes are one term exactly where they are those of such an expression.
 use mathlib.Core.Path.{_≡_, ap, ap₂, refl, sym, _∙_}
-use mathlib.Core.Bool.{false≢true, true}
+use mathlib.Core.Bool.{Bool, cond, false, false≢true, true}
 use mathlib.Core.Logic.{_↔_}
 use mathlib.Core.List.{List, [], _++_, _∷_, append-nil}
 use Prim.Native.Nat.{_+_, ℕ}
@@ -9,11 +9,11 @@ use lib.Seq.{drop-drop}
 use Rattle.calculus.specs.Bytes.{Bytes}
 use Rattle.calculus.specs.Syntax.{Exp}
 use Rattle.calculus.specs.Image.{size}
-use Rattle.term.specs.Tree.{Tree, tree-size, WellFormed}
-use Rattle.term.specs.Reader.{end-at, first-rest, first-tree, Got, none, got, GoodAt, one-term, read-term, tree-at}
+use Rattle.term.specs.Tree.{forms-below, Tree, tree-size, WellFormed}
+use Rattle.term.specs.Reader.{end-at, first-rest, first-tree, Got, none, got, GoodAt, of-edition, one-term, read-term, tree-at}
 use Rattle.term.specs.Expressions.{bytes, exp-of, term-at, TermAt, tree-of, FitsBytes, term-of}
-use Rattle.term.proofs.Trees.{bytes-tree, exp-bytes, exp-fits, exp-size, exp-tree, tree-well-formed}
-use Rattle.term.proofs.Reading.{past-term}
+use Rattle.term.proofs.Trees.{bytes-tree, exp-bytes, exp-fits, exp-size, exp-tree, tree-exp, tree-well-formed}
+use Rattle.term.proofs.Reading.{none-got, past-term}
 use Rattle.term.proofs.Fronts.{is-good, is-tree}
 use Rattle.term.proofs.Terms.{bytes-drop, exactly, read-bytes, read-stands, unique}
 
@@ -58,6 +58,31 @@ one-term-complete e f = rw (read-alone e f) refl
 pub term-of-bytes : (e : Exp) → FitsBytes e → term-at (bytes e) 0 ≡ e
 unfolding term-of
 term-of-bytes e f = rw (read-alone e f) (exp-tree e)
+
+-- In an edition
+
+-- what is read there is read without it too
+pub edition-got : (forms : ℕ) (g : Got) {t : Tree} {r : List ℕ} → of-edition forms g ≡ got t r → (g ≡ got t r) × (forms-below forms t ≡ true)
+unfolding of-edition
+edition-got forms none {t} {r} e = absurd (none-got t r e)
+edition-got forms (got u q) {t} {r} e = by (forms-below forms u) refl e
+  where
+    by : (b : Bool) → forms-below forms u ≡ b → cond b (got u q) none ≡ got t r → (got u q ≡ got t r) × (forms-below forms t ≡ true)
+    by true f e = let z : u ≡ t = cc in (e, ap (forms-below forms) (sym z) ∙ f)
+    by false f e = absurd (none-got t r e)
+
+pub edition-sound : (forms : ℕ) (l : List ℕ) → Bytes l → one-term (of-edition forms (read-term l)) ≡ true →
+    (l ≡ bytes (term-at l 0)) × FitsBytes (term-at l 0) × (forms-below forms (tree-of (term-at l 0)) ≡ true)
+unfolding term-of
+edition-sound forms l b e =
+    let (t, g) = one-term-parts (of-edition forms (read-term l)) e in
+    let (q, f) = edition-got forms (read-term l) g in
+    let (p, w) = exactly l t b .0 q in
+    rw q (p ∙ sym (exp-bytes t w), exp-fits t w, ap (forms-below forms) (tree-exp t w) ∙ f)
+
+pub edition-complete : (forms : ℕ) (e : Exp) → FitsBytes e → forms-below forms (tree-of e) ≡ true → one-term (of-edition forms (read-term (bytes e))) ≡ true
+unfolding one-term of-edition
+edition-complete forms e f below = rw (read-alone e f, below) refl
 
 -- At a position
 

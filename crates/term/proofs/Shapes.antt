@@ -1,8 +1,10 @@
 -- Expressions by the shape of their nodes: what holds of each tag with so many subterms holds of any node with that many, with the binders that the table says.
 use mathlib.Core.Path.{_≡_, ap, refl, sym}
+use mathlib.Core.Bool.{true}
 use mathlib.Core.List.{_++_}
 use Prim.Native.Nat.{_+_, _<_, max, suc, ℕ}
 use native.Mathlib.Omega.{arith}
+use borrow.Author.Tests.{lt-ltb}
 use lib.ListN.{replicate}
 use Rattle.calculus.specs.Syntax.{Each, each-app, each-lam, Exp, app, lam}
 use Rattle.calculus.specs.Limits.{byte-values}
@@ -12,7 +14,7 @@ use Rattle.calculus.specs.Image.{nodes, size, Writable}
 use Rattle.calculus.specs.Theory.Tests.{clash}
 use Rattle.term.specs.Forms.{application-tag, binders-of, cell-tag, exch-tag, form-of, forms, handle-tag, lambda-tag, name-tag, num-tag, operand-of, subterms-of, tags, thread-tag, unit-tag, variable-tag}
 use Rattle.term.specs.Numbers.{little-endian}
-use Rattle.term.specs.Tree.{HasForm, InTable, node-bytes, one, two}
+use Rattle.term.specs.Tree.{forms-below, HasForm, InTable, leaf, node-bytes, one, Shaped, Tree, two}
 use Rattle.term.specs.Expressions.{bytes, FitsBytes, nesting, tree-of, two-exp}
 use Rattle.term.proofs.Table.{all-at, all-same, below, end-of-row, Row, _∣_}
 
@@ -147,3 +149,11 @@ fits-two arg e f tag w p q =
       writable = two-tag (λ tag. InTable tag arg 2 → Each Writable (two-exp tag arg e f)) (λ w. each-app (p .writable) (q .writable)) tag (w .form) w;
       names = λ k le. omega (arith, count-two tag arg e f k, p .names k le, q .names k le);
     }
+
+-- Each node of the table has one of its forms
+
+pub all-forms : (t : Tree) → Shaped t → forms-below tags t ≡ true
+unfolding forms-below
+all-forms (leaf tag arg) f = lt-ltb tag tags (f .known)
+all-forms (one tag arg t) (f, s) = rw (lt-ltb tag tags (f .known)) (all-forms t s)
+all-forms (two tag arg t u) (f, s, s′) = rw (lt-ltb tag tags (f .known), all-forms t s) (all-forms u s′)

@@ -10,7 +10,7 @@ use Rattle.term.specs.declared.Front.the-variants.{Bad, Is}
 use Rattle.term.specs.declared.Node.{Node}
 use Rattle.term.specs.Numbers.{value-of}
 use Rattle.term.specs.Forms.{binders-of, operand-of, refers-of, subterms-of, tags, unit-tag}
-use Rattle.term.specs.Tree.{Tree, leaf, one, tree-size, two}
+use Rattle.term.specs.Tree.{forms-below, Tree, leaf, one, tree-size, two}
 
 -- the tag at the front
 abbrev pub front-tag : List ℕ → ℕ
@@ -57,6 +57,11 @@ read (suc n) l = read-with (read n) l
 -- the term at the front; none is deeper than it is long
 unfoldable pub read-term : List ℕ → Got
 read-term l = read (length l) l
+
+-- what was read, where an edition has the form of each of its nodes: the first `forms` of the table
+unfoldable pub of-edition : ℕ → Got → Got
+of-edition forms none = none
+of-edition forms (got t rest) = cond (forms-below forms t) (got t rest) none
 
 -- document 01, "exactly one term": a term was read, and no byte is over
 unfoldable pub one-term : Got → Bool

@@ -1,7 +1,9 @@
 -- A term as a tree, for any table of node forms: a node is its tag, its operand as a number, and its subterms, of which there are 0, 1 or 2.
 use mathlib.Core.Path.{_≡_}
+use mathlib.Core.Bool.{Bool, _&&_}
 use mathlib.Core.List.{List, _++_, _∷_}
 use Prim.Native.Nat.{_+_, _<_, _^_, max, ℕ}
+use lib.Dec.{ltb}
 use Rattle.calculus.specs.Limits.{byte-values}
 use Rattle.term.specs.Numbers.{little-endian}
 use Rattle.term.specs.Forms.{operand-of, subterms-of, tags}
@@ -61,3 +63,9 @@ abbrev pub WellFormed : Tree → Type 0
 WellFormed (leaf tag arg) = InTable tag arg 0
 WellFormed (one tag arg t) = InTable tag arg 1 × WellFormed t
 WellFormed (two tag arg t u) = InTable tag arg 2 × WellFormed t × WellFormed u
+
+-- the form of every node is among the first `forms` of the table, as an edition has them
+unfoldable pub forms-below : ℕ → Tree → Bool
+forms-below forms (leaf tag arg) = ltb tag forms
+forms-below forms (one tag arg t) = ltb tag forms && forms-below forms t
+forms-below forms (two tag arg t u) = ltb tag forms && (forms-below forms t && forms-below forms u)

@@ -1,7 +1,6 @@
 -- What an answer of a scan says of the term there, and what a scan answers of a term that stands there.
 use mathlib.Core.Path.{_≡_, ap, refl, sym, _∙_}
-use mathlib.Core.Bool.{Bool, false, true}
-use mathlib.Core.Logic.{_↔_}
+use mathlib.Core.Bool.{Bool, cond, false, true}
 use mathlib.Core.List.{List, [], _∷_, append-nil}
 use Prim.Native.Nat.{_+_, _-_, _≤_, zero-le, ℕ}
 use native.Mathlib.Omega.{arith}
@@ -12,15 +11,15 @@ use Rattle.calculus.specs.Bytes.{Bytes}
 use Rattle.calculus.specs.Syntax.{Exp}
 use Rattle.calculus.specs.Image.{nodes}
 use Rattle.calculus.specs.Theory.Tests.{clash}
-use Rattle.term.specs.Tree.{Tree, tree-nodes, tree-size}
-use Rattle.term.specs.Reader.{end-at, first-tree, GoodAt, Got, got, none, read-term, tree-at}
+use Rattle.term.specs.Tree.{forms-below, Tree, tree-nodes, tree-size}
+use Rattle.term.specs.Reader.{end-at, first-tree, GoodAt, Got, got, none, of-edition, read-term, tree-at}
 use Rattle.term.specs.Expressions.{bytes, FitsBytes, term-at, term-of, tree-of}
 use Rattle.term.proofs.Reading.{past-term}
 use Rattle.term.proofs.Views.{end-inside, nodes-inside}
 use Rattle.term.proofs.Fronts.{is-good, is-tree}
 use Rattle.term.proofs.Sizes.{nodes-exp}
 use Rattle.term.proofs.Trees.{exp-tree}
-use Rattle.term.proofs.Expressions.{one-term-is, read-written}
+use Rattle.term.proofs.Expressions.{edition-got}
 use Rattle.term_scan.specs.declared.Extent.{Extent}
 use Rattle.term_scan.specs.declared.Extent.the-variants.{Ends, Refused}
 use Rattle.term_scan.specs.declared.Part.the-variants.{Nodes, NoTerm}
@@ -96,7 +95,7 @@ small-all l at inside = is (extent-at l at) refl
 -- Exactly one term
 
 -- by where the term at the front ends
-module _ (l : List ℕ) where
+module _ (forms : ℕ) (l : List ℕ) where
   rest-length : (t : Tree) (r : List ℕ) → read-term l ≡ got t r → length r ≡ length l - tree-size t
   rest-length t r s = ap length (past-term l t r s .rest) ∙ length-drop (tree-size t) l
 
@@ -105,34 +104,47 @@ module _ (l : List ℕ) where
   read-is e n none s q = absurd (refused-ends (sym q))
   read-is e n (got t r) s q = (t, r, s, cc, cc)
 
-  pub part-refused : Refused ≡ extent-at l 0 → NoTerm ≡ part-of l
-  unfolding extent-at part-of
+  pub part-refused : Refused ≡ extent-at l 0 → NoTerm ≡ part-of forms l
+  unfolding extent-at part-of of-edition
   part-refused q = is (read-term l) q
     where
-      is : (g : Got) → Refused ≡ scanned 0 g → NoTerm ≡ exactly g
+      is : (g : Got) → Refused ≡ scanned 0 g → NoTerm ≡ exactly (of-edition forms g)
       is none q = refl
       is (got t r) q = absurd (refused-ends q)
 
   module _ (e n : ℕ) (q : Ends e n ≡ extent-at l 0) where
-    pub part-is : e ≡ length l → Nodes n ≡ part-of l
-    unfolding extent-at part-of
-    part-is f =
+    -- where the term ends with the bytes
+    part-ends : e ≡ length l → cond (forms-below forms (tree-at l 0)) (Nodes n) NoTerm ≡ part-of forms l
+    unfolding extent-at part-of of-edition tree-at first-tree
+    part-ends f =
         let (t, r, s, z, m) = read-is e n (read-term l) refl q in
         rw s (whole t r (omega (arith, rest-length t r s, z)) m)
       where
-        whole : (t : Tree) (r : List ℕ) → length r ≡ 0 → tree-nodes t ≡ n → Nodes n ≡ exactly (got t r)
-        whole t [] s m = ap Nodes (sym m)
+        whole : (t : Tree) (r : List ℕ) → length r ≡ 0 → tree-nodes t ≡ n →
+            cond (forms-below forms t) (Nodes n) NoTerm ≡ exactly (cond (forms-below forms t) (got t r) none)
+        whole t [] s m = by (forms-below forms t)
+          where
+            by : (b : Bool) → cond b (Nodes n) NoTerm ≡ exactly (cond b (got t []) none)
+            by true = ap Nodes (sym m)
+            by false = refl
         whole t (b ∷ r) s m = absurd (omega arith)
 
-    pub part-over : (e ≡ length l → ⊥) → NoTerm ≡ part-of l
-    unfolding extent-at part-of
+    pub part-is : e ≡ length l → {b : Bool} → b ≡ forms-below forms (tree-at l 0) → b ≡ true → Nodes n ≡ part-of forms l
+    part-is f d t = ap (λ x. cond x (Nodes n) NoTerm) (sym t ∙ d) ∙ part-ends f
+
+    pub part-other : e ≡ length l → {b : Bool} → b ≡ forms-below forms (tree-at l 0) → b ≡ false → NoTerm ≡ part-of forms l
+    part-other f d t = ap (λ x. cond x (Nodes n) NoTerm) (sym t ∙ d) ∙ part-ends f
+
+    pub part-over : (e ≡ length l → ⊥) → NoTerm ≡ part-of forms l
+    unfolding extent-at part-of of-edition
     part-over f =
         let (t, r, s, z, m) = read-is e n (read-term l) refl q in
-        rw s (some t r (omega (arith, rest-length t r s, z, past-term l t r s .fits)))
+        rw s (some t r (omega (arith, rest-length t r s, z, past-term l t r s .fits)) (forms-below forms t))
       where
-        some : (t : Tree) (r : List ℕ) → 1 ≤ length r → NoTerm ≡ exactly (got t r)
-        some t [] s = absurd (omega arith)
-        some t (b ∷ r) s = refl
+        some : (t : Tree) (r : List ℕ) → 1 ≤ length r → (b : Bool) → NoTerm ≡ exactly (cond b (got t r) none)
+        some t [] s b = absurd (omega arith)
+        some t (x ∷ r) s true = refl
+        some t (x ∷ r) s false = refl
 
 -- a part that is one term
 pub record Single (l : List ℕ) (n : ℕ) : Type 0 where
@@ -140,40 +152,22 @@ pub record Single (l : List ℕ) (n : ℕ) : Type 0 where
   pub good : GoodAt l 0
   pub count : nodes (term-at l 0) ≡ n
 
-pub part-single : (l : List ℕ) (n : ℕ) → Nodes n ≡ part-of l → Single l n
+pub part-single : (forms : ℕ) (l : List ℕ) (n : ℕ) → Nodes n ≡ part-of forms l → Single l n × (forms-below forms (tree-at l 0) ≡ true)
 unfolding part-of tree-at term-of first-tree
-part-single l n q = is (read-term l) refl q
+part-single forms l n q = is (of-edition forms (read-term l)) refl q
   where
-    is : (g : Got) → read-term l ≡ g → Nodes n ≡ exactly g → Single l n
+    is : (g : Got) → of-edition forms (read-term l) ≡ g → Nodes n ≡ exactly g → Single l n × (forms-below forms (first-tree l) ≡ true)
     is none r q = absurd (clash (cc))
     is (got t (b ∷ rest)) r q = absurd (clash (cc))
     is (got t []) r q =
-        let p = is-tree l t [] r in
+        let (r′, f) = edition-got forms (read-term l) r in
+        let p = is-tree l t [] r′ in
         let m : n ≡ tree-nodes t = cc in
-        record {
-          reads = r ∙ ap (λ x. got x []) (sym p);
-          good = record { inside = zero-le; good = is-good l t [] r };
-          count = sym (nodes-exp (first-tree l)) ∙ ap tree-nodes p ∙ sym m;
-        }
-
--- is an expression's bytes
-pub part-bytes : (l : List ℕ) (n : ℕ) → Bytes l → Nodes n ≡ part-of l → (l ≡ bytes (term-at l 0)) × FitsBytes (term-at l 0) × (nodes (term-at l 0) ≡ n)
-unfolding term-of tree-at first-tree
-part-bytes l n b q =
-    let s = part-single l n q in
-    let (p, f) = one-term-is l (tree-at l 0) b (s .reads) in
-    (p, f, s .count)
-
-pub part-written : (e : Exp) → FitsBytes e → part-of (bytes e) ≡ Nodes (nodes e)
-unfolding part-of
-part-written e f =
-    ap (λ l. exactly (read-term l)) (sym (append-nil (bytes e)))
-    ∙ ap exactly (read-written e [] f)
-    ∙ ap Nodes (nodes-exp (tree-of e) ∙ ap nodes (exp-tree e))
-
--- document 01, cause 5
-pub part-iff : (l : List ℕ) → Bytes l → ((n : ℕ) × (part-of l ≡ Nodes n)) ↔ ((e : Exp) × (l ≡ bytes e) × FitsBytes e)
-part-iff l b = (
-  λ (n, q). let (p, f, m) = part-bytes l n b (sym q) in (term-at l 0, p, f),
-  λ (e, p, f). (nodes e, ap part-of p ∙ part-written e f),
-)
+        (
+          record {
+            reads = r′ ∙ ap (λ x. got x []) (sym p);
+            good = record { inside = zero-le; good = is-good l t [] r′ };
+            count = sym (nodes-exp (first-tree l)) ∙ ap tree-nodes p ∙ sym m;
+          },
+          ap (forms-below forms) p ∙ f,
+        )

@@ -10,10 +10,10 @@ use lib.ListN.{replicate}
 use Rattle.term.specs.declared.Front.the-variants.{Bad, Is}
 use Rattle.term.specs.declared.Node.{Node}
 use Rattle.term.specs.Tree.{leaf, one, Tree, two}
+use Rattle.term.specs.Tree.{forms-below}
 use Rattle.term.specs.Reader.{GoodAt, node-at, tree-at}
 use Rattle.term_walk.proofs.Law.{from, from-node, from-none, Walk}
 use Rattle.term_walk.proofs.Asking.{asked, asking}
-use Rattle.term_scan.specs.Editions.{forms-below}
 use Rattle.term_scan.proofs.Many.{More, opened-zeros, refused-ends, Seen, seen-bad, seen-node, seen-start}
 use Rattle.term_scan.proofs.Answers.{scan-good}
 
@@ -22,7 +22,7 @@ module _ (forms : ℕ) where
   abbrev pub tagging : Walk Bool
   tagging = asking (λ tag d. 0) (λ tag d. 0) (λ d tag arg. ltb tag forms)
 
-  forms-of : {l : List ℕ} {at : ℕ} → GoodAt l at → from tagging (0 ∷ []) l at ≡ forms-below forms (tree-at l at)
+  pub forms-of : {l : List ℕ} {at : ℕ} → GoodAt l at → from tagging (0 ∷ []) l at ≡ forms-below forms (tree-at l at)
   unfolding forms-below
   forms-of g =
       asked (λ tag d. 0) (λ tag d. 0) (λ d tag arg. ltb tag forms) (λ d t. forms-below forms t) (λ d arg tag f. refl) (λ d arg t tag f. refl) (λ d arg t u tag f. refl) 0 g

@@ -5,7 +5,7 @@ use Prim.Native.Nat.{_+_, ℕ}
 use lib.Dec.{leb}
 use lib.ListN.{drop}
 use Rattle.term.specs.Tree.{tree-nodes, tree-size}
-use Rattle.term.specs.Reader.{Got, got, none, read-term}
+use Rattle.term.specs.Reader.{Got, got, none, of-edition, read-term}
 use Rattle.term_scan.specs.declared.Extent.{Extent}
 use Rattle.term_scan.specs.declared.Extent.the-variants.{Ends, Refused}
 use Rattle.term_scan.specs.declared.Part.{Part}
@@ -41,6 +41,6 @@ exactly none = NoTerm
 exactly (got t []) = Nodes (tree-nodes t)
 exactly (got t (b ∷ l)) = NoTerm
 
--- the nodes of a part that is one term
-unfoldable pub part-of : List ℕ → Part
-part-of l = exactly (read-term l)
+-- the nodes of a part that is one term, in an edition with so many node forms
+unfoldable pub part-of : ℕ → List ℕ → Part
+part-of forms l = exactly (of-edition forms (read-term l))

@@ -19,7 +19,7 @@ ghost use Rattle.term.specs.Reader.{GoodAt, tree-at};
 ghost use Rattle.term.specs.Expressions.{nesting, term-at};
 ghost use Rattle.term_walk.specs.Frames.{max-waits};
 ghost use Rattle.term_scan.specs.Extents.{extent-at, in-scope, part-of, small};
-ghost use Rattle.term_scan.specs.Editions.{forms-below};
+ghost use Rattle.term.specs.Tree.{forms-below};
 ghost use Rattle.term_scan.specs.Scopes.{bound-of, operand-scoped};
 
 // Where a term ends and how many nodes it has, or that there is none.
@@ -66,20 +66,7 @@ pub fn scan(s: &[u8], at: usize) -> Extent
     scan_small(s, at, s.len() - at)
 }
 
-// Document 01, cause 5: whether a part is exactly one term.
-pub fn scan_part(s: &[u8]) -> Part
-    ensures { λ r. ⌜ r ≡ part-of (now (s .entry)) ⌝ }
-{
-    let Extent::Ends(end, nodes) = scan(s, 0) else {
-        return Part::NoTerm;
-    };
-    if end == s.len() {
-        return Part::Nodes(nodes);
-    }
-    Part::NoTerm
-}
-
-// Cause 5 by the edition: whether a term has only the first so many node forms.
+// Whether a term has only the first so many node forms.
 pub fn forms_within(s: &[u8], at: usize, forms: u8) -> bool
     requires { ⌜ GoodAt (now s) at ⌝ }
     ensures { λ r. ⌜ r ≡ forms-below forms (tree-at (now (s .entry)) at) ⌝ }
@@ -100,6 +87,22 @@ pub fn forms_within(s: &[u8], at: usize, forms: u8) -> bool
         waits = waits - 1 + (subterms as usize);
     }
     true
+}
+
+// Document 01, cause 5: whether a part is exactly one term, in an edition with so many node forms.
+pub fn scan_part(s: &[u8], forms: u8) -> Part
+    ensures { λ r. ⌜ r ≡ part-of forms (now (s .entry)) ⌝ }
+{
+    let Extent::Ends(end, nodes) = scan(s, 0) else {
+        return Part::NoTerm;
+    };
+    if end != s.len() {
+        return Part::NoTerm;
+    }
+    if !forms_within(s, 0, forms) {
+        return Part::NoTerm;
+    }
+    Part::Nodes(nodes)
 }
 
 // Document 01, cause 6: whether a term nests within a limit. `frames` has the number of nodes above each term still to come.

@@ -1,8 +1,10 @@
 -- `check_bays::count_nodes` meets its contract. The loop's invariant: the parts passed are terms, and `total` is the sum of their nodes.
-use mathlib.Core.Path.{_∙_, sym}
+use mathlib.Core.Path.{_∙_, _≡_, ap, sym}
 use Prim.Native.Nat.{_+_, _-_}
 use native.Mathlib.Omega.{arith}
 use borrow.Author.Needs.{needs}
+use Rattle.recipe_file.specs.declared.Edition.{Edition}
+use Rattle.recipe_file.specs.File.{edition-of}
 use Rattle.check_bays.proofs.Counting.{NodesCounted, counted-all, counted-next, counted-none, counted-not}
 use Rattle.check_bays.proofs.count_nodes.Statement.{statement}
 use Rattle.check_bays.proofs.count_nodes.Tie as tie
@@ -31,10 +33,14 @@ enum-known-nodes c = search needs
 enum-told : tie.Need-enum-told Inv-loop μ-loop
 enum-told c = search needs
 
+-- the node forms of the edition
+forms-of : (c : tie.Start Inv-loop μ-loop) → c .args .edition .forms ≡ edition-of (c .args .recipe .now) .forms
+forms-of c = ap (λ (e : Edition). e .forms) (c .pre .1)
+
 returns : tie.Need-returns Inv-loop μ-loop
 returns c =
     let l = c .before .before .before .before .before in
-    counted-not (l .before .before .before .pre .0) (omega arith) (c .before .before .before .term-bytes .ensures)
+    counted-not (l .before .before .before .pre .0) (omega arith) (c .before .before .before .term-bytes .ensures) (forms-of (l .before .before .before))
     (sym (c .enum-told .given .1) ∙ c .before .before .scan-part .ensures)
 
 -- the next turn
@@ -47,7 +53,8 @@ loop c = c .before .before .before .before .before .before
 next : (c : AtNodes) → NodesCounted (loop c .before .before .before .args .recipe .now) (loop c .loop .bay + 1) (loop c .loop .total + c .before .nodes .given .0 .0)
 next c =
     let l = loop c in
-    counted-next (l .before .before .before .pre .0) (omega arith) (c .before .before .before .before .term-bytes .ensures) _ (l .loop .inv)
+    counted-next (l .before .before .before .pre .0) (omega arith) (c .before .before .before .before .term-bytes .ensures) (forms-of (l .before .before .before)) _
+    (l .loop .inv)
     (sym (c .before .nodes .given .1) ∙ c .before .before .before .scan-part .ensures)
 
 add-total : tie.Need-add-total Inv-loop μ-loop

@@ -1,10 +1,12 @@
 -- `check_bays::each_stands` meets its contract. The loop's invariant: the parts passed stand, and `total` is the sum of their nodes.
-use mathlib.Core.Path.{_∙_, ap, sym}
+use mathlib.Core.Path.{_∙_, _≡_, ap, sym}
 use mathlib.Core.List.{List}
 use Prim.Native.Nat.{_+_, _-_, ℕ}
 use native.Mathlib.Omega.{arith}
 use borrow.Author.Needs.{needs}
 use lib.ListN.{length}
+use Rattle.recipe_file.specs.declared.Edition.{Edition}
+use Rattle.recipe_file.specs.File.{edition-of}
 use Rattle.recipe_table.specs.Entries.{table-of, type-table}
 use Rattle.recipe_table.proofs.Tables.{count-between}
 use Rattle.check_bays.proofs.Standing.{Stood, stood-all, stood-next, stood-none, stood-not}
@@ -41,11 +43,15 @@ enum-known-nodes c = search needs
 enum-told : tie.Need-enum-told Inv-loop μ-loop
 enum-told c = search needs
 
+-- the node forms of the edition
+forms-of : (c : tie.Start Inv-loop μ-loop) → c .args .edition .forms ≡ edition-of (c .args .recipe .now) .forms
+forms-of c = ap (λ (e : Edition). e .forms) (c .pre .1)
+
 returns : tie.Need-returns Inv-loop μ-loop
 returns c =
     let l = c .before .before .before .before .before in
     stood-not (l .before .before .before .before .pre .0) (omega (arith, l .before .before .bay-count .ensures)) (c .before .before .before .term-bytes .ensures) (l .before .table-bytes .ensures) (l .before .before .bay-count .ensures)
-    (sym (c .enum-told .given .1) ∙ c .before .before .glance .ensures)
+    (forms-of (l .before .before .before .before)) (sym (c .enum-told .given .1) ∙ c .before .before .glance .ensures)
 
 -- the next turn
 abbrev AtNodes : Type 0
@@ -57,7 +63,8 @@ loop c = c .before .before .before .before .before .before
 next : (c : AtNodes) → Stood (loop c .before .before .before .before .args .recipe .now) (loop c .loop .bay + 1) (loop c .loop .total + c .before .nodes .given .0 .0)
 next c =
     let l = loop c in
-    stood-next (l .before .before .before .before .pre .0) (omega (arith, l .before .before .bay-count .ensures)) (c .before .before .before .before .term-bytes .ensures) (l .before .table-bytes .ensures) (l .before .before .bay-count .ensures) _ (l .loop .inv)
+    stood-next (l .before .before .before .before .pre .0) (omega (arith, l .before .before .bay-count .ensures)) (c .before .before .before .before .term-bytes .ensures) (l .before .table-bytes .ensures) (l .before .before .bay-count .ensures)
+    (forms-of (l .before .before .before .before)) _ (l .loop .inv)
     (sym (c .before .nodes .given .1) ∙ c .before .before .before .glance .ensures)
 
 add-total : tie.Need-add-total Inv-loop μ-loop

@@ -16,10 +16,10 @@ use Rattle.check_prescan.proofs.glance.Statement.{statement}
 use Rattle.check_prescan.proofs.glance.Tie as tie
 
 abbrev Inv-loop : tie.InvT-loop
-Inv-loop table names s frames₀ waits₀ here₀ nodes₀ frames waits here nodes = Glancing (table-of table) names s here nodes waits frames
+Inv-loop forms table names s frames₀ waits₀ here₀ nodes₀ frames waits here nodes = Glancing forms (table-of table) names s here nodes waits frames
 
 abbrev μ-loop : tie.MeasureT-loop
-μ-loop table names s frames₀ waits₀ here₀ nodes₀ frames waits here nodes = length s - here
+μ-loop forms table names s frames₀ waits₀ here₀ nodes₀ frames waits here nodes = length s - here
 
 abbrev AtLoop : Type 0
 AtLoop = tie.At-loop Inv-loop μ-loop
@@ -51,7 +51,7 @@ high : (c : AtNode) → (loop c .loop .waits ≤ max-nesting) × (level-of (top 
 high c = glancing-high (loop c .loop .inv) (some c) (next c)
 
 loop-holds : tie.Need-loop-holds Inv-loop μ-loop
-loop-holds c = glancing-start _ _ _ _ refl refl
+loop-holds c = glancing-start _ _ _ _ _ refl refl
 
 sub-frame : tie.Need-sub-frame Inv-loop μ-loop
 sub-frame c = omega (arith, c .loop-test .taken)
@@ -97,7 +97,7 @@ add-here c = omega (arith, node (c .before .before .before) .node .inside)
 add-nodes : tie.Need-add-nodes Inv-loop μ-loop
 add-nodes c =
     let n = c .before .before .before in
-    omega (arith, loop n .loop .inv .seen .passed, node n .node .inside, node n .node .onward, loop n .before .before .before .good .1 .1 .0 .1)
+    omega (arith, loop n .loop .inv .seen .passed, node n .node .inside, node n .node .onward, loop n .before .before .before .good .1 .1 .1 .0 .1)
 
 loop-less : tie.Need-loop-less Inv-loop μ-loop
 loop-less c = let n = c .before .before .before in omega (arith, node n .node .inside, node n .node .onward)

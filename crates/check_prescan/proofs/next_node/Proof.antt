@@ -18,7 +18,7 @@ enum-told : tie.Need-enum-told
 enum-told c = search needs
 
 returns : tie.Need-returns
-returns c = next-bad _ _ _ (sym (c .before .before .node-at .ensures) ∙ c .enum-told .given .1)
+returns c = next-bad _ _ _ _ (sym (c .before .before .node-at .ensures) ∙ c .enum-told .given .1)
 
 node-stands-requires : tie.Need-node-stands-requires
 node-stands-requires c κs =
@@ -30,12 +30,12 @@ node-stands-requires c κs =
 returns-2 : tie.Need-returns-2
 returns-2 c =
     let n = c .before .before in
-    next-picked _ _ _ (sym (n .before .before .before .node-at .ensures) ∙ n .before .node .given .1) (sym (c .before .node-stands .ensures) ∙ not-true _ (c .if1 .taken))
+    next-picked _ _ _ _ (sym (n .before .before .before .node-at .ensures) ∙ n .before .node .given .1) (sym (c .before .node-stands .ensures) ∙ not-true _ (c .if1 .taken))
 
 returns-3 : tie.Need-returns-3
 returns-3 c =
     let n = c .before .before in
-    next-picked _ _ _ (sym (n .before .before .before .node-at .ensures) ∙ n .before .node .given .1) (sym (c .before .node-stands .ensures) ∙ not-false _ (c .if1 .left))
+    next-picked _ _ _ _ (sym (n .before .before .before .node-at .ensures) ∙ n .before .node .given .1) (sym (c .before .node-stands .ensures) ∙ not-false _ (c .if1 .left))
 
 pub next-node-spec : {M : Type 1} → statement M
 next-node-spec = tie.close (tie.spec node-at-requires enum-known-node enum-told returns node-stands-requires returns-2 returns-3)

@@ -26,15 +26,16 @@ use Rattle.calculus.specs.Theory.Tabulate.{length-tabulate, tabulate-at, tabula
 use Rattle.calculus.specs.Theory.Lowest.{first-cause-parts}
 use Rattle.calculus.specs.Theory.TableTest.{KindsBelow, table-test-iff}
 use Rattle.calculus.specs.Theory.Verdict.{accepted-iff, verdict-iff, verdict-derived-iff}
-use Rattle.term.specs.Reader.{one-term, read-term}
-use Rattle.term.specs.Expressions.{bytes, nesting, FitsBytes}
-use Rattle.term.proofs.Expressions.{one-term-sound, one-term-complete, term-of-bytes}
+use Rattle.term.specs.Reader.{one-term}
+use Rattle.term.specs.Tree.{forms-below}
+use Rattle.term.specs.Expressions.{bytes, nesting, tree-of, FitsBytes}
+use Rattle.term.proofs.Expressions.{edition-complete, edition-sound, term-of-bytes}
 use Rattle.recipe_file.specs.File.{edition-of, bays, table-bytes, term-bytes, cause-1, cause-2, cause-3}
 use Rattle.recipe_file.specs.FileRule.{FileRule}
 use Rattle.recipe_file.proofs.LaidOut.{or-parts, or-false, laid-iff}
 use Rattle.recipe_file.proofs.Inside.{length-table-bytes}
 use Rattle.recipe_table.specs.Entries.{table-of, type-table, cause-4, table-causes}
-use Rattle.check_spec.specs.Bays.{bay-term, bay-terms, cause-5, cause-6, term-causes}
+use Rattle.check_spec.specs.Bays.{bay-reading, bay-term, bay-terms, cause-5, cause-6, term-causes}
 use Rattle.check_spec.specs.Verdict.{refusal, number-in, bay-type-number, bay-type-numbers}
 use Rattle.check_spec.specs.Recipe.{entry-bytes, Recipe}
 use Rattle.check_spec.specs.Theory.Bays.{part-bytes, entry-bytes-of, table-of-entries}
@@ -73,10 +74,11 @@ module _ (s : List ℕ) (b : Bytes s) (n : NoCause s) where
       let (t, e, f) = laid-out .entries in
       sym (entry-bytes-of t (table-bytes s) (length-table-bytes laid-out ∙ e))
 
-  bay-is-term : (bay : ℕ) → bay < bays s → (term-bytes s bay ≡ bytes (bay-term s bay)) × FitsBytes (bay-term s bay)
+  bay-is-term : (bay : ℕ) → bay < bays s →
+      (term-bytes s bay ≡ bytes (bay-term s bay)) × FitsBytes (bay-term s bay) × (forms-below (edition-of s .forms) (tree-of (bay-term s bay)) ≡ true)
   unfolding cause-5 bay-term term-bytes
-  bay-is-term bay l = one-term-sound (term-bytes s bay) (part-bytes s (edition-of s .terms + bay) b)
-      (each-below-sound (bays s) (λ k. one-term (read-term (term-bytes s k))) (not-false _ (n .not-5)) bay l)
+  bay-is-term bay l = edition-sound (edition-of s .forms) (term-bytes s bay) (part-bytes s (edition-of s .terms + bay) b)
+      (each-below-sound (bays s) (λ k. one-term (bay-reading s k)) (not-false _ (n .not-5)) bay l)
 
   bay-limits : (each-below (bays s) (λ k. leb (nesting (bay-term s k)) max-nesting) ≡ true) × (ltb max-recipe-nodes (sum-below (bays s) (λ k. nodes (bay-term s k))) ≡ false)
   unfolding cause-6
@@ -90,7 +92,8 @@ module _ (s : List ℕ) (b : Bytes s) (n : NoCause s) where
     kinds = table-stands .0;
     table-rule = table-stands .1;
     count = length-tabulate (bays s) (bay-term s);
-    terms = λ bay e h. let (l, q) = tabulate-parts (bays s) (bay-term s) bay h in rw q (bay-is-term bay l);
+    terms = λ bay e h. let (l, q) = tabulate-parts (bays s) (bay-term s) bay h in let (p, f, below) = bay-is-term bay l in rw q (p, f);
+    forms = λ bay e h. let (l, q) = tabulate-parts (bays s) (bay-term s) bay h in rw q (bay-is-term bay l .2);
     shallow = λ bay e h.
         let (l, q) = tabulate-parts (bays s) (bay-term s) bay h in
         rw q (leb-sound _ _ (each-below-sound (bays s) (λ k. leb (nesting (bay-term s k)) max-nesting) (bay-limits .0) bay l));
@@ -115,10 +118,10 @@ module _ {s : List ℕ} {T : Table} {es : List Exp} (r : Recipe s T es) where
   bay-there : (bay : ℕ) → bay < bays s → (e : Exp) × (at es bay ≡ some e)
   bay-there bay l = at-below es bay (omega (arith, r .count))
 
-  each-one-term : each-below (bays s) (λ k. one-term (read-term (term-bytes s k))) ≡ true
+  each-one-term : each-below (bays s) (λ k. one-term (bay-reading s k)) ≡ true
   unfolding term-bytes
   each-one-term = each-below-complete (bays s) _ λ bay l.
-      let (e, h) = bay-there bay l in let (p, f) = r .terms bay e h in rw p (one-term-complete e f)
+      let (e, h) = bay-there bay l in let (p, f) = r .terms bay e h in rw p (edition-complete (edition-of s .forms) e f (r .forms bay e h))
 
   each-shallow : each-below (bays s) (λ k. leb (nesting (bay-term s k)) max-nesting) ≡ true
   each-shallow = each-below-complete (bays s) _ λ bay l.

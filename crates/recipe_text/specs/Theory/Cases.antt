@@ -12,7 +12,8 @@ use Rattle.calculus.specs.Verdict.{annotated, annotated-const, applied-number, 
 use Rattle.term.specs.Expressions.{bytes, const-bytes, exp-of, leaf-exp, leaf-forms, nesting, op-tag, term-of, two-exp}
 use Rattle.term.specs.Forms.{form-of, forms}
 use Rattle.term.specs.Numbers.{little-endian, value-of}
-use Rattle.term.specs.Reader.{one-term, read, read-term}
+use Rattle.term.specs.Reader.{one-term, read, read-term, of-edition}
+use Rattle.term.specs.Tree.{forms-below}
 use Rattle.recipe_file.specs.File.{bays, cause-1, cause-2, cause-3, edition-of, length-of, offset-of, opens, outside, pairs-test, part, parts, table-bytes, table-length-test, term-bytes}
 use Rattle.recipe_table.specs.Entries.{cause-4, table-of, type-table}
 use Rattle.image_layout.specs.Encoded.{expressions, head, heads, image-bytes}
@@ -55,5 +56,5 @@ text-D = 0x76 ∷ 0x65 ∷ 0x72 ∷ 0x64 ∷ 0x69 ∷ 0x63 ∷ 0x74 ∷ 0x20 ∷
 
 -- "For case A"; "H ● 00 00: refused 7"; "D ● T7, 01 04 03: refused 10"
 cases : map text-of (file-A ∷ file-H ∷ file-D ∷ []) ≡ text-A ∷ text-H ∷ text-D ∷ []
-unfolding text-of verdict-line image-line hexadecimal hexadecimal-byte decimal verdict-of refusal bay-terms bay-term cause-5 cause-6 cause-4 table-of type-table word bays parts offset-of length-of part table-bytes term-bytes outside cause-1 opens edition-of cause-2 pairs-test table-length-test cause-3 exp-of leaf-exp leaf-forms two-exp nesting one-term read read-term form-of forms value-of tabulate each-below sum-below uses nodes test-entry entry-test entries-test same-entry new-to distinct-test entry-is table-test on-function on-once-function on-cell is-many scoped-const scoped annotated-const annotated const-number on-number result-number applied-number lambda-number type-number outside-many linear-parameter linear every starting-image image-of encode head heads expressions image-bytes bytes const-bytes op-tag little-endian two-bytes loaded bay-types with-type term-of
+unfolding text-of verdict-line image-line hexadecimal hexadecimal-byte decimal verdict-of refusal bay-terms bay-term cause-5 cause-6 cause-4 table-of type-table word bays parts offset-of length-of part table-bytes term-bytes outside cause-1 opens edition-of cause-2 pairs-test table-length-test cause-3 exp-of leaf-exp leaf-forms two-exp nesting one-term of-edition forms-below read read-term form-of forms value-of tabulate each-below sum-below uses nodes test-entry entry-test entries-test same-entry new-to distinct-test entry-is table-test on-function on-once-function on-cell is-many scoped-const scoped annotated-const annotated const-number on-number result-number applied-number lambda-number type-number outside-many linear-parameter linear every starting-image image-of encode head heads expressions image-bytes bytes const-bytes op-tag little-endian two-bytes loaded bay-types with-type term-of
 cases = refl
