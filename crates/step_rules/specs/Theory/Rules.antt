@@ -26,12 +26,12 @@ use Rattle.term_redex.specs.declared.Meeting.{Meeting}
 use Rattle.term_redex.proofs.Contexts.{plug-nodes}
 use Rattle.term_subst.specs.Theory.Outcome.{nodes-substitute}
 use Rattle.step_rules.specs.declared.Move.{Move}
-use Rattle.step_rules.specs.declared.Move.the-variants.{Beta, ThreadNew, FutureDeref, HandleNew, HandleBind, CellNew, CellExch}
+use Rattle.step_rules.specs.declared.Move.the-variants.{Beta, ThreadNew, HandleNew, HandleBind, CellNew}
 use Rattle.step_rules.specs.Positions.{name-length, to-body}
 use Rattle.step_rules.specs.Effects.{rule-of, bytes-between, thread-holding, cell-holding, argument-bytes, name-bytes, effect-of}
 use Rattle.step_rules.specs.Moves.{look-up, from-name, other-after, names-after, image-after, nodes-after}
 use Rattle.step_rules.specs.Stepped.{Counted, Copied, Has, Stepped}
-use Rattle.step_rules.specs.Meets.{step-at, MeetsAt}
+use Rattle.step_rules.specs.Meets.{step-at, dereferenced, exchanged, MeetsAt}
 use Rattle.step_rules.specs.Theory.Reading.{rules, Stands, thread-stands, cell-stands}
 use Rattle.step_rules.specs.Theory.Changes.{Table, table-length, table-set, table-more, swap}
 use Rattle.step_rules.specs.Theory.Meeting.{between-front, between-term, body-stands, table-start, argument-is, components-are}
@@ -161,10 +161,6 @@ module _ {s : List ℕ} {x : ℕ} {m : Meeting} {F : Context} {f : Exp} {w : Val
   unfolding sum-in
   counted-value {y} h q = counted (q .term) (omega (arith, sum-part (sum-in nodes) (config-of s) y h, few-all M))
 
--- the value of thread y, copied
-abbrev pub dereferenced : List ℕ → ℕ → Move
-dereferenced s y = FutureDeref (offset-at s y) (offset-at s y + length-at s y)
-
 -- rule 3, at the function of an application
 pub deref-moves : {s : List ℕ} {x y : ℕ} {m : Meeting} {F : Context} {v : Exp} → MeetsAt s x m F (is-name {k = y}) v → (e : Exp) → at (config-of s) y ≡ some (thread-of e) → Value e
     → Stepped s x (step-at x m (dereferenced s y))
@@ -225,14 +221,14 @@ bind-moves {s} {x} {z} {m} {F} {v} M y h =
 
 -- rule 7
 pub exchange-moves : {s : List ℕ} {x y t : ℕ} {m : Meeting} {F : Context} {v : Exp} → MeetsAt s x m F (is-exch {t = t} (is-name {k = y})) v → (e : Exp)
-    → at (config-of s) y ≡ some (holds e) → Stepped s x (step-at x m (CellExch y (offset-at s y) (offset-at s y + length-at s y)))
+    → at (config-of s) y ≡ some (holds e) → Stepped s x (step-at x m (exchanged s y))
 unfolding step-meeting step-exchange effect-of other-after look-up from-name names-after nodes-after nodes sum-in encode
 exchange-moves {s} {x} {y} {t} {m} {F} {v} M e h =
     let C = config-of s in
     let q = cell-stands s (M .in-bytes) (M .stands) y e h in
     let xy = other M y h (λ p. clash (cc)) in
     let h₁ : at (put C x F e) y ≡ some (holds e) = set-other C x y (thread-of (plug F e)) (λ p. xy (sym p)) ∙ h in
-    stepped M (CellExch y (offset-at s y) (offset-at s y + length-at s y)) e (set (put C x F e) y (holds v)) (names s) _
+    stepped M (exchanged s y) e (set (put C x F e) y (holds v)) (names s) _
     (rw h refl) (copied-is M y q)
     (table-set y (holds v) (table-put M e)) (omega arith)
     (λ k. swap k x y (thread-after M e) (encode (holds v)) (encoded-at s k) xy
