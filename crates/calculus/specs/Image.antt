@@ -112,8 +112,12 @@ unfoldable pub each-test : (ℕ → Component → Bool) → ℕ → Config → B
 each-test test k [] = true
 each-test test k (c ∷ C) = test k c && each-test test (suc k) C
 
+-- "At most 256 names and 4,096 nodes in all", of two counts
+abbrev pub within-limits : ℕ → ℕ → Bool
+within-limits names nodes = ltb names (suc max-names) && ltb nodes (suc max-nodes)
+
 unfoldable pub limits-test : Config → Bool
-limits-test C = ltb (length C) (suc max-names) && ltb (nodes-all C) (suc max-nodes)
+limits-test C = within-limits (length C) (nodes-all C)
 
 -- cause 13 does not fit
 unfoldable pub image-test : Config → Bool

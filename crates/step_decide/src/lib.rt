@@ -45,7 +45,7 @@ fn follow(image: &[u8], thread: usize, meeting: Meeting, y: usize) -> Decision
         return Decision::Waits(y);
     }
     let to = from + length_at(image, y);
-    goes(thread, meeting, Move::FutureDeref { from, to })
+    goes(thread, meeting, Move::FutureDeref(from, to))
 }
 
 // Name y is applied.
@@ -62,7 +62,7 @@ fn call(image: &[u8], thread: usize, meeting: Meeting, y: usize) -> Decision
     }
     if kind == Image::OPEN_HANDLE {
         let future = companion_at(image, y) as usize;
-        return goes(thread, meeting, Move::HandleBind { handle: y, future });
+        return goes(thread, meeting, Move::HandleBind(y, future));
     }
     if kind == Image::USED_HANDLE {
         return Decision::Refuses(Cause::USED_HANDLE);
@@ -85,7 +85,7 @@ fn exchange_name(image: &[u8], thread: usize, meeting: Meeting, y: usize) -> Dec
     if kind == Image::CELL {
         let from = offset_at(image, y);
         let to = from + length_at(image, y);
-        return goes(thread, meeting, Move::CellExch { cell: y, from, to });
+        return goes(thread, meeting, Move::CellExch(y, from, to));
     }
     Decision::Refuses(Cause::WRONG_KIND)
 }

@@ -5,15 +5,16 @@ ghost use mathlib.Core.Path.{_≡_};
 ghost use Rattle.calculus.specs.Reduction.{number};
 ghost use Rattle.step_rules.specs.Effects.{rule-of};
 
-// A move by a rule of Fig. 5, with what it needs besides the place: where the value that is copied stands, the handle that is applied and its future, the cell.
+// A move by a rule of Fig. 5, with what it needs besides the place: from where to where the value that is copied stands, the handle and its future, the cell and
+// from where to where its value stands.
 pub enum Move {
     Beta,
     ThreadNew,
-    FutureDeref { from: usize, to: usize },
+    FutureDeref(usize, usize),
     HandleNew,
-    HandleBind { handle: usize, future: usize },
+    HandleBind(usize, usize),
     CellNew,
-    CellExch { cell: usize, from: usize, to: usize },
+    CellExch(usize, usize, usize),
 }
 
 // A step: the thread that goes, the place in its expression where two values meet, and the move.
@@ -57,10 +58,10 @@ pub fn rule_of(by: Move) -> u8
     match by {
         Move::Beta => Rule::BETA,
         Move::ThreadNew => Rule::THREAD_NEW,
-        Move::FutureDeref { from: _, to: _ } => Rule::FUTURE_DEREF,
+        Move::FutureDeref(_, _) => Rule::FUTURE_DEREF,
         Move::HandleNew => Rule::HANDLE_NEW,
-        Move::HandleBind { handle: _, future: _ } => Rule::HANDLE_BIND,
+        Move::HandleBind(_, _) => Rule::HANDLE_BIND,
         Move::CellNew => Rule::CELL_NEW,
-        Move::CellExch { cell: _, from: _, to: _ } => Rule::CELL_EXCH,
+        Move::CellExch(_, _, _) => Rule::CELL_EXCH,
     }
 }

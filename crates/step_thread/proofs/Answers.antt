@@ -52,7 +52,7 @@ use Rattle.step_thread.specs.Stages.{is-thread, stays}
 
 -- the answer to a step of thread x, and what is left in the out buffer
 abbrev pub Answers : List ℕ → ℕ → List ℕ → Outcome → List ℕ → Type 0
-Answers s x out r out′ = (r ≡ outcome-of-reply (reply-of (step-of (config-of s) x))) × (out′ ≡ out-after-reply (reply-of (step-of (config-of s) x)) out)
+Answers s x out r out′ = (r ≡ outcome-of-reply (reply-of within-limits (step-of (config-of s) x))) × (out′ ≡ out-after-reply (reply-of within-limits (step-of (config-of s) x)) out)
 
 module _ (s : List ℕ) (x : ℕ) (out : List ℕ) where
   pub by-no-thread : step-of (config-of s) x ≡ no-thread → Answers s x out (Refused no-thread-cause) out

@@ -40,8 +40,8 @@ fn answer_of(decision: Decision) -> Outcome
 // A step on an image that keeps every rule and limit and has so many nodes, into a buffer that is long enough.
 fn step_checked(image: &[u8], nodes: usize, thread: usize, out: &mut [u8]) -> Outcome
     requires { ⌜ Checks (now image) nodes (now out) ⌝ }
-    ensures { λ r. ⌜ r ≡ outcome-of-reply (reply-of (step-of (config-of (now (image .entry))) thread)) ⌝ }
-    ensures { λ r. ⌜ now (out .exit) ≡ out-after-reply (reply-of (step-of (config-of (now (image .entry))) thread)) (now (out .entry)) ⌝ }
+    ensures { λ r. ⌜ r ≡ outcome-of-reply (reply-of within-limits (step-of (config-of (now (image .entry))) thread)) ⌝ }
+    ensures { λ r. ⌜ now (out .exit) ≡ out-after-reply (reply-of within-limits (step-of (config-of (now (image .entry))) thread)) (now (out .entry)) ⌝ }
 {
     if !is_thread(image, thread) {
         return Outcome::Refused(Cause::NO_THREAD);

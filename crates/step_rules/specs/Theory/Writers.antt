@@ -1,5 +1,5 @@
 -- What a writer needs, of a step at a meeting.
-use mathlib.Core.Path.{_∙_, _≡_, ap, sym}
+use mathlib.Core.Path.{_∙_, _≡_, ap, subst, sym}
 use mathlib.Core.List.{List}
 use Prim.Native.Nat.{ℕ, _+_, _≤_, _<_}
 use native.Mathlib.Omega.{arith}
@@ -16,6 +16,7 @@ use Rattle.image.specs.Configuration.{config-of}
 use Rattle.term_redex.specs.declared.Meeting.{Meeting}
 use Rattle.term_redex.proofs.Contexts.{plug-nodes}
 use Rattle.step_rules.specs.declared.Move.{Move}
+use Rattle.step_rules.specs.declared.Step.{Step}
 use Rattle.step_rules.specs.Stepped.{Counted, Has, Movable}
 use Rattle.step_rules.specs.Meets.{step-at, MeetsAt}
 use Rattle.step_rules.specs.Theory.Reading.{rules, below, thread-stands}
@@ -35,6 +36,10 @@ size-positive (app f a) = omega arith
 
 pub counted : {s : List ℕ} {a : ℕ} {e : Exp} → TermAt s a e → nodes e ≤ max-nodes → Counted s a
 counted {s} {a} {e} t n = let p = found-at t in record { good = p .good; few = omega (arith, ap nodes (p .term)) }
+
+-- what a move that is known has
+pub has-by : {s : List ℕ} {step : Step} {by : Move} → Movable s step → step .by ≡ by → Has s (step .meeting) by
+has-by {s} {step} w e = subst (Has s (step .meeting)) e (w .has)
 
 module _ {s : List ℕ} {x : ℕ} {m : Meeting} {F : Context} {f : Exp} {w : Value f} {v : Exp} (M : MeetsAt s x m F w v) where
   pub thread-below : x < names s
