@@ -53,6 +53,10 @@ argument-bytes s m = bytes-between s (m .argument) (m .end)
 abbrev pub name-bytes : ℕ → List ℕ
 name-bytes k = name-tag ∷ k ∷ []
 
+-- the new thread of rule 2: the argument applied to the thread's own name
+abbrev pub started-bytes : List ℕ → Meeting → List ℕ
+started-bytes s m = application-tag ∷ (argument-bytes s m ++ name-bytes (names s))
+
 -- a name with its component
 pub record Named : Type 0 where
   pub name : ℕ
@@ -89,7 +93,7 @@ effect-of s m ThreadNew =
       redex = name-bytes (names s);
       gained = 1;
       lost = 0;
-      new = thread-holding (application-tag ∷ (argument-bytes s m ++ name-bytes (names s))) ∷ [];
+      new = thread-holding (started-bytes s m) ∷ [];
       changed = [];
     }
 -- FUTURE.DEREF: Ef[y] | y ⇐ w → Ef[w] | y ⇐ w. The name y stands right before the argument.
