@@ -17,7 +17,7 @@ use Rattle.step_rules.specs.Moves.{component-after, names-after, components-aft
 use Rattle.step_reduct.specs.CanWrite.{CanWrite}
 use Rattle.step_reduct.proofs.Redexes.{argument-length}
 use Rattle.step_write.specs.declared.Change.{Change}
-use Rattle.step_write.specs.Changes.{Becomes, Sure, changed}
+use Rattle.step_write.specs.Changes.{Becomes}
 
 -- what is known once the change is
 pub becomes-as : {s : List ℕ} {step : Step} {k : ℕ} {change known : Change} {component : Encoded} → Becomes s step k change component → change ≡ known → Becomes s step k known component

@@ -3,13 +3,13 @@ use mathlib.Core.Path.{_∙_, _≡_, ap, ap₂, refl, sym, subst}
 use mathlib.Core.Bool.{cond}
 use mathlib.Core.Option.{some}
 use mathlib.Core.List.{List, [], _++_, _∷_, append-assoc}
-use Prim.Native.Nat.{ℕ, _+_, _-_, _≤_, _<_}
+use Prim.Native.Nat.{ℕ, _+_, _-_, _≤_}
 use native.Mathlib.Omega.{arith}
 use lib.Dec.{eqb}
 use lib.ListN.{length, set}
 use Rattle.image.specs.Theory.Lengths.{length-config}
 use Rattle.calculus.specs.Theory.Configurations.{sum-append, sum-set, sum-part}
-use Rattle.calculus.specs.Syntax.{Op, unit, op, cell, exch, thread, handle, Exp, name, const, app, Value, is-name, is-const, is-lam, is-exch, Component, thread-of, holds, open-for, used, awaited, Config, at, sum-in, sum-all}
+use Rattle.calculus.specs.Syntax.{unit, op, cell, exch, thread, handle, Exp, name, const, app, Value, is-name, is-const, is-lam, is-exch, Component, thread-of, holds, open-for, used, awaited, Config, at, sum-in, sum-all}
 use Rattle.calculus.specs.Reduction.{substitute, Context, plug, put, HANDLE-NEW}
 use Rattle.calculus.specs.Names.{count}
 use Rattle.calculus.specs.Step.{rule, step-meeting, step-call, step-exchange, when-done}

@@ -1,11 +1,10 @@
 -- What a writer needs, of a step at a meeting.
 use mathlib.Core.Path.{_∙_, _≡_, ap, subst, sym}
 use mathlib.Core.List.{List}
-use Prim.Native.Nat.{ℕ, _+_, _≤_, _<_}
+use Prim.Native.Nat.{ℕ, _≤_, _<_}
 use native.Mathlib.Omega.{arith}
-use lib.ListN.{length}
 use Rattle.calculus.specs.Theory.Configurations.{sum-part}
-use Rattle.calculus.specs.Syntax.{Const, unit, num, op, Exp, var, name, const, lam, app, Value, at, sum-in}
+use Rattle.calculus.specs.Syntax.{Const, unit, num, op, Exp, var, name, const, lam, app, Value, sum-in}
 use Rattle.calculus.specs.Reduction.{Context, plug}
 use Rattle.calculus.specs.Image.{const-size, nodes, nodes-all, size}
 use Rattle.calculus.specs.Limits.{max-nodes}
