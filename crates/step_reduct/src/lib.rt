@@ -9,12 +9,13 @@ use numbers::Image;
 use step_rules::Move;
 use step_rules::Step;
 use term::Node;
+use term_redex::Meeting;
 use term_scan::Extent;
 use term_scan::scan_small;
 use term_subst::count_uses;
 use term_subst::put_applied;
 ghost use mathlib.Core.Path.{_≡_};
-ghost use Prim.Native.Nat.{_+_, _<_, _≤_};
+ghost use Prim.Native.Nat.{_+_, _-_, _<_, _≤_};
 ghost use lib.ListN.{length};
 ghost use Rattle.calculus.specs.Limits.{byte-values};
 ghost use Rattle.buffer.specs.Written.{Wrote};
@@ -111,6 +112,14 @@ pub fn put_thread_after(out: &mut [u8], at: usize, image: &[u8], step: Step) -> 
     put_part(out, rest, image, step.meeting.end, end)
 }
 
+// How many bytes the argument has.
+pub fn argument_size(meeting: Meeting) -> usize
+    requires { ⌜ meeting .argument ≤ meeting .end ⌝ }
+    ensures { λ r. ⌜ r ≡ meeting .end - meeting .argument ⌝ }
+{
+    meeting.end - meeting.argument
+}
+
 // How many bytes the outcome of rule 1 has: for each place of the variable there is a value.
 fn substituted_size(image: &[u8], step: Step) -> usize
     requires { ⌜ CanWrite (now image) step × (step .by ≡ Beta) ⌝ }
@@ -130,14 +139,13 @@ fn redex_size(image: &[u8], step: Step) -> usize
     ensures { λ r. ⌜ (r ≡ length (effect (now (image .entry)) step .redex)) × (r < max-redex-length) ⌝ }
 {
     let at = step.meeting.at;
-    let argument = step.meeting.argument;
     let end = step.meeting.end;
     let by = step.by;
     match by {
         Move::Beta => substituted_size(image, step),
         Move::ThreadNew => Step::NAME,
         Move::FutureDeref(from, to) => end - at - Step::NAME + (to - from),
-        Move::HandleNew => end - argument + HANDLED,
+        Move::HandleNew => argument_size(step.meeting) + HANDLED,
         Move::HandleBind(_, _) => Step::UNIT,
         Move::CellNew => Step::NAME,
         Move::CellExch(_, from, to) => to - from,

@@ -11,6 +11,7 @@ use image_layout::length_at;
 use image_layout::names_of;
 use image_layout::put_head;
 use numbers::Image;
+use step_reduct::argument_size;
 use step_reduct::put_argument;
 use step_reduct::put_name;
 use step_reduct::put_thread_after;
@@ -18,9 +19,10 @@ use step_reduct::thread_size;
 use step_rules::Move;
 use step_rules::Step;
 use term::Node;
+use term_redex::Meeting;
 ghost use mathlib.Core.Path.{_≡_};
 ghost use mathlib.Core.Bool.{cond};
-ghost use Prim.Native.Nat.{_+_, _<_, _≤_};
+ghost use Prim.Native.Nat.{_+_, _-_, _<_, _≤_};
 ghost use lib.ListN.{length};
 ghost use Rattle.calculus.specs.Bytes.{two-byte-values};
 ghost use Rattle.calculus.specs.Limits.{byte-values, first-head};
@@ -30,13 +32,11 @@ ghost use Rattle.image_layout.specs.Encoded.{heads, head-offset, expressions};
 ghost use Rattle.image_layout.specs.Slice.{names};
 ghost use Rattle.image_layout.specs.Heads.{Says};
 ghost use Rattle.image_layout.specs.Theory.Turns.{Room};
+ghost use Rattle.step_rules.specs.Positions.{application-length, name-length};
 ghost use Rattle.step_rules.specs.Effects.{started-bytes};
 ghost use Rattle.step_rules.specs.Moves.{component-after, names-after, image-after};
 ghost use Rattle.step_reduct.specs.CanWrite.{CanWrite};
 ghost use Rattle.step_write.specs.Changes.{Becomes};
-
-// What THREAD.NEW writes besides its argument: an application and a name.
-const STARTED: usize = Step::APPLICATION + Step::NAME;
 
 // What a step makes of a name: it stays, it is the thread that goes or a new thread (rule 2), it is of a kind and holds the argument, or it is of a kind, has a
 // companion and holds nothing.
@@ -101,6 +101,14 @@ fn put_started(out: &mut [u8], at: usize, image: &[u8], step: Step) -> usize
     put_name(out, name, names_of(image))
 }
 
+// How many bytes it has.
+fn started_size(meeting: Meeting) -> usize
+    requires { ⌜ (meeting .argument ≤ meeting .end) × (meeting .end < two-byte-values) ⌝ }
+    ensures { λ r. ⌜ r ≡ meeting .end - meeting .argument + (application-length + name-length) ⌝ }
+{
+    argument_size(meeting) + (Step::APPLICATION + Step::NAME)
+}
+
 // Writes the expression of name k; futures and handles have none.
 fn put_expression_after(out: &mut [u8], at: usize, image: &[u8], step: Step, k: usize) -> usize
     requires { ⌜ CanWrite (now image) step × (k < names-after (now image) step) ⌝ }
@@ -152,11 +160,8 @@ fn head_after(image: &[u8], step: Step, k: usize) -> Head
             size: length_at(image, k),
         },
         Change::Goes => holding(Image::THREAD, thread_size(image, step)),
-        Change::Starts => holding(
-            Image::THREAD,
-            step.meeting.end - step.meeting.argument + STARTED,
-        ),
-        Change::Holds(kind) => holding(kind, step.meeting.end - step.meeting.argument),
+        Change::Starts => holding(Image::THREAD, started_size(step.meeting)),
+        Change::Holds(kind) => holding(kind, argument_size(step.meeting)),
         Change::Bare(kind, companion) => bare(kind, companion),
     }
 }

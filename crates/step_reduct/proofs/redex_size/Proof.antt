@@ -18,8 +18,8 @@ add-result c =
     let v = has-by (w .movable) (c .before .by .given .1) .1 in
     omega (arith, v .onward, v .inside, w .short, w .movable .ends, w .movable .inside)
 
-sub-result-5 : tie.Need-sub-result-5
-sub-result-5 c = has-by (c .before .before .before .before .pre .movable) (c .before .by2 .given .1) .onward
+sub-result-4 : tie.Need-sub-result-4
+sub-result-4 c = has-by (c .before .before .before .before .pre .movable) (c .before .by2 .given .1) .onward
 
 returns-2 : tie.Need-returns-2
 unfolding effect-of
@@ -33,8 +33,8 @@ returns-3 c =
 
 returns-4 : tie.Need-returns-4
 returns-4 c =
-    let w = c .before .before .before .pre in
-    omega (arith, length-4 w (c .enum-told3 .given .1), w .short, w .movable .ends, w .movable .inside)
+    let w = c .before .before .before .before .pre in
+    omega (arith, c .argument-size .ensures, length-4 w (c .before .enum-told3 .given .1), w .short, w .movable .ends, w .movable .inside)
 
 returns-5 : tie.Need-returns-5
 unfolding effect-of
@@ -63,12 +63,12 @@ redex-size-spec =
     sub-result-3
     add-result
     (λ c. search needs)
+    (λ c κs. search needs)
     (λ c. search needs)
     (λ c. search needs)
     (λ c. search needs)
     (λ c. search needs)
-    (λ c. search needs)
-    sub-result-5
+    sub-result-4
     (λ c. search needs)
     returns-2
     returns-3

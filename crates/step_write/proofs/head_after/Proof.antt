@@ -54,14 +54,14 @@ unfolding changed
 returns-3 c =
     let p = c .before .before .before .before in
     let h = c .holding2 .ensures in
-    as-head (becomes-as (p .change-of .ensures) (c .before .before .enum-told3 .given .1) .is) (record { kinds = h .0; companions = h .1 .0; sizes = h .1 .1 ∙ sym (started-length (start p .pre .0)) })
+    as-head (becomes-as (p .change-of .ensures) (c .before .before .enum-told3 .given .1) .is) (record { kinds = h .0; companions = h .1 .0; sizes = h .1 .1 ∙ c .before .started-size .ensures ∙ sym (started-length (start p .pre .0)) })
 
 returns-4 : tie.Need-returns-4
 unfolding changed
 returns-4 c =
     let p = c .before .before .before .before .before in
     let h = c .holding3 .ensures in
-    as-head (becomes-as (p .change-of .ensures) (c .before .before .before .change .given .1) .is) (record { kinds = h .0; companions = h .1 .0; sizes = h .1 .1 ∙ sym (argument-length (start p .pre .0)) })
+    as-head (becomes-as (p .change-of .ensures) (c .before .before .before .change .given .1) .is) (record { kinds = h .0; companions = h .1 .0; sizes = h .1 .1 ∙ c .before .argument-size .ensures ∙ sym (argument-length (start p .pre .0)) })
 
 returns-5 : tie.Need-returns-5
 unfolding changed
@@ -83,11 +83,10 @@ head-after-spec =
     (λ c κs. search needs)
     (λ c κs. search needs)
     (λ c. search needs)
-    (λ c. search needs)
-    (λ c. search needs)
+    (λ c κs. search needs)
     (λ c κs. search needs)
     (λ c. search needs)
-    (λ c. search needs)
+    (λ c κs. search needs)
     (λ c κs. search needs)
     (λ c. search needs)
     (λ c κs. search needs)
