@@ -5,12 +5,13 @@ use lib.ListN.{drop, take}
 use Rattle.calculus.specs.Image.{nodes}
 use Rattle.calculus.specs.Names.{uses}
 use Rattle.calculus.specs.Reduction.{substitute, Rule, BETA, THREAD-NEW, FUTURE-DEREF, HANDLE-NEW, HANDLE-BIND, CELL-NEW, CELL-EXCH}
-use Rattle.calculus.specs.Kinds.{thread-kind, cell-kind, open-handle-kind, used-handle-kind, future-kind}
+use Rattle.calculus.specs.Kinds.{no-owner}
 use Rattle.term.specs.Expressions.{bytes, term-at}
 use Rattle.term.specs.Forms.{application-tag, unit-tag, name-tag}
 use Rattle.term_redex.specs.declared.Meeting.{Meeting}
 use Rattle.image_layout.specs.Encoded.{Encoded}
 use Rattle.image_layout.specs.Slice.{names}
+use Rattle.image.specs.Configuration.{thread-holding, cell-holding, handle-open, handle-used, future-awaited}
 use Rattle.step_rules.specs.declared.Move.{Move}
 use Rattle.step_rules.specs.declared.Move.the-variants.{Beta, ThreadNew, FutureDeref, HandleNew, HandleBind, CellNew, CellExch}
 use Rattle.step_rules.specs.Positions.{name-length, to-body}
@@ -28,22 +29,6 @@ rule-of (CellExch cell from to) = CELL-EXCH
 -- the bytes of a slice from a to b
 unfoldable pub bytes-between : List ℕ → ℕ → ℕ → List ℕ
 bytes-between s a b = take (b - a) (drop a s)
-
--- components in bytes
-abbrev pub thread-holding : List ℕ → Encoded
-thread-holding e = record { kind = thread-kind; companion = 0; expression = e }
-
-abbrev pub cell-holding : List ℕ → Encoded
-cell-holding v = record { kind = cell-kind; companion = 0; expression = v }
-
-abbrev pub handle-open : ℕ → Encoded
-handle-open future = record { kind = open-handle-kind; companion = future; expression = [] }
-
-abbrev pub handle-used : Encoded
-handle-used = record { kind = used-handle-kind; companion = 0; expression = [] }
-
-abbrev pub future-awaited : Encoded
-future-awaited = record { kind = future-kind; companion = 0; expression = [] }
 
 -- the value that the function is applied to
 abbrev pub argument-bytes : List ℕ → Meeting → List ℕ
@@ -93,7 +78,7 @@ effect-of s m ThreadNew =
       redex = name-bytes (names s);
       gained = 1;
       lost = 0;
-      new = thread-holding (started-bytes s m) ∷ [];
+      new = thread-holding no-owner (started-bytes s m) ∷ [];
       changed = [];
     }
 -- FUTURE.DEREF: Ef[y] | y ⇐ w → Ef[w] | y ⇐ w. The name y stands right before the argument.
@@ -111,7 +96,7 @@ effect-of s m HandleNew =
       redex = application-tag ∷ application-tag ∷ (argument-bytes s m ++ name-bytes (names s) ++ name-bytes (names s + 1));
       gained = 2;
       lost = 0;
-      new = future-awaited ∷ handle-open (names s) ∷ [];
+      new = future-awaited no-owner ∷ handle-open no-owner (names s) ∷ [];
       changed = [];
     }
 -- HANDLE.BIND: E[z v] | z h y → E[unit] | y ⇐ v | z h •
@@ -121,7 +106,7 @@ effect-of s m (HandleBind handle future) =
       gained = 0;
       lost = 1;
       new = [];
-      changed = named handle handle-used ∷ named future (thread-holding (argument-bytes s m)) ∷ [];
+      changed = named handle (handle-used no-owner) ∷ named future (thread-holding no-owner (argument-bytes s m)) ∷ [];
     }
 -- CELL.NEW: E[cell v] → (νy)(E[y] | y c v)
 effect-of s m CellNew =
@@ -129,7 +114,7 @@ effect-of s m CellNew =
       redex = name-bytes (names s);
       gained = 0;
       lost = 1;
-      new = cell-holding (argument-bytes s m) ∷ [];
+      new = cell-holding no-owner (argument-bytes s m) ∷ [];
       changed = [];
     }
 -- CELL.EXCH: E[exch y v₁] | y c v₂ → E[v₂] | y c v₁
@@ -139,5 +124,5 @@ effect-of s m (CellExch cell from to) =
       gained = 0;
       lost = 4;
       new = [];
-      changed = named cell (cell-holding (argument-bytes s m)) ∷ [];
+      changed = named cell (cell-holding no-owner (argument-bytes s m)) ∷ [];
     }

@@ -5,10 +5,12 @@ use Prim.Native.Nat.{ℕ, _+_, _-_}
 use lib.Dec.{eqb}
 use lib.ListN.{length}
 use Rattle.calculus.specs.Lists.{tabulate}
+use Rattle.calculus.specs.Kinds.{no-owner}
 use Rattle.image_layout.specs.Encoded.{Encoded, image-bytes}
 use Rattle.image_layout.specs.Slice.{names, offset-at, length-at, encoded-at}
+use Rattle.image.specs.Configuration.{thread-holding}
 use Rattle.step_rules.specs.declared.Step.{Step}
-use Rattle.step_rules.specs.Effects.{bytes-between, thread-holding, Named, named, Effect, effect-of}
+use Rattle.step_rules.specs.Effects.{bytes-between, Named, named, Effect, effect-of}
 
 -- what a step makes of the image s
 abbrev pub effect : List ℕ → Step → Effect
@@ -37,7 +39,7 @@ other-after s step k = look-up (effect s step .changed) k (look-up (from-name (n
 
 -- the component of name k after the step
 unfoldable pub component-after : List ℕ → Step → ℕ → Encoded
-component-after s step k = cond (eqb k (step .thread)) (thread-holding (expression-after s step)) (other-after s step k)
+component-after s step k = cond (eqb k (step .thread)) (thread-holding no-owner (expression-after s step)) (other-after s step k)
 
 -- the names after the step
 unfoldable pub names-after : List ℕ → Step → ℕ

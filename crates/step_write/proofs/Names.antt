@@ -7,7 +7,7 @@ use native.Mathlib.Omega.{arith}
 use borrow.Author.Tests.{eq-eqb, eqb-false, ne-eqb}
 use lib.Dec.{eqb}
 use lib.ListN.{length}
-use Rattle.calculus.specs.Kinds.{thread-kind, cell-kind, open-handle-kind, used-handle-kind, future-kind}
+use Rattle.calculus.specs.Kinds.{thread-kind, cell-kind, open-handle-kind, used-handle-kind, future-kind, no-owner}
 use Rattle.image_layout.specs.Encoded.{Encoded}
 use Rattle.image_layout.specs.Slice.{names, encoded-at}
 use Rattle.step_rules.specs.declared.Move.{Move}
@@ -65,10 +65,10 @@ module _ (s : List ℕ) (step : Step) (k : ℕ) where
     by-deref e = becomes e (it-stays (omega (arith, below e)))
 
     pub by-bind : (handle future : ℕ) {r r₂ : Change} → step .by ≡ HandleBind handle future
-        → r₂ ≡ cond (eqb k future) (Holds thread-kind) Kept → r ≡ cond (eqb k handle) (Bare used-handle-kind 0) r₂ → Result r
+        → r₂ ≡ cond (eqb k future) (Holds thread-kind) Kept → r ≡ cond (eqb k handle) (Bare used-handle-kind no-owner) r₂ → Result r
     unfolding effect-of look-up from-name changed
     by-bind handle future e p q =
-        becomes e (chosen handle (Bare used-handle-kind 0) q tt λ _. chosen future (Holds thread-kind) p tt λ _. it-stays (omega (arith, below e)))
+        becomes e (chosen handle (Bare used-handle-kind no-owner) q tt λ _. chosen future (Holds thread-kind) p tt λ _. it-stays (omega (arith, below e)))
 
     pub by-exchange : (cell : ℕ) {from to : ℕ} {r : Change} → step .by ≡ CellExch cell from to → r ≡ cond (eqb k cell) (Holds cell-kind) Kept → Result r
     unfolding effect-of look-up from-name changed
@@ -80,10 +80,10 @@ module _ (s : List ℕ) (step : Step) (k : ℕ) where
       unfolding effect-of look-up from-name changed
       by-thread e q = becomes e (chosen (names s) Starts (rw m-is at q) (omega (arith, names-by w e)) λ n. it-stays (omega (arith, below e, n)))
 
-      pub by-handle : {r r₂ : Change} → step .by ≡ HandleNew → r₂ ≡ cond (eqb k (m + 1)) (Bare open-handle-kind m) Kept → r ≡ cond (eqb k m) (Bare future-kind 0) r₂ → Result r
+      pub by-handle : {r r₂ : Change} → step .by ≡ HandleNew → r₂ ≡ cond (eqb k (m + 1)) (Bare open-handle-kind m) Kept → r ≡ cond (eqb k m) (Bare future-kind no-owner) r₂ → Result r
       unfolding effect-of look-up from-name changed
       by-handle e p q =
-          becomes e (chosen (names s) (Bare future-kind 0) (rw m-is at q) tt λ n.
+          becomes e (chosen (names s) (Bare future-kind no-owner) (rw m-is at q) tt λ n.
           chosen (names s + 1) (Bare open-handle-kind (names s)) (rw m-is at p) tt λ o. it-stays (omega (arith, below e, n, o)))
 
       pub by-cell : {r : Change} → step .by ≡ CellNew → r ≡ cond (eqb k m) (Holds cell-kind) Kept → Result r

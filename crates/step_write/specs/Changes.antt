@@ -3,10 +3,12 @@ use mathlib.Core.Path.{_≡_}
 use mathlib.Core.List.{List, []}
 use Prim.Native.Nat.{ℕ, _<_}
 use Rattle.calculus.specs.Limits.{byte-values}
+use Rattle.calculus.specs.Kinds.{no-owner}
 use Rattle.image_layout.specs.Encoded.{Encoded}
 use Rattle.image_layout.specs.Slice.{names, encoded-at}
+use Rattle.image.specs.Configuration.{thread-holding}
 use Rattle.step_rules.specs.declared.Step.{Step}
-use Rattle.step_rules.specs.Effects.{thread-holding, argument-bytes, started-bytes}
+use Rattle.step_rules.specs.Effects.{argument-bytes, started-bytes}
 use Rattle.step_rules.specs.Moves.{expression-after}
 use Rattle.step_write.specs.declared.Change.{Change}
 use Rattle.step_write.specs.declared.Change.the-variants.{Kept, Goes, Starts, Holds, Bare}
@@ -14,9 +16,9 @@ use Rattle.step_write.specs.declared.Change.the-variants.{Kept, Goes, St
 -- the component that a change of name k makes
 unfoldable pub changed : List ℕ → Step → ℕ → Change → Encoded
 changed s step k Kept = encoded-at s k
-changed s step k Goes = thread-holding (expression-after s step)
-changed s step k Starts = thread-holding (started-bytes s (step .meeting))
-changed s step k (Holds kind) = record { kind = kind; companion = 0; expression = argument-bytes s (step .meeting) }
+changed s step k Goes = thread-holding no-owner (expression-after s step)
+changed s step k Starts = thread-holding no-owner (started-bytes s (step .meeting))
+changed s step k (Holds kind) = record { kind = kind; companion = no-owner; expression = argument-bytes s (step .meeting) }
 changed s step k (Bare kind companion) = record { kind = kind; companion = companion; expression = [] }
 
 -- what is known by a change: a name that stays was there before, and the name of a new thread has a byte

@@ -26,6 +26,7 @@ ghost use Prim.Native.Nat.{_+_, _-_, _<_, _≤_};
 ghost use lib.ListN.{length};
 ghost use Rattle.calculus.specs.Bytes.{two-byte-values};
 ghost use Rattle.calculus.specs.Limits.{byte-values, first-head};
+ghost use Rattle.calculus.specs.Kinds.{no-owner};
 ghost use Rattle.calculus.specs.Lists.{tabulate};
 ghost use Rattle.buffer.specs.Written.{Wrote};
 ghost use Rattle.image_layout.specs.Encoded.{heads, head-offset, expressions};
@@ -67,6 +68,7 @@ fn change_of(image: &[u8], step: Step, k: usize) -> Change
         return Change::Goes;
     }
     let names = names_of(image);
+    let owner = Image::NO_OWNER;
     let kept = Change::Kept;
     let by = step.by;
     match by {
@@ -74,16 +76,17 @@ fn change_of(image: &[u8], step: Step, k: usize) -> Change
         Move::ThreadNew => when(k == names, Change::Starts, kept),
         Move::FutureDeref(_, _) => kept,
         Move::HandleNew => {
+            let future = names as u8;
             let handle = when(
                 k == names + 1,
-                Change::Bare(Image::OPEN_HANDLE, names as u8),
+                Change::Bare(Image::OPEN_HANDLE, future),
                 kept,
             );
-            when(k == names, Change::Bare(Image::FUTURE, 0), handle)
+            when(k == names, Change::Bare(Image::FUTURE, owner), handle)
         }
         Move::HandleBind(handle, future) => {
             let bound = when(k == future, Change::Holds(Image::THREAD), kept);
-            when(k == handle, Change::Bare(Image::USED_HANDLE, 0), bound)
+            when(k == handle, Change::Bare(Image::USED_HANDLE, owner), bound)
         }
         Move::CellNew => when(k == names, Change::Holds(Image::CELL), kept),
         Move::CellExch(cell, _, _) => when(k == cell, Change::Holds(Image::CELL), kept),
@@ -130,20 +133,20 @@ fn bare(kind: u8, companion: u8) -> Head
     ensures { λ r. ⌜ (r .kind ≡ kind) × ((r .companion ≡ companion) × (r .size ≡ 0)) ⌝ }
 {
     Head {
-        kind: kind,
-        companion: companion,
+        kind,
+        companion,
         size: 0,
     }
 }
 
 // The head of a name with an expression of so many bytes.
 fn holding(kind: u8, size: usize) -> Head
-    ensures { λ r. ⌜ (r .kind ≡ kind) × ((r .companion ≡ 0) × (r .size ≡ size)) ⌝ }
+    ensures { λ r. ⌜ (r .kind ≡ kind) × ((r .companion ≡ no-owner) × (r .size ≡ size)) ⌝ }
 {
     Head {
-        kind: kind,
-        companion: 0,
-        size: size,
+        kind,
+        companion: Image::NO_OWNER,
+        size,
     }
 }
 

@@ -8,6 +8,7 @@ use lib.Dec.{eqb}
 use lib.ListN.{drop, length, length-drop, take}
 use lib.Seq.{drop-drop, take-at}
 use Rattle.calculus.specs.Lists.{tabulate}
+use Rattle.calculus.specs.Kinds.{no-owner}
 use Rattle.calculus.specs.Syntax.{Exp, lam, app, Value, thread-of, Config}
 use Rattle.calculus.specs.Reduction.{Context, plug}
 use Rattle.calculus.specs.Image.{size}
@@ -17,13 +18,13 @@ use Rattle.term.proofs.Sizes.{length-bytes}
 use Rattle.term.proofs.Trees.{fits-lam}
 use Rattle.image_layout.specs.Encoded.{Encoded}
 use Rattle.image_layout.specs.Slice.{names, offset-at, length-at, encoded-at, encoded-all}
-use Rattle.image.specs.Configuration.{encode, config-of}
+use Rattle.image.specs.Configuration.{thread-holding, encode, config-of}
 use Rattle.image.specs.Theory.Exactly.{written-back}
 use Rattle.term_redex.specs.declared.Meeting.{Meeting}
 use Rattle.term_redex.specs.Contexts.{back, front}
 use Rattle.term_redex.proofs.Contexts.{plug-bytes}
 use Rattle.step_rules.specs.declared.Move.{Move}
-use Rattle.step_rules.specs.Effects.{bytes-between, thread-holding, argument-bytes, effect-of}
+use Rattle.step_rules.specs.Effects.{bytes-between, argument-bytes, effect-of}
 use Rattle.step_rules.specs.Moves.{expression-after, other-after, component-after, names-after, components-after}
 use Rattle.step_rules.specs.Meets.{step-at, MeetsAt}
 use Rattle.step_rules.specs.Theory.Changes.{Table}
@@ -76,6 +77,6 @@ module _ {s : List ℕ} {x : ℕ} {m : Meeting} {F : Context} {f : Exp} {w : Val
   components-are by r e C n g t k h =
       let step = step-at x m by in
       let p = expression-is by r e in
-      sym (tabulate-same (names-after s step) g (component-after s step) (λ i l. h i ∙ ap (λ b. cond (eqb i x) (thread-holding b) (other-after s step i)) (sym p)))
+      sym (tabulate-same (names-after s step) g (component-after s step) (λ i l. h i ∙ ap (λ b. cond (eqb i x) (thread-holding no-owner b) (other-after s step i)) (sym p)))
       ∙ ap (λ j. tabulate j g) (sym k)
       ∙ sym (t .is)

@@ -11,6 +11,7 @@ use Rattle.image.specs.Theory.Lengths.{length-config}
 use Rattle.calculus.specs.Theory.Configurations.{sum-append, sum-set, sum-part}
 use Rattle.calculus.specs.Syntax.{unit, op, cell, exch, thread, handle, Exp, name, const, app, Value, is-name, is-const, is-lam, is-exch, Component, thread-of, holds, open-for, used, awaited, Config, at, sum-in, sum-all}
 use Rattle.calculus.specs.Reduction.{substitute, Context, plug, put, HANDLE-NEW}
+use Rattle.calculus.specs.Kinds.{no-owner}
 use Rattle.calculus.specs.Names.{count}
 use Rattle.calculus.specs.Step.{rule, step-meeting, step-call, step-exchange, when-done}
 use Rattle.calculus.specs.Image.{nodes, nodes-all, size, const-size}
@@ -21,14 +22,14 @@ use Rattle.term.specs.Expressions.{bytes, const-bytes, op-tag, TermAt, term-at}
 use Rattle.term.proofs.Expressions.{found-at}
 use Rattle.image_layout.specs.Encoded.{Encoded, image-bytes}
 use Rattle.image_layout.specs.Slice.{names, offset-at, length-at, encoded-at}
-use Rattle.image.specs.Configuration.{encode, config-of, image-of}
+use Rattle.image.specs.Configuration.{thread-holding, cell-holding, encode, config-of, image-of}
 use Rattle.term_redex.specs.declared.Meeting.{Meeting}
 use Rattle.term_redex.proofs.Contexts.{plug-nodes}
 use Rattle.term_subst.specs.Theory.Outcome.{nodes-substitute}
 use Rattle.step_rules.specs.declared.Move.{Move}
 use Rattle.step_rules.specs.declared.Move.the-variants.{Beta, ThreadNew, HandleNew, HandleBind, CellNew}
 use Rattle.step_rules.specs.Positions.{name-length, to-body}
-use Rattle.step_rules.specs.Effects.{rule-of, bytes-between, thread-holding, cell-holding, argument-bytes, name-bytes, effect-of}
+use Rattle.step_rules.specs.Effects.{rule-of, bytes-between, argument-bytes, name-bytes, effect-of}
 use Rattle.step_rules.specs.Moves.{look-up, from-name, other-after, names-after, image-after, nodes-after}
 use Rattle.step_rules.specs.Stepped.{Counted, Copied, Has, Stepped}
 use Rattle.step_rules.specs.Meets.{step-at, dereferenced, exchanged, MeetsAt}
@@ -99,8 +100,8 @@ thread-moves {s} {x} {t} {m} {F} {v} M =
     let new = thread-of (app v (name (length C))) in
     let z : length C ≡ names s = new-name M in
     let e = name (length C) in
-    let c : encode new ≡ thread-holding (2 ∷ (argument-bytes s m ++ name-bytes (names s))) =
-    ap₂ (λ (p : List ℕ) (k : ℕ). thread-holding (2 ∷ (p ++ name-bytes k))) (sym (argument-is M)) z in
+    let c : encode new ≡ thread-holding no-owner (2 ∷ (argument-bytes s m ++ name-bytes (names s))) =
+    ap₂ (λ (p : List ℕ) (k : ℕ). thread-holding no-owner (2 ∷ (p ++ name-bytes k))) (sym (argument-is M)) z in
     stepped M ThreadNew e _ (names s + 1) _ refl
     (ap name-bytes (sym z))
     (table-more new (table-put M e)) (omega arith)
@@ -140,7 +141,7 @@ cell-moves {s} {x} {t} {m} {F} {v} M =
     (ap name-bytes (sym z))
     (table-more (holds v) (table-put M e)) (omega arith)
     (λ k. swap k x (names s) (thread-after M e) (encode (holds v)) (encoded-at s k) (not-new M (names s) (omega arith))
-    ∙ ap (λ p. cond (eqb k x) (thread-after M e) (cond (eqb k (names s)) (cell-holding p) (encoded-at s k))) (sym (argument-is M)))
+    ∙ ap (λ p. cond (eqb k x) (thread-after M e) (cond (eqb k (names s)) (cell-holding no-owner p) (encoded-at s k))) (sym (argument-is M)))
     (omega (arith, sum-append (sum-in nodes) (put C x F e) (holds v ∷ []), nodes-put M e))
     tt
 
@@ -215,7 +216,7 @@ bind-moves {s} {x} {z} {m} {F} {v} M y h =
     (λ k. let old = encoded-at s k in let u = encode used in let b = encode (thread-of v) in
     ap (λ r. cond (eqb k z) u r) (swap k x y (thread-after M e) b old xy)
     ∙ swap k x z (thread-after M e) u (cond (eqb k y) b old) xz
-    ∙ ap (λ p. cond (eqb k x) (thread-after M e) (cond (eqb k z) u (cond (eqb k y) (thread-holding p) old))) (sym (argument-is M)))
+    ∙ ap (λ p. cond (eqb k x) (thread-after M e) (cond (eqb k z) u (cond (eqb k y) (thread-holding no-owner p) old))) (sym (argument-is M)))
     (omega (arith, sum-set (sum-in nodes) C₂ z used h₂, sum-set (sum-in nodes) C₁ y (thread-of v) g₁, nodes-put M e))
     tt
 
@@ -232,6 +233,6 @@ exchange-moves {s} {x} {y} {t} {m} {F} {v} M e h =
     (rw h refl) (copied-is M y q)
     (table-set y (holds v) (table-put M e)) (omega arith)
     (λ k. swap k x y (thread-after M e) (encode (holds v)) (encoded-at s k) xy
-    ∙ ap (λ p. cond (eqb k x) (thread-after M e) (cond (eqb k y) (cell-holding p) (encoded-at s k))) (sym (argument-is M)))
+    ∙ ap (λ p. cond (eqb k x) (thread-after M e) (cond (eqb k y) (cell-holding no-owner p) (encoded-at s k))) (sym (argument-is M)))
     (omega (arith, sum-set (sum-in nodes) (put C x F e) y (holds v) h₁, nodes-put M e))
     (copied M q)

@@ -11,9 +11,9 @@ use Rattle.step_write.proofs.change_of.Tie as tie
 abbrev start : tie.After-names-of → tie.Start
 start n = n .before .before .before .before
 
-cast-t18 : tie.Need-cast-t18
+cast-future : tie.Need-cast-future
 unfolding effect-of
-cast-t18 c = let n = c .before .before in omega (arith, names-by (start n .pre .0) (c .enum-told4 .given .1), n .names-of .ensures .0)
+cast-future c = let n = c .before .before in omega (arith, names-by (start n .pre .0) (c .enum-told4 .given .1), n .names-of .ensures .0)
 
 returns : tie.Need-returns
 returns c = it-goes _ _ _ (c .if1 .taken)
@@ -63,8 +63,8 @@ change-of-spec =
     (λ c κs. search needs)
     (λ c. search needs)
     (λ c. search needs)
+    cast-future
     (λ c. search needs)
-    cast-t18
     (λ c κs. search needs)
     (λ c κs. search needs)
     (λ c. search needs)
