@@ -116,12 +116,13 @@ each-test test k (c ∷ C) = test k c && each-test test (suc k) C
 abbrev pub within-limits : ℕ → ℕ → Bool
 within-limits names nodes = ltb names (suc max-names) && ltb nodes (suc max-nodes)
 
-unfoldable pub limits-test : Config → Bool
-limits-test C = within-limits (length C) (nodes-all C)
-
 -- cause 13 does not fit
 unfoldable pub image-test : Config → Bool
-image-test C = each-test (component-test C) 0 C && limits-test C
+image-test C = each-test (component-test C) 0 C && within-limits (length C) (nodes-all C)
+
+-- the limits of a configuration, as one test
+unfoldable pub limits-test : Config → Bool
+limits-test C = within-limits (length C) (nodes-all C)
 
 -- what the node forms can write: "index byte", "type number" in one byte, a num's "two-byte value". Of names `ImageRule` says it.
 abbrev pub WritableConst : Const → Type 0

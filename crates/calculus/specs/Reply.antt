@@ -16,8 +16,7 @@ pub data Reply : Type 0 where
   finished : Reply
   refuses : ℕ → Reply
 
--- causes 14 to 17. 15: "a rule applies, outcome above 256 names or 4,096 nodes" (`within-limits`); `limit` says of a number of names and one of nodes that they are
--- within
+-- causes 14 to 17. 15: "a rule applies, outcome above 256 names or 4,096 nodes", by a test of two counts (`within-limits`)
 unfoldable pub reply-of : (ℕ → ℕ → Bool) → Answer → Reply
 reply-of limit (rule r C′) = cond (limit (length C′) (nodes-all C′)) (moved (number r) C′) (refuses room-cause)
 reply-of limit (waiting y) = waits y

@@ -8,29 +8,13 @@ use Rattle.calculus.specs.Kinds.{thread-kind, cell-kind, open-handle-kind, used
 use Rattle.image_layout.specs.Encoded.{Encoded, image-bytes}
 use Rattle.image_layout.specs.Slice.{encoded-all}
 
--- "Kinds: 1 thread (its expression), 2 cell (its value), 3 open handle (companion is its future's number), 4 used handle, 5 future not yet bound". The companion of
--- every kind but 3 is the owner.
-abbrev pub thread-holding : ℕ → List ℕ → Encoded
-thread-holding owner e = record { kind = thread-kind; companion = owner; expression = e }
-
-abbrev pub cell-holding : ℕ → List ℕ → Encoded
-cell-holding owner v = record { kind = cell-kind; companion = owner; expression = v }
-
-abbrev pub handle-open : ℕ → ℕ → Encoded
-handle-open owner future = record { kind = open-handle-kind; companion = future; expression = [] }
-
-abbrev pub handle-used : ℕ → Encoded
-handle-used owner = record { kind = used-handle-kind; companion = owner; expression = [] }
-
-abbrev pub future-awaited : ℕ → Encoded
-future-awaited owner = record { kind = future-kind; companion = owner; expression = [] }
-
+-- "Kinds: 1 thread (its expression), 2 cell (its value), 3 open handle (companion is its future's number), 4 used handle, 5 future not yet bound"
 unfoldable pub encode : Component → Encoded
-encode (thread-of e) = thread-holding no-owner (bytes e)
-encode (holds v) = cell-holding no-owner (bytes v)
-encode (open-for y) = handle-open no-owner y
-encode used = handle-used no-owner
-encode awaited = future-awaited no-owner
+encode (thread-of e) = record { kind = thread-kind; companion = no-owner; expression = bytes e }
+encode (holds v) = record { kind = cell-kind; companion = no-owner; expression = bytes v }
+encode (open-for y) = record { kind = open-handle-kind; companion = y; expression = [] }
+encode used = record { kind = used-handle-kind; companion = no-owner; expression = [] }
+encode awaited = record { kind = future-kind; companion = no-owner; expression = [] }
 
 -- the image of a configuration
 unfoldable pub image-of : Config → List ℕ

@@ -8,7 +8,7 @@ use Rattle.recipe_file.specs.File.{bays, term-bytes}
 use Rattle.calculus.specs.Kinds.{no-owner}
 use Rattle.term.specs.Forms.{num-tag}
 use Rattle.image_layout.specs.Encoded.{Encoded}
-use Rattle.image.specs.Configuration.{thread-holding, cell-holding}
+use Rattle.image.specs.Owned.{thread-holding, cell-holding}
 
 -- the starting image name by name (Theory.Image, `starting-tabulated`): a setting, "a cell of num, starting at 0"
 abbrev pub setting : Encoded

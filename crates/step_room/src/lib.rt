@@ -51,6 +51,7 @@ fn without(all: usize, gone: usize) -> usize
     all - gone
 }
 
+// These counts.
 fn counted(new: usize, gained: usize, lost: usize) -> Count
     ensures { λ r. ⌜ (r .new ≡ new) × ((r .gained ≡ gained) × (r .lost ≡ lost)) ⌝ }
 {

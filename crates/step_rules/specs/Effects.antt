@@ -1,4 +1,4 @@
--- Fig. 5 in bytes, rule by rule: what a move makes of an image.
+-- Fig. 5 in bytes, a clause for each rule.
 use mathlib.Core.List.{List, [], _∷_, _++_}
 use Prim.Native.Nat.{ℕ, _+_, _-_, _*_}
 use lib.ListN.{drop, take}
@@ -11,7 +11,7 @@ use Rattle.term.specs.Forms.{application-tag, unit-tag, name-tag}
 use Rattle.term_redex.specs.declared.Meeting.{Meeting}
 use Rattle.image_layout.specs.Encoded.{Encoded}
 use Rattle.image_layout.specs.Slice.{names}
-use Rattle.image.specs.Configuration.{thread-holding, cell-holding, handle-open, handle-used, future-awaited}
+use Rattle.image.specs.Owned.{thread-holding, cell-holding, handle-open, handle-used, future-awaited}
 use Rattle.step_rules.specs.declared.Move.{Move}
 use Rattle.step_rules.specs.declared.Move.the-variants.{Beta, ThreadNew, FutureDeref, HandleNew, HandleBind, CellNew, CellExch}
 use Rattle.step_rules.specs.Positions.{name-length, to-body}
@@ -50,6 +50,7 @@ pub record Named : Type 0 where
 abbrev pub named : ℕ → Encoded → Named
 named k c = record { name = k; component = c }
 
+-- what a move makes of an image
 pub record Effect : Type 0 where
   -- what stands in place of the application
   pub redex : List ℕ

@@ -8,7 +8,7 @@ use Rattle.calculus.specs.Lists.{tabulate}
 use Rattle.calculus.specs.Kinds.{no-owner}
 use Rattle.image_layout.specs.Encoded.{Encoded, image-bytes}
 use Rattle.image_layout.specs.Slice.{names, offset-at, length-at, encoded-at}
-use Rattle.image.specs.Configuration.{thread-holding}
+use Rattle.image.specs.Owned.{thread-holding}
 use Rattle.step_rules.specs.declared.Step.{Step}
 use Rattle.step_rules.specs.Effects.{bytes-between, Named, named, Effect, effect-of}
 

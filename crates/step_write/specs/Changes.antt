@@ -6,7 +6,7 @@ use Rattle.calculus.specs.Limits.{byte-values}
 use Rattle.calculus.specs.Kinds.{no-owner}
 use Rattle.image_layout.specs.Encoded.{Encoded}
 use Rattle.image_layout.specs.Slice.{names, encoded-at}
-use Rattle.image.specs.Configuration.{thread-holding}
+use Rattle.image.specs.Owned.{thread-holding}
 use Rattle.step_rules.specs.declared.Step.{Step}
 use Rattle.step_rules.specs.Effects.{argument-bytes, started-bytes}
 use Rattle.step_rules.specs.Moves.{expression-after}

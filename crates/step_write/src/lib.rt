@@ -26,7 +26,6 @@ ghost use Prim.Native.Nat.{_+_, _-_, _<_, _≤_};
 ghost use lib.ListN.{length};
 ghost use Rattle.calculus.specs.Bytes.{two-byte-values};
 ghost use Rattle.calculus.specs.Limits.{byte-values, first-head};
-ghost use Rattle.calculus.specs.Kinds.{no-owner};
 ghost use Rattle.calculus.specs.Lists.{tabulate};
 ghost use Rattle.buffer.specs.Written.{Wrote};
 ghost use Rattle.image_layout.specs.Encoded.{heads, head-offset, expressions};
@@ -140,12 +139,12 @@ fn bare(kind: u8, companion: u8) -> Head
 }
 
 // The head of a name with an expression of so many bytes.
-fn holding(kind: u8, size: usize) -> Head
-    ensures { λ r. ⌜ (r .kind ≡ kind) × ((r .companion ≡ no-owner) × (r .size ≡ size)) ⌝ }
+fn holding(kind: u8, owner: u8, size: usize) -> Head
+    ensures { λ r. ⌜ (r .kind ≡ kind) × ((r .companion ≡ owner) × (r .size ≡ size)) ⌝ }
 {
     Head {
         kind,
-        companion: Image::NO_OWNER,
+        companion: owner,
         size,
     }
 }
@@ -155,6 +154,7 @@ fn head_after(image: &[u8], step: Step, k: usize) -> Head
     requires { ⌜ CanWrite (now image) step × (k < names-after (now image) step) ⌝ }
     ensures { λ r. ⌜ Says r (component-after (now (image .entry)) step k) ⌝ }
 {
+    let owner = Image::NO_OWNER;
     let change = change_of(image, step, k);
     match change {
         Change::Kept => Head {
@@ -162,9 +162,9 @@ fn head_after(image: &[u8], step: Step, k: usize) -> Head
             companion: companion_at(image, k),
             size: length_at(image, k),
         },
-        Change::Goes => holding(Image::THREAD, thread_size(image, step)),
-        Change::Starts => holding(Image::THREAD, started_size(step.meeting)),
-        Change::Holds(kind) => holding(kind, argument_size(step.meeting)),
+        Change::Goes => holding(Image::THREAD, owner, thread_size(image, step)),
+        Change::Starts => holding(Image::THREAD, owner, started_size(step.meeting)),
+        Change::Holds(kind) => holding(kind, owner, argument_size(step.meeting)),
         Change::Bare(kind, companion) => bare(kind, companion),
     }
 }

@@ -18,7 +18,8 @@ use Rattle.term.proofs.Sizes.{length-bytes}
 use Rattle.term.proofs.Trees.{fits-lam}
 use Rattle.image_layout.specs.Encoded.{Encoded}
 use Rattle.image_layout.specs.Slice.{names, offset-at, length-at, encoded-at, encoded-all}
-use Rattle.image.specs.Configuration.{thread-holding, encode, config-of}
+use Rattle.image.specs.Configuration.{encode, config-of}
+use Rattle.image.specs.Owned.{thread-holding}
 use Rattle.image.specs.Theory.Exactly.{written-back}
 use Rattle.term_redex.specs.declared.Meeting.{Meeting}
 use Rattle.term_redex.specs.Contexts.{back, front}

@@ -22,7 +22,8 @@ use Rattle.term.specs.Expressions.{bytes, const-bytes, op-tag, TermAt, term-at}
 use Rattle.term.proofs.Expressions.{found-at}
 use Rattle.image_layout.specs.Encoded.{Encoded, image-bytes}
 use Rattle.image_layout.specs.Slice.{names, offset-at, length-at, encoded-at}
-use Rattle.image.specs.Configuration.{thread-holding, cell-holding, encode, config-of, image-of}
+use Rattle.image.specs.Configuration.{encode, config-of, image-of}
+use Rattle.image.specs.Owned.{thread-holding, cell-holding}
 use Rattle.term_redex.specs.declared.Meeting.{Meeting}
 use Rattle.term_redex.proofs.Contexts.{plug-nodes}
 use Rattle.term_subst.specs.Theory.Outcome.{nodes-substitute}
