@@ -112,12 +112,17 @@ unfoldable pub each-test : (ℕ → Component → Bool) → ℕ → Config → B
 each-test test k [] = true
 each-test test k (c ∷ C) = test k c && each-test test (suc k) C
 
-unfoldable pub limits-test : Config → Bool
-limits-test C = ltb (length C) (suc max-names) && ltb (nodes-all C) (suc max-nodes)
+-- "At most 256 names and 4,096 nodes in all", of two counts
+abbrev pub within-limits : ℕ → ℕ → Bool
+within-limits names nodes = ltb names (suc max-names) && ltb nodes (suc max-nodes)
 
 -- cause 13 does not fit
 unfoldable pub image-test : Config → Bool
-image-test C = each-test (component-test C) 0 C && limits-test C
+image-test C = each-test (component-test C) 0 C && within-limits (length C) (nodes-all C)
+
+-- the limits of a configuration, as one test
+unfoldable pub limits-test : Config → Bool
+limits-test C = within-limits (length C) (nodes-all C)
 
 -- what the node forms can write: "index byte", "type number" in one byte, a num's "two-byte value". Of names `ImageRule` says it.
 abbrev pub WritableConst : Const → Type 0

@@ -1,11 +1,12 @@
--- Document 01, "A step": what a step answers, with document 01's numbers, the limits of an image among them.
-use mathlib.Core.Bool.{cond}
+-- Document 01, "A step": what a step answers, with document 01's numbers, a limit of names and nodes among them.
+use mathlib.Core.Bool.{Bool, cond}
 use Prim.Native.Nat.{ℕ}
+use lib.ListN.{length}
 use Rattle.calculus.specs.Syntax.{Config}
 use Rattle.calculus.specs.Reduction.{number}
 use Rattle.calculus.specs.Step.{Answer, rule, waiting, done, no-thread, used-handle, wrong-kind}
 use Rattle.calculus.specs.Causes.{no-thread-cause, room-cause, used-handle-cause, wrong-kind-cause}
-use Rattle.calculus.specs.Image.{limits-test}
+use Rattle.calculus.specs.Image.{nodes-all}
 
 -- what a step answers, with document 01's numbers: a rule's number and the new image (its length is
 -- `image-length`), waiting with a name, done, a cause's number
@@ -15,11 +16,11 @@ pub data Reply : Type 0 where
   finished : Reply
   refuses : ℕ → Reply
 
--- causes 14 to 17. 15: "a rule applies, outcome above 256 names or 4,096 nodes"
-unfoldable pub reply-of : Answer → Reply
-reply-of (rule r C′) = cond (limits-test C′) (moved (number r) C′) (refuses room-cause)
-reply-of (waiting y) = waits y
-reply-of done = finished
-reply-of no-thread = refuses no-thread-cause
-reply-of used-handle = refuses used-handle-cause
-reply-of wrong-kind = refuses wrong-kind-cause
+-- causes 14 to 17. 15: "a rule applies, outcome above 256 names or 4,096 nodes", by a test of two counts (`within-limits`)
+unfoldable pub reply-of : (ℕ → ℕ → Bool) → Answer → Reply
+reply-of limit (rule r C′) = cond (limit (length C′) (nodes-all C′)) (moved (number r) C′) (refuses room-cause)
+reply-of limit (waiting y) = waits y
+reply-of limit done = finished
+reply-of limit no-thread = refuses no-thread-cause
+reply-of limit used-handle = refuses used-handle-cause
+reply-of limit wrong-kind = refuses wrong-kind-cause

@@ -10,7 +10,7 @@ use Rattle.calculus.specs.Syntax.{Config}
 use Rattle.calculus.specs.Reduction.{number}
 use Rattle.calculus.specs.Step.{Answer, rule, waiting, done, no-thread, used-handle, wrong-kind, step-of, Unready, not-done, not-bound}
 use Rattle.calculus.specs.Limits.{max-image-length, max-names}
-use Rattle.calculus.specs.Image.{image-test, limits-test}
+use Rattle.calculus.specs.Image.{image-test, limits-test, within-limits}
 use Rattle.calculus.specs.Reply.{Reply, moved, waits, finished, refuses, reply-of}
 use Rattle.calculus.specs.Theory.Tests.{and-parts, clash}
 use Rattle.calculus.specs.Theory.Lists.{at-bound}
@@ -42,8 +42,8 @@ waits-for (waits y) e = cc
 waits-for finished e = absurd (clash (cc))
 waits-for (refuses n) e = absurd (clash (cc))
 
-replies-waiting : (a : Answer) {y : ℕ} → reply-of a ≡ waits y → a ≡ waiting y
-unfolding reply-of
+replies-waiting : (a : Answer) {y : ℕ} → reply-of within-limits a ≡ waits y → a ≡ waiting y
+unfolding reply-of limits-test
 replies-waiting (rule r C) {y} e = absurd (go (limits-test C) (moved (number r) C) (λ p. clash (cc)) e)
   where
     go : (t : Bool) (q : Reply) → ¬ (q ≡ waits y) → cond t q (refuses room-cause) ≡ waits y → ⊥
@@ -59,7 +59,7 @@ pub waiting-small : (s : List ℕ) (x : ℕ) (out : List ℕ) → NameSmall (out
 unfolding outcome-of step-reply
 waiting-small s x out = record { small = λ y e. go (ltb (length out) max-image-length) (image-stands s) refl (waits-for (step-reply s x (length out)) e) }
   where
-    go : {y : ℕ} (b t : Bool) → image-stands s ≡ t → cond b (refuses buffer-cause) (cond t (reply-of (step-of (config-of s) x)) (refuses image-cause)) ≡ waits y → y < max-names
+    go : {y : ℕ} (b t : Bool) → image-stands s ≡ t → cond b (refuses buffer-cause) (cond t (reply-of within-limits (step-of (config-of s) x)) (refuses image-cause)) ≡ waits y → y < max-names
     go true t p e = absurd (clash (cc))
     go false false p e = absurd (clash (cc))
     go {y} false true p e =

@@ -4,17 +4,17 @@ use Prim.Native.Nat.{ℕ}
 use lib.ListN.{getD}
 use Rattle.calculus.specs.Syntax.{Component, thread-of, holds, open-for, used, awaited, Config}
 use Rattle.term.specs.Expressions.{bytes, term-of}
-use Rattle.calculus.specs.Kinds.{thread-kind, cell-kind, open-handle-kind, used-handle-kind, future-kind}
+use Rattle.calculus.specs.Kinds.{thread-kind, cell-kind, open-handle-kind, used-handle-kind, future-kind, no-owner}
 use Rattle.image_layout.specs.Encoded.{Encoded, image-bytes}
 use Rattle.image_layout.specs.Slice.{encoded-all}
 
 -- "Kinds: 1 thread (its expression), 2 cell (its value), 3 open handle (companion is its future's number), 4 used handle, 5 future not yet bound"
 unfoldable pub encode : Component → Encoded
-encode (thread-of e) = record { kind = thread-kind; companion = 0; expression = bytes e }
-encode (holds v) = record { kind = cell-kind; companion = 0; expression = bytes v }
+encode (thread-of e) = record { kind = thread-kind; companion = no-owner; expression = bytes e }
+encode (holds v) = record { kind = cell-kind; companion = no-owner; expression = bytes v }
 encode (open-for y) = record { kind = open-handle-kind; companion = y; expression = [] }
-encode used = record { kind = used-handle-kind; companion = 0; expression = [] }
-encode awaited = record { kind = future-kind; companion = 0; expression = [] }
+encode used = record { kind = used-handle-kind; companion = no-owner; expression = [] }
+encode awaited = record { kind = future-kind; companion = no-owner; expression = [] }
 
 -- the image of a configuration
 unfoldable pub image-of : Config → List ℕ

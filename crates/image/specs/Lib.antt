@@ -2,6 +2,8 @@
 
 -- the bytes of a configuration, and the configuration that bytes say
 pub mod Configuration
+-- components in bytes, by kind and owner
+pub mod Owned
 -- refusal 13, of any slice
 pub mod Stands
 pub mod Theory

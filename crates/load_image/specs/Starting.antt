@@ -5,9 +5,10 @@ use mathlib.Core.List.{List, [], _∷_}
 use Prim.Native.Nat.{ℕ, _+_, _-_}
 use lib.Dec.{ltb}
 use Rattle.recipe_file.specs.File.{edition-of, bays, term-bytes}
-use Rattle.calculus.specs.Kinds.{thread-kind, cell-kind}
+use Rattle.calculus.specs.Kinds.{no-owner}
 use Rattle.term.specs.Forms.{num-tag}
 use Rattle.image_layout.specs.Encoded.{Encoded}
+use Rattle.image.specs.Owned.{thread-holding, cell-holding}
 
 -- the part of the first bay's term
 abbrev pub first-term : List ℕ → ℕ
@@ -15,7 +16,7 @@ first-term s = edition-of s .terms
 
 -- the starting image name by name (Theory.Image, `starting-tabulated`): a setting, "a cell of num, starting at 0"
 abbrev pub setting : Encoded
-setting = record { kind = cell-kind; companion = 0; expression = num-tag ∷ 0 ∷ 0 ∷ [] }
+setting = cell-holding no-owner (num-tag ∷ 0 ∷ 0 ∷ [])
 
 -- how many bytes it holds
 abbrev pub setting-length : ℕ
@@ -23,7 +24,7 @@ setting-length = 3
 
 -- a bay's thread, which holds the bytes of its part
 unfoldable pub bay-thread : List ℕ → ℕ → Encoded
-bay-thread s bay = record { kind = thread-kind; companion = 0; expression = term-bytes s bay }
+bay-thread s bay = thread-holding no-owner (term-bytes s bay)
 
 -- the component of name k
 unfoldable pub starting-at : List ℕ → ℕ → Encoded

@@ -47,13 +47,13 @@ fn head_of(recipe: &[u8], edition: Edition, k: usize) -> Head
     if k < bays {
         return Head {
             kind: Image::CELL,
-            companion: 0,
+            companion: Image::NO_OWNER,
             size: SETTING_LENGTH,
         };
     }
     Head {
         kind: Image::THREAD,
-        companion: 0,
+        companion: Image::NO_OWNER,
         size: term_bytes(recipe, edition, k - bays).len(),
     }
 }

@@ -2,6 +2,7 @@
 // functions below say.
 ghost use mathlib.Core.Path.{_≡_};
 ghost use Rattle.calculus.specs.Limits.{byte-values};
+ghost use Rattle.calculus.specs.Kinds.{no-owner};
 ghost use Rattle.numbers.specs.Tables.{recipe-limits, image-limits, type-kinds, type-entries, image-kinds, rules, causes};
 
 // A byte: how many values it has.
@@ -62,6 +63,9 @@ impl Image {
     pub const USED_HANDLE: u8 = 4;
 
     pub const FUTURE: u8 = 5;
+
+    // The companion of a name that is no open handle.
+    pub const NO_OWNER: u8 = 0;
 }
 
 // A type entry: its kinds, and the numbers of the first three entries.
@@ -188,6 +192,12 @@ pub fn image_kinds() -> [u8; 5]
         Image::USED_HANDLE,
         Image::FUTURE,
     ]
+}
+
+pub fn no_owner() -> u8
+    ensures { λ r. ⌜ r ≡ no-owner ⌝ }
+{
+    Image::NO_OWNER
 }
 
 pub fn type_kinds() -> [u8; 5]

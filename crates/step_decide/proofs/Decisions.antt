@@ -6,28 +6,24 @@ use Prim.Native.Nat.{ℕ, _+_}
 use Rattle.calculus.specs.Step.{place}
 use Rattle.calculus.specs.Image.{is-settled}
 use Rattle.calculus.specs.Causes.{used-handle-cause, wrong-kind-cause}
-use Rattle.calculus.specs.Reduction.{FUTURE-DEREF, HANDLE-BIND, CELL-EXCH, number}
 use Rattle.calculus.specs.Kinds.{thread-kind, cell-kind, open-handle-kind, used-handle-kind, future-kind}
 use Rattle.term.specs.Reader.{GoodAt}
 use Rattle.term.specs.Expressions.{term-at}
 use Rattle.image_layout.specs.Slice.{kind-at, companion-at, offset-at, length-at}
 use Rattle.term_redex.specs.declared.Meeting.{Meeting}
 use Rattle.step_rules.specs.declared.Move.{Move}
-use Rattle.step_rules.specs.Meets.{move-of}
+use Rattle.step_rules.specs.declared.Move.the-variants.{FutureDeref, HandleBind, CellExch}
+use Rattle.step_rules.specs.Meets.{step-at}
 use Rattle.step_rules.specs.Stepped.{Stepped}
+use Rattle.step_decide.specs.declared.Decision.{Decision}
 use Rattle.step_decide.specs.declared.Decision.the-variants.{Goes, Waits, Refuses}
 use Rattle.step_decide.specs.Decided.{Decided, goes, waits, refuses-used, refuses-wrong}
 use Rattle.step_decide.specs.Asked.{Calls, ExchangesName, Follows}
 use Rattle.step_decide.proofs.Needed.{call-thread, call-future, call-open, call-used, call-cell, exchange-thread, exchange-future, exchange-cell, exchange-handle}
-use Rattle.step_decide.proofs.Tags.{Plain}
 
--- a move that was made
-goes-as : {s : List ℕ} {x : ℕ} {move made : Move} → made ≡ move → Stepped s x move → Decided s x (Goes made)
-goes-as e h = rw e (goes h)
-
--- the part that was read of name y
-copying : (n x : ℕ) (m : Meeting) (y : ℕ) {from size from′ size′ : ℕ} → from ≡ from′ → size ≡ size′ → move-of n x m y from (from + size) 0 ≡ move-of n x m y from′ (from′ + size′) 0
-copying n x m y e k = ap₂ (λ (i j : ℕ). move-of n x m y i (i + j) 0) e k
+-- a thread goes by a move that was made
+pub goes-by : {s : List ℕ} {x : ℕ} {m : Meeting} {by made : Move} {d : Decision} → d ≡ Goes (step-at x m made) → made ≡ by → Stepped s x (step-at x m by) → Decided s x d
+goes-by e made h = rw (e, made) (goes h)
 
 module _ {s : List ℕ} {x : ℕ} {m : Meeting} {y from : ℕ} (d : Follows s x m y) (from-is : from ≡ offset-at s y) where
   pub follow-good : GoodAt s from
@@ -40,8 +36,8 @@ module _ {s : List ℕ} {x : ℕ} {m : Meeting} {y from : ℕ} (d : Follows s x 
     pub follow-waits : value ≡ false → Decided s x (Waits y)
     follow-waits v = waits (d .not-done (sym settled ∙ v))
 
-    pub follow-goes : {size : ℕ} {move : Move} → value ≡ true → size ≡ length-at s y → move ≡ move-of (number FUTURE-DEREF) x m y from (from + size) 0 → Decided s x (Goes move)
-    follow-goes v size-is made = goes-as (made ∙ copying (number FUTURE-DEREF) x m y from-is size-is) (d .done (sym settled ∙ v))
+    pub follow-goes : {size : ℕ} {r : Decision} → value ≡ true → size ≡ length-at s y → r ≡ Goes (step-at x m (FutureDeref from (from + size))) → Decided s x r
+    follow-goes v size-is e = goes-by e (ap₂ (λ (i j : ℕ). FutureDeref i (i + j)) from-is size-is) (d .done (sym settled ∙ v))
 
 module _ {s : List ℕ} {x : ℕ} {m : Meeting} {y kind : ℕ} (c : Calls s x m y) (kind-is : kind ≡ kind-at s y) where
   pub call-follows : kind ≡ thread-kind → Follows s x m y
@@ -50,8 +46,8 @@ module _ {s : List ℕ} {x : ℕ} {m : Meeting} {y kind : ℕ} (c : Calls s x m 
   pub call-waits : kind ≡ future-kind → Decided s x (Waits y)
   call-waits k = waits (call-future c (sym kind-is ∙ k))
 
-  pub call-goes : {future : ℕ} {move : Move} → kind ≡ open-handle-kind → future ≡ companion-at s y → move ≡ move-of (number HANDLE-BIND) x m y 0 0 future → Decided s x (Goes move)
-  call-goes k future-is made = goes-as (made ∙ ap (move-of (number HANDLE-BIND) x m y 0 0) future-is) (call-open c (sym kind-is ∙ k))
+  pub call-goes : {future : ℕ} {r : Decision} → kind ≡ open-handle-kind → future ≡ companion-at s y → r ≡ Goes (step-at x m (HandleBind y future)) → Decided s x r
+  call-goes k future-is e = goes-by e (ap (HandleBind y) future-is) (call-open c (sym kind-is ∙ k))
 
   pub call-refuses-used : kind ≡ used-handle-kind → Decided s x (Refuses used-handle-cause)
   call-refuses-used k = refuses-used (call-used c (sym kind-is ∙ k))
@@ -66,16 +62,8 @@ module _ {s : List ℕ} {x : ℕ} {m : Meeting} {y kind : ℕ} (c : ExchangesNam
   pub exchange-waits : kind ≡ future-kind → Decided s x (Waits y)
   exchange-waits k = waits (exchange-future c (sym kind-is ∙ k))
 
-  pub exchange-goes : {from size : ℕ} {move : Move} → kind ≡ cell-kind → from ≡ offset-at s y → size ≡ length-at s y → move ≡ move-of (number CELL-EXCH) x m y from (from + size) 0 → Decided s x (Goes move)
-  exchange-goes k from-is size-is made = goes-as (made ∙ copying (number CELL-EXCH) x m y from-is size-is) (exchange-cell c (sym kind-is ∙ k))
+  pub exchange-goes : {from size : ℕ} {r : Decision} → kind ≡ cell-kind → from ≡ offset-at s y → size ≡ length-at s y → r ≡ Goes (step-at x m (CellExch y from (from + size))) → Decided s x r
+  exchange-goes k from-is size-is e = goes-by e (ap₂ (λ (i j : ℕ). CellExch y i (i + j)) from-is size-is) (exchange-cell c (sym kind-is ∙ k))
 
   pub exchange-refuses : ¬ (kind ≡ thread-kind) → ¬ (kind ≡ future-kind) → ¬ (kind ≡ cell-kind) → Decided s x (Refuses wrong-kind-cause)
   exchange-refuses n₁ n₅ n₂ = refuses-wrong (exchange-handle c (λ k. n₁ (kind-is ∙ k)) (λ k. n₅ (kind-is ∙ k)) (λ k. n₂ (kind-is ∙ k)))
-
--- a lambda or a constant
-module _ {s : List ℕ} {x : ℕ} {m : Meeting} {rule n : ℕ} (p : Plain s x m n) (rule-is : rule ≡ n) where
-  pub plain-refuses : rule ≡ 0 → Decided s x (Refuses wrong-kind-cause)
-  plain-refuses z = refuses-wrong (p .no-rule (sym rule-is ∙ z))
-
-  pub plain-goes : {move : Move} → ¬ (rule ≡ 0) → move ≡ move-of rule x m 0 0 0 0 → Decided s x (Goes move)
-  plain-goes some made = goes-as (made ∙ ap (λ k. move-of k x m 0 0 0 0) rule-is) (p .by-rule (λ z. some (rule-is ∙ z)))

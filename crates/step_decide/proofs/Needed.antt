@@ -3,23 +3,24 @@ use mathlib.Core.Path.{_∙_, _≡_, ap, refl, sym}
 use mathlib.Core.Bool.{false, false≢true}
 use mathlib.Core.Option.{Option, some}
 use mathlib.Core.List.{List}
-use Prim.Native.Nat.{ℕ, _+_, _≤_}
+use Prim.Native.Nat.{ℕ, _≤_}
 use native.Mathlib.Decide.{decLt}
 use native.Mathlib.Omega.{arith}
 use Rattle.calculus.specs.Syntax.{Const, Exp, name, const, app, op, exch, Value, is-name, is-exch, Component, thread-of, at}
-use Rattle.calculus.specs.Reduction.{Context, FUTURE-DEREF, HANDLE-BIND, CELL-EXCH, number}
+use Rattle.calculus.specs.Reduction.{Context}
 use Rattle.calculus.specs.Names.{count}
 use Rattle.calculus.specs.Step.{Answer, Place, settled, meet, loose, waiting, used-handle, wrong-kind, when-done, step-of, step-meeting, step-call, step-exchange, place}
 use Rattle.calculus.specs.Image.{is-settled}
 use Rattle.calculus.specs.Theory.Tests.{eqb-complete}
 use Rattle.calculus.specs.Kinds.{thread-kind, cell-kind, open-handle-kind, used-handle-kind, future-kind}
 use Rattle.term.proofs.Expressions.{found-at}
-use Rattle.image_layout.specs.Slice.{kind-at, companion-at, offset-at, length-at}
+use Rattle.image_layout.specs.Slice.{kind-at, companion-at}
 use Rattle.image_layout.specs.Readable.{HasHead}
 use Rattle.image.specs.Configuration.{config-of}
 use Rattle.term_redex.specs.declared.Meeting.{Meeting}
 use Rattle.calculus.specs.Theory.ImageTest.{settled-value}
-use Rattle.step_rules.specs.Meets.{MeetsAt, move-of}
+use Rattle.step_rules.specs.Meets.{MeetsAt, step-at, dereferenced, exchanged}
+use Rattle.step_rules.specs.declared.Move.the-variants.{HandleBind}
 use Rattle.step_rules.specs.Stepped.{Stepped}
 use Rattle.step_rules.specs.Theory.Reading.{below, thread-stands}
 use Rattle.step_rules.specs.Theory.Rules.{deref-moves, deref-exch-moves, bind-moves, exchange-moves}
@@ -37,7 +38,7 @@ not-settled y loose answer h = refl
 -- the value of a thread is needed
 follows : {s : List ℕ} {x : ℕ} {m : Meeting} {F : Context} {f : Exp} {w : Value f} {v : Exp} → MeetsAt s x m F w v → (y : ℕ) (e : Exp) (answer : Answer)
     → at (config-of s) y ≡ some (thread-of e) → step-of (config-of s) x ≡ when-done y (place e) answer
-    → (Value e → Stepped s x (move-of (number FUTURE-DEREF) x m y (offset-at s y) (offset-at s y + length-at s y) 0)) → Follows s x m y
+    → (Value e → Stepped s x (step-at x m (dereferenced s y))) → Follows s x m y
 follows {s} M y e answer h step done =
     let q = found-at (thread-stands s (M .in-bytes) (M .stands) y e h .term) in
     let p = ap (λ g. is-settled (place g)) (q .term) in
@@ -87,7 +88,7 @@ module _ {s : List ℕ} {x : ℕ} {m : Meeting} {y : ℕ} (c : Calls s x m y) wh
   unfolding step-call
   call-future k = call-steps (as-future call-kind k)
 
-  pub call-open : kind-at s y ≡ open-handle-kind → Stepped s x (move-of (number HANDLE-BIND) x m y 0 0 (companion-at s y))
+  pub call-open : kind-at s y ≡ open-handle-kind → Stepped s x (step-at x m (HandleBind y (companion-at s y)))
   call-open k = bind-moves called (companion-at s y) (as-open call-kind k)
 
   pub call-used : kind-at s y ≡ used-handle-kind → step-of (config-of s) x ≡ used-handle
@@ -100,30 +101,30 @@ module _ {s : List ℕ} {x : ℕ} {m : Meeting} {y : ℕ} (c : Calls s x m y) wh
 
 -- name y is the first argument of a full exch
 module _ {s : List ℕ} {x : ℕ} {m : Meeting} {y : ℕ} (c : ExchangesName s x m y) where
-  abbrev exchanged : MeetsAt s x m (c .context) (is-exch {t = c .constant} (is-name {k = y})) (c .argument)
-  exchanged = c .meets
+  abbrev exchanging : MeetsAt s x m (c .context) (is-exch {t = c .constant} (is-name {k = y})) (c .argument)
+  exchanging = c .meets
 
   pub exchange-head : HasHead s y
-  exchange-head = needed-head exchanged y (one-exchanged y (op exch (c .constant)))
+  exchange-head = needed-head exchanging y (one-exchanged y (op exch (c .constant)))
 
   exchange-kind : Kind s y (kind-at s y)
-  exchange-kind = needed-kind exchanged y (one-exchanged y (op exch (c .constant)))
+  exchange-kind = needed-kind exchanging y (one-exchanged y (op exch (c .constant)))
 
   exchange-steps : {o : Option Component} → at (config-of s) y ≡ o
       → step-of (config-of s) x ≡ step-exchange (config-of s) x (c .context) (c .constant) y (c .argument) o
   unfolding step-meeting
-  exchange-steps h = exchanged .steps ∙ ap (step-exchange (config-of s) x (c .context) (c .constant) y (c .argument)) h
+  exchange-steps h = exchanging .steps ∙ ap (step-exchange (config-of s) x (c .context) (c .constant) y (c .argument)) h
 
   pub exchange-thread : kind-at s y ≡ thread-kind → Follows s x m y
   unfolding step-exchange
-  exchange-thread k = let (e, h) = as-thread exchange-kind k in follows exchanged y e _ h (exchange-steps h) (deref-exch-moves exchanged e h)
+  exchange-thread k = let (e, h) = as-thread exchange-kind k in follows exchanging y e _ h (exchange-steps h) (deref-exch-moves exchanging e h)
 
   pub exchange-future : kind-at s y ≡ future-kind → step-of (config-of s) x ≡ waiting y
   unfolding step-exchange
   exchange-future k = exchange-steps (as-future exchange-kind k)
 
-  pub exchange-cell : kind-at s y ≡ cell-kind → Stepped s x (move-of (number CELL-EXCH) x m y (offset-at s y) (offset-at s y + length-at s y) 0)
-  exchange-cell k = let (e, h) = as-cell exchange-kind k in exchange-moves exchanged e h
+  pub exchange-cell : kind-at s y ≡ cell-kind → Stepped s x (step-at x m (exchanged s y))
+  exchange-cell k = let (e, h) = as-cell exchange-kind k in exchange-moves exchanging e h
 
   pub exchange-handle : ¬ (kind-at s y ≡ thread-kind) → ¬ (kind-at s y ≡ future-kind) → ¬ (kind-at s y ≡ cell-kind) → step-of (config-of s) x ≡ wrong-kind
   unfolding step-exchange

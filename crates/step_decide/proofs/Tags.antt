@@ -1,5 +1,5 @@
 -- The function of the application, by its tag: the byte after the application's own.
-use mathlib.Core.Path.{_∙_, _≡_, ap, refl, sym}
+use mathlib.Core.Path.{_∙_, _≡_, ap, refl, subst, sym}
 use mathlib.Core.List.{List, _++_}
 use Prim.Native.Nat.{ℕ, _+_, _≤_, _<_}
 use native.Mathlib.Omega.{arith}
@@ -7,21 +7,21 @@ use lib.ListN.{drop, getD, length, length-append, length-drop}
 use lib.Seq.{getD-drop}
 use Rattle.calculus.specs.Bytes.{Bytes}
 use Rattle.calculus.specs.Syntax.{Const, unit, num, op, cell, exch, thread, handle, Exp, Value, is-name, is-const, is-lam, is-exch}
-use Rattle.calculus.specs.Reduction.{Context, BETA, THREAD-NEW, HANDLE-NEW, CELL-NEW, number}
+use Rattle.calculus.specs.Reduction.{Context}
 use Rattle.calculus.specs.Step.{wrong-kind, step-of, step-meeting}
 use Rattle.calculus.specs.Image.{const-size, size}
-use Rattle.term.specs.Forms.{tags, lambda-tag, application-tag, unit-tag, num-tag, cell-tag, exch-tag, thread-tag, handle-tag, name-tag}
+use Rattle.term.specs.Forms.{lambda-tag, application-tag, unit-tag, num-tag, cell-tag, exch-tag, thread-tag, handle-tag, name-tag}
 use Rattle.term.specs.Expressions.{bytes, const-bytes, op-tag, TermAt}
 use Rattle.term.proofs.Sizes.{length-bytes}
 use Rattle.image.specs.Configuration.{config-of}
 use Rattle.term_redex.specs.declared.Meeting.{Meeting}
 use Rattle.step_rules.specs.Positions.{application-length, to-called, to-exchanged, to-exchanged-name}
-use Rattle.step_rules.specs.Meets.{Deciding, MeetsAt, move-of}
+use Rattle.step_rules.specs.Meets.{Deciding, MeetsAt, step-at}
+use Rattle.step_rules.specs.declared.Move.the-variants.{Beta, ThreadNew, HandleNew, CellNew}
 use Rattle.step_rules.specs.Stepped.{Stepped}
 use Rattle.step_rules.specs.Theory.Rules.{beta-moves, thread-moves, handle-moves, cell-moves}
 use Rattle.step_rules.specs.Theory.Found.{FoundMeeting, found-meets}
 use Rattle.step_rules.specs.Theory.Writers.{size-positive}
-use Rattle.step_decide.specs.Rules.{rules}
 use Rattle.step_decide.specs.Asked.{Calls, Exchanges, ExchangesName}
 
 -- the bytes of a term that stands at a position
@@ -32,40 +32,37 @@ room : {l : List ℕ} {at : ℕ} {e : Exp} → TermAt l at e → at + size e ≤
 room {l} {at} {e} t =
     omega (arith, t .inside, ap length (t .stands), length-drop at l, length-append (bytes e) (drop (at + size e) l), length-bytes e)
 
--- a function that is no name and no exch applied has this rule; with 0 there is none
-pub record Plain (s : List ℕ) (x : ℕ) (m : Meeting) (n : ℕ) : Type 0 where
-  pub no-rule : n ≡ 0 → step-of (config-of s) x ≡ wrong-kind
-  pub by-rule : ¬ (n ≡ 0) → Stepped s x (move-of n x m 0 0 0 0)
-
--- what a tag says of the function
+-- what the tag says of the function: a name, exch applied to a value, a lambda, a constant that goes, and one that does not
 pub data Root (s : List ℕ) (x : ℕ) (m : Meeting) : ℕ → Type 0 where
   root-name : m .at + to-called < length s → Calls s x m (getD s (m .at + to-called) 0) → Root s x m name-tag
   root-exch : Exchanges s x m → Root s x m application-tag
-  root-plain : {tag : ℕ} → ¬ (tag ≡ name-tag) → ¬ (tag ≡ application-tag) → tag < tags → Plain s x m (getD rules tag 0) → Root s x m tag
-
--- a lambda or a constant: its rule goes, or 17 fits
-module _ {s : List ℕ} {x : ℕ} {m : Meeting} (tag : ℕ) (is : getD s (m .at + application-length) 0 ≡ tag) (other : ¬ (tag ≡ name-tag) × ¬ (tag ≡ application-tag) × (tag < tags)) where
-  goes-by : (n : ℕ) → ¬ (n ≡ 0) → getD rules tag 0 ≡ n → Stepped s x (move-of n x m 0 0 0 0) → Root s x m (getD s (m .at + application-length) 0)
-  goes-by n p r h = rw is (root-plain (other .0) (other .1) (other .2) (rw r (record { no-rule = λ z. absurd (p z); by-rule = λ z. h })))
-
-  goes-not : getD rules tag 0 ≡ 0 → step-of (config-of s) x ≡ wrong-kind → Root s x m (getD s (m .at + application-length) 0)
-  goes-not r h = rw is (root-plain (other .0) (other .1) (other .2) (rw r (record { no-rule = λ z. h; by-rule = λ z. absurd (z refl) })))
+  root-lambda : Stepped s x (step-at x m Beta) → Root s x m lambda-tag
+  root-cell : Stepped s x (step-at x m CellNew) → Root s x m cell-tag
+  root-thread : Stepped s x (step-at x m ThreadNew) → Root s x m thread-tag
+  root-handle : Stepped s x (step-at x m HandleNew) → Root s x m handle-tag
+  root-unit : step-of (config-of s) x ≡ wrong-kind → Root s x m unit-tag
+  root-num : step-of (config-of s) x ≡ wrong-kind → Root s x m num-tag
+  root-bare-exch : step-of (config-of s) x ≡ wrong-kind → Root s x m exch-tag
 
 root : {s : List ℕ} {x : ℕ} {m : Meeting} {F : Context} {f : Exp} (w : Value f) {v : Exp} → MeetsAt s x m F w v → Root s x m (getD s (m .at + application-length) 0)
-unfolding bytes const-bytes op-tag size const-size step-meeting rules
+unfolding bytes const-bytes op-tag size const-size step-meeting
 root {s} {x} {m} {F} (is-name {k = k}) {v} M =
     let t = M .placed .application in
     let k-is : getD s (m .at + to-called) 0 ≡ k = byte-there t to-called in
     rw (byte-there t application-length) (root-name (omega (arith, room t)) (rw k-is (record { context = F; argument = v; meets = M })))
 root {s} {x} {m} {F} (is-exch {t = t} {v = u} w) {v} M =
     rw (byte-there (M .placed .application) application-length) (root-exch (record { context = F; constant = t; first = u; first-value = w; argument = v; meets = M }))
-root is-lam M = goes-by lambda-tag (byte-there (M .placed .application) application-length) (omega arith, omega arith, omega arith) (number BETA) (omega arith) refl (beta-moves M)
-root (is-const {c = unit}) M = goes-not unit-tag (byte-there (M .placed .application) application-length) (omega arith, omega arith, omega arith) refl (M .steps)
-root (is-const {c = num n}) M = goes-not num-tag (byte-there (M .placed .application) application-length) (omega arith, omega arith, omega arith) refl (M .steps)
-root (is-const {c = op cell t}) M = goes-by cell-tag (byte-there (M .placed .application) application-length) (omega arith, omega arith, omega arith) (number CELL-NEW) (omega arith) refl (cell-moves M)
-root (is-const {c = op exch t}) M = goes-not exch-tag (byte-there (M .placed .application) application-length) (omega arith, omega arith, omega arith) refl (M .steps)
-root (is-const {c = op thread t}) M = goes-by thread-tag (byte-there (M .placed .application) application-length) (omega arith, omega arith, omega arith) (number THREAD-NEW) (omega arith) refl (thread-moves M)
-root (is-const {c = op handle t}) M = goes-by handle-tag (byte-there (M .placed .application) application-length) (omega arith, omega arith, omega arith) (number HANDLE-NEW) (omega arith) refl (handle-moves M)
+root is-lam M = rw (byte-there (M .placed .application) application-length) (root-lambda (beta-moves M))
+root (is-const {c = unit}) M = rw (byte-there (M .placed .application) application-length) (root-unit (M .steps))
+root (is-const {c = num n}) M = rw (byte-there (M .placed .application) application-length) (root-num (M .steps))
+root (is-const {c = op cell t}) M = rw (byte-there (M .placed .application) application-length) (root-cell (cell-moves M))
+root (is-const {c = op exch t}) M = rw (byte-there (M .placed .application) application-length) (root-bare-exch (M .steps))
+root (is-const {c = op thread t}) M = rw (byte-there (M .placed .application) application-length) (root-thread (thread-moves M))
+root (is-const {c = op handle t}) M = rw (byte-there (M .placed .application) application-length) (root-handle (handle-moves M))
+
+-- a tag that the decision does not ask for
+abbrev pub OtherTag : ℕ → Type 0
+OtherTag t = (((((Unit {0} × ¬ (t ≡ name-tag)) × ¬ (t ≡ application-tag)) × ¬ (t ≡ lambda-tag)) × ¬ (t ≡ cell-tag)) × ¬ (t ≡ thread-tag)) × ¬ (t ≡ handle-tag)
 
 -- of the meeting that a search has found
 module _ {s : List ℕ} {x : ℕ} {m : Meeting} (b : Bytes s) (d : Deciding s x m) where
@@ -80,29 +77,60 @@ module _ {s : List ℕ} {x : ℕ} {m : Meeting} (b : Bytes s) (d : Deciding s x 
   function : Root s x m (getD s (m .at + application-length) 0)
   function = root (found .function-value) (found .meets)
 
+  -- by the tag
+  function-as : {tag : ℕ} → getD s (m .at + application-length) 0 ≡ tag → Root s x m tag
+  function-as e = subst (Root s x m) e function
+
   pub tag-name : getD s (m .at + application-length) 0 ≡ name-tag → (m .at + to-called < length s) × Calls s x m (getD s (m .at + to-called) 0)
-  tag-name = go function
+  tag-name e = go (function-as e)
     where
-      go : {tag : ℕ} → Root s x m tag → tag ≡ name-tag → (m .at + to-called < length s) × Calls s x m (getD s (m .at + to-called) 0)
-      go (root-name i c) e = (i, c)
-      go (root-exch c) e = absurd (omega arith)
-      go (root-plain p q k h) e = absurd (p e)
+      go : Root s x m name-tag → (m .at + to-called < length s) × Calls s x m (getD s (m .at + to-called) 0)
+      go (root-name i c) = (i, c)
 
   pub tag-application : getD s (m .at + application-length) 0 ≡ application-tag → Exchanges s x m
-  tag-application = go function
+  tag-application e = go (function-as e)
     where
-      go : {tag : ℕ} → Root s x m tag → tag ≡ application-tag → Exchanges s x m
-      go (root-name i c) e = absurd (omega arith)
-      go (root-exch c) e = c
-      go (root-plain p q k h) e = absurd (q e)
+      go : Root s x m application-tag → Exchanges s x m
+      go (root-exch c) = c
 
-  pub tag-plain : ¬ (getD s (m .at + application-length) 0 ≡ name-tag) → ¬ (getD s (m .at + application-length) 0 ≡ application-tag) → (getD s (m .at + application-length) 0 < tags) × Plain s x m (getD rules (getD s (m .at + application-length) 0) 0)
-  tag-plain = go function
+  pub tag-lambda : getD s (m .at + application-length) 0 ≡ lambda-tag → Stepped s x (step-at x m Beta)
+  tag-lambda e = go (function-as e)
     where
-      go : {tag : ℕ} → Root s x m tag → ¬ (tag ≡ name-tag) → ¬ (tag ≡ application-tag) → (tag < tags) × Plain s x m (getD rules tag 0)
-      go (root-name i c) p q = absurd (p refl)
-      go (root-exch c) p q = absurd (q refl)
-      go (root-plain a c k h) p q = (k, h)
+      go : Root s x m lambda-tag → Stepped s x (step-at x m Beta)
+      go (root-lambda h) = h
+
+  pub tag-cell : getD s (m .at + application-length) 0 ≡ cell-tag → Stepped s x (step-at x m CellNew)
+  tag-cell e = go (function-as e)
+    where
+      go : Root s x m cell-tag → Stepped s x (step-at x m CellNew)
+      go (root-cell h) = h
+
+  pub tag-thread : getD s (m .at + application-length) 0 ≡ thread-tag → Stepped s x (step-at x m ThreadNew)
+  tag-thread e = go (function-as e)
+    where
+      go : Root s x m thread-tag → Stepped s x (step-at x m ThreadNew)
+      go (root-thread h) = h
+
+  pub tag-handle : getD s (m .at + application-length) 0 ≡ handle-tag → Stepped s x (step-at x m HandleNew)
+  tag-handle e = go (function-as e)
+    where
+      go : Root s x m handle-tag → Stepped s x (step-at x m HandleNew)
+      go (root-handle h) = h
+
+  -- none of these
+  pub tag-other : OtherTag (getD s (m .at + application-length) 0) → step-of (config-of s) x ≡ wrong-kind
+  tag-other = go function
+    where
+      go : {tag : ℕ} → Root s x m tag → OtherTag tag → step-of (config-of s) x ≡ wrong-kind
+      go (root-name i c) o = absurd (omega (arith, o))
+      go (root-exch c) o = absurd (omega (arith, o))
+      go (root-lambda h) o = absurd (omega (arith, o))
+      go (root-cell h) o = absurd (omega (arith, o))
+      go (root-thread h) o = absurd (omega (arith, o))
+      go (root-handle h) o = absurd (omega (arith, o))
+      go (root-unit h) o = h
+      go (root-num h) o = h
+      go (root-bare-exch h) o = h
 
 -- the first argument of a full exch, by its tag
 

@@ -2,18 +2,18 @@
 use mathlib.Core.Path.{_≡_}
 use mathlib.Core.Bool.{false, true}
 use mathlib.Core.List.{List}
-use Prim.Native.Nat.{ℕ, _+_}
+use Prim.Native.Nat.{ℕ}
 use Rattle.calculus.specs.Syntax.{Exp, Value, is-name, is-exch}
-use Rattle.calculus.specs.Reduction.{Context, FUTURE-DEREF, number}
+use Rattle.calculus.specs.Reduction.{Context}
 use Rattle.calculus.specs.Step.{waiting, step-of, place}
 use Rattle.calculus.specs.Image.{is-settled}
 use Rattle.term.specs.Reader.{GoodAt}
 use Rattle.term.specs.Expressions.{term-at}
-use Rattle.image_layout.specs.Slice.{offset-at, length-at}
+use Rattle.image_layout.specs.Slice.{offset-at}
 use Rattle.image_layout.specs.Readable.{HasHead}
 use Rattle.image.specs.Configuration.{config-of}
 use Rattle.term_redex.specs.declared.Meeting.{Meeting}
-use Rattle.step_rules.specs.Meets.{MeetsAt, move-of}
+use Rattle.step_rules.specs.Meets.{MeetsAt, step-at, dereferenced}
 use Rattle.step_rules.specs.Stepped.{Stepped}
 
 -- name y is the function
@@ -43,4 +43,4 @@ pub record Follows (s : List ℕ) (x : ℕ) (m : Meeting) (y : ℕ) : Type 0 whe
   pub head : HasHead s y
   pub good : GoodAt s (offset-at s y)
   pub not-done : is-settled (place (term-at s (offset-at s y))) ≡ false → step-of (config-of s) x ≡ waiting y
-  pub done : is-settled (place (term-at s (offset-at s y))) ≡ true → Stepped s x (move-of (number FUTURE-DEREF) x m y (offset-at s y) (offset-at s y + length-at s y) 0)
+  pub done : is-settled (place (term-at s (offset-at s y))) ≡ true → Stepped s x (step-at x m (dereferenced s y))

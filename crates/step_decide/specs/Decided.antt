@@ -5,14 +5,14 @@ use Prim.Native.Nat.{ℕ}
 use Rattle.calculus.specs.Step.{waiting, used-handle, wrong-kind, step-of}
 use Rattle.calculus.specs.Causes.{used-handle-cause, wrong-kind-cause}
 use Rattle.image.specs.Configuration.{config-of}
-use Rattle.step_rules.specs.declared.Move.{Move}
+use Rattle.step_rules.specs.declared.Step.{Step}
 use Rattle.step_rules.specs.Stepped.{Stepped}
 use Rattle.step_decide.specs.declared.Decision.{Decision}
 use Rattle.step_decide.specs.declared.Decision.the-variants.{Goes, Waits, Refuses}
 
--- a rule goes, by this move; "waiting with that name"; causes 16 and 17
+-- the thread goes, by this step; "waiting with that name"; causes 16 and 17
 pub data Decided (s : List ℕ) (x : ℕ) : Decision → Type 0 where
-  goes : {move : Move} → Stepped s x move → Decided s x (Goes move)
+  goes : {step : Step} → Stepped s x step → Decided s x (Goes step)
   waits : {y : ℕ} → step-of (config-of s) x ≡ waiting y → Decided s x (Waits y)
   refuses-used : step-of (config-of s) x ≡ used-handle → Decided s x (Refuses used-handle-cause)
   refuses-wrong : step-of (config-of s) x ≡ wrong-kind → Decided s x (Refuses wrong-kind-cause)

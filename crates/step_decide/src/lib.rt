@@ -6,71 +6,33 @@ use image_layout::length_at;
 use image_layout::offset_at;
 use numbers::Cause;
 use numbers::Image;
-use numbers::Rule;
 use step_rules::Move;
+use step_rules::Step;
 use term::Node;
 use term_redex::Meeting;
 use term_redex::is_value;
 ghost use mathlib.Core.Path.{_≡_};
-ghost use Prim.Native.Nat.{_<_};
-ghost use lib.ListN.{getD};
-ghost use Rattle.term.specs.Forms.{tags};
-ghost use Rattle.step_rules.specs.Meets.{Deciding, move-of};
-ghost use Rattle.step_decide.specs.Rules.{rules};
+ghost use Rattle.step_rules.specs.Meets.{Deciding, step-at};
+ghost use Rattle.step_decide.specs.declared.Decision.the-variants.{Goes};
 ghost use Rattle.step_decide.specs.Decided.{Decided};
 ghost use Rattle.step_decide.specs.Asked.{Calls, Exchanges, ExchangesName, Follows};
 
 // A rule goes, a name is waited for, or a cause refuses.
 pub enum Decision {
-    Goes(Move),
+    Goes(Step),
     Waits(usize),
     Refuses(u8),
 }
 
-// The rule of a function that is a lambda or a constant, by its tag; 0 where there is none.
-pub const RULES: [u8; Node::TAGS as usize] = [
-    0,
-    Rule::BETA,
-    0,
-    0,
-    0,
-    Rule::CELL_NEW,
-    0,
-    Rule::THREAD_NEW,
-    Rule::HANDLE_NEW,
-    0,
-];
-
-fn rule_of(tag: u8) -> u8
-    requires { ⌜ tag < tags ⌝ }
-    ensures { λ r. ⌜ r ≡ getD rules tag 0 ⌝ }
+// The thread goes by this move.
+fn goes(thread: usize, meeting: Meeting, by: Move) -> Decision
+    ensures { λ r. ⌜ r ≡ Goes (step-at thread meeting by) ⌝ }
 {
-    RULES[tag as usize]
-}
-
-// The move by a rule at a meeting: the name at its place, the part that is copied, the future that is bound.
-fn move_at(
-    rule: u8,
-    thread: usize,
-    meeting: Meeting,
-    name: usize,
-    from: usize,
-    to: usize,
-    future: usize,
-) -> Move
-    ensures { λ r. ⌜ r ≡ move-of rule thread meeting name from to future ⌝ }
-{
-    Move {
-        rule,
+    Decision::Goes(Step {
         thread,
-        at: meeting.at,
-        argument: meeting.argument,
-        end: meeting.end,
-        name,
-        from,
-        to,
-        future,
-    }
+        meeting,
+        by,
+    })
 }
 
 // The value of thread y is needed: rule 3, if it is done.
@@ -83,7 +45,7 @@ fn follow(image: &[u8], thread: usize, meeting: Meeting, y: usize) -> Decision
         return Decision::Waits(y);
     }
     let to = from + length_at(image, y);
-    Decision::Goes(move_at(Rule::FUTURE_DEREF, thread, meeting, y, from, to, 0))
+    goes(thread, meeting, Move::FutureDeref(from, to))
 }
 
 // Name y is applied.
@@ -100,7 +62,7 @@ fn call(image: &[u8], thread: usize, meeting: Meeting, y: usize) -> Decision
     }
     if kind == Image::OPEN_HANDLE {
         let future = companion_at(image, y) as usize;
-        return Decision::Goes(move_at(Rule::HANDLE_BIND, thread, meeting, y, 0, 0, future));
+        return goes(thread, meeting, Move::HandleBind(y, future));
     }
     if kind == Image::USED_HANDLE {
         return Decision::Refuses(Cause::USED_HANDLE);
@@ -123,7 +85,7 @@ fn exchange_name(image: &[u8], thread: usize, meeting: Meeting, y: usize) -> Dec
     if kind == Image::CELL {
         let from = offset_at(image, y);
         let to = from + length_at(image, y);
-        return Decision::Goes(move_at(Rule::CELL_EXCH, thread, meeting, y, from, to, 0));
+        return goes(thread, meeting, Move::CellExch(y, from, to));
     }
     Decision::Refuses(Cause::WRONG_KIND)
 }
@@ -134,12 +96,12 @@ fn exchange(image: &[u8], thread: usize, meeting: Meeting) -> Decision
     ensures { λ r. ⌜ Decided (now (image .entry)) thread r ⌝ }
 {
     let at = meeting.at;
-    if image[at + Move::EXCHANGED] == Node::NAME {
+    if image[at + Step::EXCHANGED] == Node::NAME {
         return exchange_name(
             image,
             thread,
             meeting,
-            image[at + Move::EXCHANGED_NAME] as usize,
+            image[at + Step::EXCHANGED_NAME] as usize,
         );
     }
     Decision::Refuses(Cause::WRONG_KIND)
@@ -151,16 +113,14 @@ pub fn decide(image: &[u8], thread: usize, meeting: Meeting) -> Decision
     ensures { λ r. ⌜ Decided (now (image .entry)) thread r ⌝ }
 {
     let at = meeting.at;
-    let tag = image[at + Move::APPLICATION];
-    if tag == Node::NAME {
-        return call(image, thread, meeting, image[at + Move::CALLED] as usize);
+    let tag = image[at + Step::APPLICATION];
+    match tag {
+        Node::NAME => call(image, thread, meeting, image[at + Step::CALLED] as usize),
+        Node::APPLICATION => exchange(image, thread, meeting),
+        Node::LAMBDA => goes(thread, meeting, Move::Beta),
+        Node::CELL => goes(thread, meeting, Move::CellNew),
+        Node::THREAD => goes(thread, meeting, Move::ThreadNew),
+        Node::HANDLE => goes(thread, meeting, Move::HandleNew),
+        _ => Decision::Refuses(Cause::WRONG_KIND),
     }
-    if tag == Node::APPLICATION {
-        return exchange(image, thread, meeting);
-    }
-    let rule = rule_of(tag);
-    if rule == 0 {
-        return Decision::Refuses(Cause::WRONG_KIND);
-    }
-    Decision::Goes(move_at(rule, thread, meeting, 0, 0, 0, 0))
 }

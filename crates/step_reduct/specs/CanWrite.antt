@@ -1,4 +1,4 @@
--- What a writer of the image after a step needs of the image before it and of the move.
+-- What a writer of the image after a step needs of the image before it and of the step.
 use mathlib.Core.Path.{_≡_}
 use mathlib.Core.Bool.{true}
 use mathlib.Core.List.{List}
@@ -6,24 +6,20 @@ use Prim.Native.Nat.{ℕ, _+_, _*_, _<_, _≤_}
 use lib.ListN.{length}
 use Rattle.calculus.specs.Bytes.{two-byte-values}
 use Rattle.calculus.specs.Limits.{max-names, max-nodes}
-use Rattle.calculus.specs.Reduction.{BETA, CELL-EXCH, number}
 use Rattle.image_layout.specs.Layout.{heads-stand}
-use Rattle.step_rules.specs.declared.Move.{Move}
+use Rattle.step_rules.specs.declared.Step.{Step}
 use Rattle.step_rules.specs.Moves.{names-after}
 use Rattle.step_rules.specs.Stepped.{Movable}
 
--- the image before and the move
-pub record CanWrite (s : List ℕ) (move : Move) : Type 0 where
-  -- the places that the move names are inside the image
-  pub movable : Movable s move
+-- the image before and the step
+pub record CanWrite (s : List ℕ) (step : Step) : Type 0 where
+  -- the places that the step names are inside the image
+  pub movable : Movable s step
   -- the image keeps its layout, and its limit of bytes
   pub stands : heads-stand s ≡ true
   pub short : length s < two-byte-values
-  -- "Rules in Fig. 5's order are numbered 1 to 7"
-  pub first : number BETA ≤ move .rule
-  pub last : move .rule ≤ number CELL-EXCH
   -- "At most 256 names"
-  pub few : names-after s move ≤ max-names
+  pub few : names-after s step ≤ max-names
 
 -- what stands in place of an application is shorter: a body, with a value in place of each of its nodes
 abbrev pub max-redex-length : ℕ

@@ -8,7 +8,7 @@ use Rattle.calculus.specs.Names.{uses}
 use Rattle.calculus.specs.Limits.{first-head, max-nodes}
 use Rattle.term.specs.Expressions.{term-at}
 use Rattle.term_subst.specs.Theory.Outcome.{uses-nodes}
-use Rattle.step_rules.specs.declared.Move.{Move}
+use Rattle.step_rules.specs.declared.Step.{Step}
 use Rattle.step_rules.specs.Stepped.{Counted, Movable}
 
 -- the variable's places are among the nodes of the body
@@ -19,5 +19,5 @@ pub few-copied : (u v : ℕ) → u ≤ max-nodes → v ≤ max-nodes → u * v �
 few-copied u v p q = mul-le-mul p q
 
 -- an image that goes has its two bytes m
-pub has-names : {s : List ℕ} {move : Move} → Movable s move → first-head ≤ length s
+pub has-names : {s : List ℕ} {step : Step} → Movable s step → first-head ≤ length s
 has-names m = omega (arith, m .second, m .argument .good .inside)

@@ -2,8 +2,8 @@
 
 -- a scan of a term that stands
 mod Scanned
--- the number that a table has for a rule
-mod Tables
+-- what is counted of a move that is known
+mod Counts
 -- no number is too large
 mod Bounds
 -- both limits

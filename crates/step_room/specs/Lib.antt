@@ -1,5 +1,4 @@
 -- Document 01, refusal 15.
 
--- the outcome of a step is within the limits of an image
-pub mod Room
-pub mod Theory
+-- what is counted of a move's effect
+pub mod Counting

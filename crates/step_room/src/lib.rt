@@ -1,19 +1,34 @@
-// Document 01, refusal 15: whether the outcome of a rule is within the limits of an image. It is decided by counting, before a byte is written.
+// Document 01, refusal 15: how many names and nodes the outcome of a rule has, counted before a byte is written, and whether they are within the limits.
 use numbers::Image;
-use numbers::Rule;
 use step_rules::Move;
-use step_rules::new_names;
+use step_rules::Step;
+use term_redex::Meeting;
 use term_scan::Extent;
 ghost use mathlib.Core.Path.{_≡_};
-ghost use Prim.Native.Nat.{_*_, _+_, _-_, _≤_};
+ghost use Prim.Native.Nat.{_+_, _-_, _≤_};
 ghost use Rattle.calculus.specs.Limits.{max-nodes};
-ghost use Rattle.calculus.specs.Image.{nodes};
-ghost use Rattle.calculus.specs.Names.{uses};
+ghost use Rattle.calculus.specs.Image.{nodes, within-limits};
 ghost use Rattle.term.specs.Reader.{GoodAt};
 ghost use Rattle.term.specs.Expressions.{term-at};
-ghost use Rattle.step_rules.specs.Moves.{names-after, nodes-after};
+ghost use Rattle.step_rules.specs.declared.Move.the-variants.{Beta};
+ghost use Rattle.step_rules.specs.Positions.{to-body};
+ghost use Rattle.step_rules.specs.Effects.{effect-of};
+ghost use Rattle.step_rules.specs.Moves.{effect, names-after, nodes-after};
 ghost use Rattle.step_rules.specs.Stepped.{Counted, Movable};
-ghost use Rattle.step_room.specs.Room.{has-room};
+ghost use Rattle.step_room.specs.Counting.{Counts};
+
+// How many names a move brings, how many nodes come and how many go.
+pub struct Count {
+    pub new: usize,
+    pub gained: usize,
+    pub lost: usize,
+}
+
+// The names and nodes of an image.
+pub struct Size {
+    pub names: usize,
+    pub nodes: usize,
+}
 
 // The nodes of the term at `at`.
 pub fn nodes_at(image: &[u8], at: usize) -> usize
@@ -36,49 +51,56 @@ fn without(all: usize, gone: usize) -> usize
     all - gone
 }
 
-// The nodes after rule 1: the argument comes in each place of the body's variable; these places, the argument, the lambda and the application go.
-fn nodes_applied(image: &[u8], count: usize, body: usize, argument: usize) -> usize
-    requires { ⌜ Counted (now image) body × (Counted (now image) argument × (count ≤ max-nodes)) ⌝ }
-    ensures { λ r. ⌜ r ≡ count + uses 0 (term-at (now (image .entry)) body) * nodes (term-at (now (image .entry)) argument) - (uses 0 (term-at (now (image .entry)) body) + nodes (term-at (now (image .entry)) argument) + 2) ⌝ }
+// These counts.
+fn counted(new: usize, gained: usize, lost: usize) -> Count
+    ensures { λ r. ⌜ (r .new ≡ new) × ((r .gained ≡ gained) × (r .lost ≡ lost)) ⌝ }
 {
-    let places = term_subst::count_uses(image, body);
-    let size = nodes_at(image, argument);
-    without(count + places * size, places + size + 2)
+    Count { new, gained, lost }
 }
 
-// The nodes after a step, where there are `count` before it.
-pub fn nodes_after(image: &[u8], count: usize, step: Move) -> usize
-    requires { ⌜ Movable (now image) step × (count ≤ max-nodes) ⌝ }
-    ensures { λ r. ⌜ r ≡ nodes-after count (now (image .entry)) step ⌝ }
+// Rule 1: the argument comes in each place of the body's variable; these places, the argument, the lambda and the application go.
+fn count_applied(image: &[u8], meeting: Meeting) -> Count
+    requires { ⌜ Counted (now image) (meeting .at + to-body) × Counted (now image) (meeting .argument) ⌝ }
+    ensures { λ r. ⌜ Counts (effect-of (now (image .entry)) meeting Beta) r ⌝ }
 {
-    let rule = step.rule;
-    match rule {
-        Rule::BETA => nodes_applied(image, count, step.at + Move::BODY, step.argument),
-        Rule::THREAD_NEW => count + 1,
-        Rule::FUTURE_DEREF => without(count + nodes_at(image, step.from), 1), // a value for a name
-        Rule::HANDLE_NEW => count + 2,
-        Rule::HANDLE_BIND => without(count, 1),
-        Rule::CELL_NEW => without(count, 1),
-        Rule::CELL_EXCH => without(count, 4),
-        _ => count,
-    }
+    let places = term_subst::count_uses(image, meeting.at + Step::BODY);
+    let size = nodes_at(image, meeting.argument);
+    counted(0, places * size, places + size + 2)
 }
 
-// The names after a step.
-pub fn names_after(image: &[u8], step: Move) -> usize
+// What a step brings and takes away.
+fn count_of(image: &[u8], step: Step) -> Count
     requires { ⌜ Movable (now image) step ⌝ }
-    ensures { λ r. ⌜ r ≡ names-after (now (image .entry)) step ⌝ }
+    ensures { λ r. ⌜ Counts (effect (now (image .entry)) step) r ⌝ }
 {
-    image_layout::names_of(image) + new_names(step.rule)
+    let by = step.by;
+    match by {
+        Move::Beta => count_applied(image, step.meeting),
+        Move::ThreadNew => counted(1, 1, 0),
+        Move::FutureDeref(from, _) => counted(0, nodes_at(image, from), 1), // a value for a name
+        Move::HandleNew => counted(2, 2, 0),
+        Move::HandleBind(_, _) => counted(0, 0, 1),
+        Move::CellNew => counted(1, 0, 1),
+        Move::CellExch(_, _, _) => counted(0, 0, 4),
+    }
 }
 
-// Whether the image after a step is within both limits, where there are `count` nodes before it.
-pub fn has_room(image: &[u8], count: usize, step: Move) -> bool
-    requires { ⌜ Movable (now image) step × (count ≤ max-nodes) ⌝ }
-    ensures { λ r. ⌜ r ≡ has-room (now (image .entry)) count step ⌝ }
+// The names and nodes after a step, where there are so many nodes before it.
+pub fn size_after(image: &[u8], nodes: usize, step: Step) -> Size
+    requires { ⌜ Movable (now image) step × (nodes ≤ max-nodes) ⌝ }
+    ensures { λ r. ⌜ (r .names ≡ names-after (now (image .entry)) step) × (r .nodes ≡ nodes-after nodes (now (image .entry)) step) ⌝ }
 {
-    if Image::MAX_NAMES < names_after(image, step) {
-        return false;
+    let names = image_layout::names_of(image);
+    let count = count_of(image, step);
+    Size {
+        names: names + count.new,
+        nodes: without(nodes + count.gained, count.lost),
     }
-    nodes_after(image, count, step) <= Image::MAX_NODES
+}
+
+// Whether so many names and nodes are within the limits of an image.
+pub fn within_limits(names: usize, nodes: usize) -> bool
+    ensures { λ r. ⌜ r ≡ within-limits names nodes ⌝ }
+{
+    names <= Image::MAX_NAMES && nodes <= Image::MAX_NODES
 }

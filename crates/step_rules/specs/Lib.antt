@@ -2,7 +2,9 @@
 
 -- places in an application, by the table of node forms
 pub mod Positions
--- the components of the image after a step by a rule
+-- what a move makes of an image, rule by rule
+pub mod Effects
+-- the image after a step
 pub mod Moves
 -- what a writer of the image after a step needs, and that the step is the calculus's
 pub mod Stepped

@@ -1,9 +1,9 @@
--- The meeting of two values in a thread of an image, and the moves that begin with it.
+-- The meeting of two values in a thread of an image, and the steps that begin with it.
 use mathlib.Core.Path.{_≡_}
 use mathlib.Core.Bool.{true}
 use mathlib.Core.Option.{some}
 use mathlib.Core.List.{List}
-use Prim.Native.Nat.{ℕ}
+use Prim.Native.Nat.{ℕ, _+_}
 use Rattle.calculus.specs.Bytes.{Bytes}
 use Rattle.calculus.specs.Syntax.{Exp, app, Value, at, thread-of}
 use Rattle.calculus.specs.Reduction.{Context, plug}
@@ -18,21 +18,19 @@ use Rattle.term_redex.specs.declared.Place.the-variants.{Meet}
 use Rattle.term_redex.specs.Places.{place-of}
 use Rattle.term_redex.proofs.Meetings.{MeetingAt}
 use Rattle.step_rules.specs.declared.Move.{Move}
+use Rattle.step_rules.specs.declared.Move.the-variants.{FutureDeref, CellExch}
+use Rattle.step_rules.specs.declared.Step.{Step}
 
--- the move by a rule at a meeting; what a rule has no use for is 0
-unfoldable pub move-of : ℕ → ℕ → Meeting → ℕ → ℕ → ℕ → ℕ → Move
-move-of rule x m name from to future =
-    record {
-      rule = rule;
-      thread = x;
-      at = m .at;
-      argument = m .argument;
-      end = m .end;
-      name = name;
-      from = from;
-      to = to;
-      future = future;
-    }
+-- the step of thread x by a move at a meeting
+abbrev pub step-at : ℕ → Meeting → Move → Step
+step-at x m by = record { thread = x; meeting = m; by = by }
+
+-- the moves that copy the value of thread y, and of cell y
+abbrev pub dereferenced : List ℕ → ℕ → Move
+dereferenced s y = FutureDeref (offset-at s y) (offset-at s y + length-at s y)
+
+abbrev pub exchanged : List ℕ → ℕ → Move
+exchanged s y = CellExch y (offset-at s y) (offset-at s y + length-at s y)
 
 -- what is asked before a step is decided: 13 and 14 do not fit, and the search has answered this meeting
 pub record Deciding (s : List ℕ) (x : ℕ) (m : Meeting) : Type 0 where

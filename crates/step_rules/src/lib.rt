@@ -1,25 +1,31 @@
 // What a step by a rule does to an image. The definitions stand in specs/.
 use numbers::Rule;
+use term_redex::Meeting;
 ghost use mathlib.Core.Path.{_≡_};
-ghost use Prim.Native.Nat.{_≤_};
-ghost use Rattle.step_rules.specs.Moves.{new-names};
+ghost use Rattle.calculus.specs.Reduction.{number};
+ghost use Rattle.step_rules.specs.Effects.{rule-of};
 
-// A step by a rule: the thread that goes; the application where two values meet, its argument and its end, as positions in the image; the name at its place; the
-// expression from which a value is copied (rules 3 and 7); the future that is bound (rule 5). What a rule has no use for is 0.
-pub struct Move {
-    pub rule: u8,
+// A move by a rule of Fig. 5, with what it needs besides the place: from where to where the value that is copied stands, the handle and its future, the cell and
+// from where to where its value stands.
+pub enum Move {
+    Beta,
+    ThreadNew,
+    FutureDeref(usize, usize),
+    HandleNew,
+    HandleBind(usize, usize),
+    CellNew,
+    CellExch(usize, usize, usize),
+}
+
+// A step: the thread that goes, the place in its expression where two values meet, and the move.
+pub struct Step {
     pub thread: usize,
-    pub at: usize,
-    pub argument: usize,
-    pub end: usize,
-    pub name: usize,
-    pub from: usize,
-    pub to: usize,
-    pub future: usize,
+    pub meeting: Meeting,
+    pub by: Move,
 }
 
 // Places in an application where two values meet, by the table of node forms.
-impl Move {
+impl Step {
     // The bytes of an application before its function, of a lambda before its body, of a variable, a name, a constant with a type, and unit.
     pub const APPLICATION: usize = 1;
 
@@ -34,29 +40,28 @@ impl Move {
     pub const UNIT: usize = 1;
 
     // From the application to the body of a lambda that is applied.
-    pub const BODY: usize = Move::APPLICATION + Move::LAMBDA;
+    pub const BODY: usize = Step::APPLICATION + Step::LAMBDA;
 
     // To the number of a name that is applied, the byte after its tag.
-    pub const CALLED: usize = Move::APPLICATION + 1;
+    pub const CALLED: usize = Step::APPLICATION + 1;
 
     // To the first argument of a full exch, past two applications and the constant; and to its number, where it is a name.
-    pub const EXCHANGED: usize = 2 * Move::APPLICATION + Move::CONSTANT;
+    pub const EXCHANGED: usize = 2 * Step::APPLICATION + Step::CONSTANT;
 
-    pub const EXCHANGED_NAME: usize = Move::EXCHANGED + 1;
+    pub const EXCHANGED_NAME: usize = Step::EXCHANGED + 1;
 }
 
-// How many names come with a rule.
-pub fn new_names(rule: u8) -> usize
-    ensures { λ r. ⌜ (r ≡ new-names rule) × (r ≤ 2) ⌝ }
+// The number of a move's rule.
+pub fn rule_of(by: Move) -> u8
+    ensures { λ r. ⌜ r ≡ number (rule-of by) ⌝ }
 {
-    if rule == Rule::THREAD_NEW {
-        return 1;
+    match by {
+        Move::Beta => Rule::BETA,
+        Move::ThreadNew => Rule::THREAD_NEW,
+        Move::FutureDeref(_, _) => Rule::FUTURE_DEREF,
+        Move::HandleNew => Rule::HANDLE_NEW,
+        Move::HandleBind(_, _) => Rule::HANDLE_BIND,
+        Move::CellNew => Rule::CELL_NEW,
+        Move::CellExch(_, _, _) => Rule::CELL_EXCH,
     }
-    if rule == Rule::HANDLE_NEW {
-        return 2; // a future and its handle
-    }
-    if rule == Rule::CELL_NEW {
-        return 1;
-    }
-    0
 }

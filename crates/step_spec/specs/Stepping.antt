@@ -7,6 +7,7 @@ use lib.Dec.{ltb}
 use lib.ListN.{drop, length}
 use Rattle.calculus.specs.Step.{step-of}
 use Rattle.calculus.specs.Limits.{max-image-length}
+use Rattle.calculus.specs.Image.{within-limits}
 use Rattle.calculus.specs.Causes.{buffer-cause, image-cause}
 use Rattle.calculus.specs.Reply.{Reply, moved, waits, finished, refuses, reply-of}
 use Rattle.image.specs.Configuration.{image-of, config-of}
@@ -16,7 +17,7 @@ use Rattle.step_spec.specs.declared.Outcome.the-variants.{Rule, Done, Wa
 
 -- document 01, "loading and stepping try 12 first", then 13, then 14 to 17 as the calculus has them; `room` is the length of the out buffer
 unfoldable pub step-reply : List ℕ → ℕ → ℕ → Reply
-step-reply s x room = cond (ltb room max-image-length) (refuses buffer-cause) (cond (image-stands s) (reply-of (step-of (config-of s) x)) (refuses image-cause))
+step-reply s x room = cond (ltb room max-image-length) (refuses buffer-cause) (cond (image-stands s) (reply-of within-limits (step-of (config-of s) x)) (refuses image-cause))
 
 -- what is answered: "A step answers with its rule and the new image's length"
 unfoldable pub outcome-of-reply : Reply → Outcome

@@ -1,5 +1,5 @@
 -- What a step answers and leaves, by what leads to each answer.
-use mathlib.Core.Path.{_∙_, _≡_, ap, refl, subst, sym}
+use mathlib.Core.Path.{_∙_, _≡_, ap, ap₂, refl, subst, sym}
 use mathlib.Core.Logic.{inl, inr}
 use mathlib.Core.Bool.{false, false≢true, true}
 use mathlib.Core.Option.{some}
@@ -13,12 +13,13 @@ use types.Run.{OneOf}
 use Rattle.step_decide.proofs.Decision.{the-type}
 use Rattle.calculus.specs.Bytes.{Bytes}
 use Rattle.calculus.specs.Syntax.{Exp, at, thread-of}
-use Rattle.calculus.specs.Reduction.{Rule, BETA, THREAD-NEW, FUTURE-DEREF, HANDLE-NEW, HANDLE-BIND, CELL-NEW, CELL-EXCH, number}
+use Rattle.calculus.specs.Reduction.{number}
 use Rattle.calculus.specs.Step.{done, no-thread, step-of}
-use Rattle.calculus.specs.Limits.{max-image-length}
-use Rattle.calculus.specs.Image.{nodes-all}
+use Rattle.calculus.specs.Limits.{max-image-length, max-nodes}
+use Rattle.calculus.specs.Image.{limits-test, nodes-all, within-limits}
 use Rattle.calculus.specs.Reply.{reply-of}
 use Rattle.calculus.specs.Theory.Tests.{and-parts, and-true, eqb-complete, eqb-sound, ltb-complete, ltb-not, ltb-sound}
+use Rattle.calculus.specs.Theory.ImageTest.{limits-test-iff}
 use Rattle.calculus.specs.Theory.Step.{no-thread-iff}
 use Rattle.term.specs.Expressions.{term-at}
 use Rattle.term.proofs.Expressions.{found-at}
@@ -32,14 +33,13 @@ use Rattle.image_layout.specs.Theory.Slice.{encoded-kind}
 use Rattle.image.specs.Configuration.{config-of, encode, image-of}
 use Rattle.image.specs.Stands.{image-stands}
 use Rattle.image.specs.Theory.Lengths.{stands-length, within-length}
-use Rattle.step_rules.specs.declared.Move.{Move}
-use Rattle.step_rules.specs.Moves.{image-after}
+use Rattle.step_rules.specs.declared.Step.{Step}
+use Rattle.step_rules.specs.Effects.{rule-of}
+use Rattle.step_rules.specs.Moves.{image-after, names-after, nodes-after}
 use Rattle.step_rules.specs.Stepped.{Stepped}
-use Rattle.step_rules.specs.Theory.Reading.{encoded-is, thread-stands}
+use Rattle.step_rules.specs.Theory.Reading.{encoded-is, rules, thread-stands}
 use Rattle.step_decide.proofs.Names.{as-thread, kind-there}
 use Rattle.step_reduct.specs.CanWrite.{CanWrite}
-use Rattle.step_room.specs.Room.{has-room}
-use Rattle.step_room.specs.Theory.Room.{room-is, room-within}
 use Rattle.step_decide.specs.declared.Decision.{Decision}
 use Rattle.step_decide.specs.declared.Decision.the-variants.{Goes}
 use Rattle.step_decide.specs.Decided.{Decided, goes, refuses-used, refuses-wrong, waits}
@@ -52,7 +52,7 @@ use Rattle.step_thread.specs.Stages.{is-thread, stays}
 
 -- the answer to a step of thread x, and what is left in the out buffer
 abbrev pub Answers : List ℕ → ℕ → List ℕ → Outcome → List ℕ → Type 0
-Answers s x out r out′ = (r ≡ outcome-of-reply (reply-of (step-of (config-of s) x))) × (out′ ≡ out-after-reply (reply-of (step-of (config-of s) x)) out)
+Answers s x out r out′ = (r ≡ outcome-of-reply (reply-of within-limits (step-of (config-of s) x))) × (out′ ≡ out-after-reply (reply-of within-limits (step-of (config-of s) x)) out)
 
 module _ (s : List ℕ) (x : ℕ) (out : List ℕ) where
   pub by-no-thread : step-of (config-of s) x ≡ no-thread → Answers s x out (Refused no-thread-cause) out
@@ -63,27 +63,26 @@ module _ (s : List ℕ) (x : ℕ) (out : List ℕ) where
   unfolding outcome-of-reply reply-of out-after-reply
   by-done e = (rw e refl, rw e refl)
 
-  pub by-decision : {d : Decision} → Decided s x d → ((step : Move) → ¬ (d ≡ Goes step)) → Answers s x out (stays d) out
+  pub by-decision : {d : Decision} → Decided s x d → ((step : Step) → ¬ (d ≡ Goes step)) → Answers s x out (stays d) out
   unfolding outcome-of-reply reply-of out-after-reply stays
-  by-decision (goes {move = m} S) n = absurd (n m refl)
+  by-decision (goes {step = m} S) n = absurd (n m refl)
   by-decision (waits e) n = (rw e refl, rw e refl)
   by-decision (refuses-used e) n = (rw e refl, rw e refl)
   by-decision (refuses-wrong e) n = (rw e refl, rw e refl)
 
-  module _ {step : Move} (S : Stepped s x step) where
-    pub by-no-room : has-room s (nodes-all (config-of s)) step ≡ false → Answers s x out (Refused room-cause) out
-    unfolding outcome-of-reply reply-of out-after-reply
-    by-no-room h = let e = S .steps in let l = sym (room-is S) ∙ h in (rw (e, l) refl, rw (e, l) refl)
+  module _ {step : Step} (S : Stepped s x step) where
+    pub by-no-room : limits-test (S .outcome) ≡ false → Answers s x out (Refused room-cause) out
+    unfolding outcome-of-reply reply-of limits-test out-after-reply
+    by-no-room l = let e = S .steps in (rw (e, l) refl, rw (e, l) refl)
 
-    pub by-rule : has-room s (nodes-all (config-of s)) step ≡ true → max-image-length ≤ length out →
-        (out′ : List ℕ) (n : ℕ) → Wrote out 0 (image-after s step) out′ n → Answers s x out (RuleMoves (step .rule) n) out′
-    unfolding outcome-of-reply reply-of out-after-reply
-    by-rule h long out′ n w =
+    pub by-rule : limits-test (S .outcome) ≡ true → max-image-length ≤ length out → (out′ : List ℕ) (n k : ℕ)
+        → k ≡ number (rule-of (step .by)) → Wrote out 0 (image-after s step) out′ n → Answers s x out (RuleMoves k n) out′
+    unfolding outcome-of-reply reply-of limits-test out-after-reply
+    by-rule l long out′ n k numbered w =
         let e = S .steps in
-        let l = sym (room-is S) ∙ h in
         let v : Wrote out 0 (image-of (S .outcome)) out′ n = rw (S .written) at w in
         let size : n ≡ length (image-of (S .outcome)) = omega (arith, v .ends) in
-        (rw (e, l, S .numbered, size) refl, rw (e, l) (beyond v (omega (arith, within-length (S .outcome) (room-within S h)))))
+        (rw (e, l, numbered, size) refl, rw (e, l) (beyond v (omega (arith, within-length (S .outcome) (limits-test-iff (S .outcome) .0 l)))))
 
 -- refusal 14
 module _ (s : List ℕ) (b : Bytes s) (stands : image-stands s ≡ true) (x : ℕ) where
@@ -105,33 +104,29 @@ module _ (s : List ℕ) (b : Bytes s) (stands : image-stands s ≡ true) (x : �
       let (e, h) = as-thread (kind-there s b stands x (ltb-sound x (names s) p)) (eqb-sound (kind-at s x) thread-kind q) in
       h ∙ ap (λ (g : Exp). some (thread-of g)) (sym (found-at (thread-stands s b stands x e h .term) .term))
 
--- a rule's number
-rule-between : (r : Rule) → (number BETA ≤ number r) × (number r ≤ number CELL-EXCH)
-rule-between BETA = (omega arith, omega arith)
-rule-between THREAD-NEW = (omega arith, omega arith)
-rule-between FUTURE-DEREF = (omega arith, omega arith)
-rule-between HANDLE-NEW = (omega arith, omega arith)
-rule-between HANDLE-BIND = (omega arith, omega arith)
-rule-between CELL-NEW = (omega arith, omega arith)
-rule-between CELL-EXCH = (omega arith, omega arith)
+-- 15 is the calculus's test of the outcome
+pub room-is : {s : List ℕ} {x : ℕ} {step : Step} (S : Stepped s x step) {names nodes n : ℕ} → nodes-all (config-of s) ≡ n
+    → (names ≡ names-after s step) × (nodes ≡ nodes-after n s step) → within-limits names nodes ≡ limits-test (S .outcome)
+unfolding limits-test
+room-is {s} {x} {step} S n-is (p, q) =
+    ap₂ (λ (i j : ℕ). within-limits i j) (p ∙ sym (S .named)) (q ∙ ap (λ (k : ℕ). nodes-after k s step) (sym n-is) ∙ sym (S .counted))
 
 -- what the writer asks
-pub can-write : (s : List ℕ) → Bytes s → image-stands s ≡ true → {x : ℕ} {step : Move} (S : Stepped s x step) →
-    has-room s (nodes-all (config-of s)) step ≡ true → CanWrite s step
-can-write s b stands S h =
-    let (low, high) = rule-between (S .by) in
+pub can-write : (s : List ℕ) → Bytes s → image-stands s ≡ true → {x : ℕ} {step : Step} (S : Stepped s x step) → limits-test (S .outcome) ≡ true → CanWrite s step
+can-write s b stands S l =
     record {
       movable = S .movable;
       stands = whole-sound s stands .heads;
       short = omega (arith, stands-length s b stands);
-      first = omega (arith, S .numbered);
-      last = omega (arith, S .numbered);
-      few = omega (arith, S .named, room-within S h .few-names);
+      few = omega (arith, S .named, limits-test-iff (S .outcome) .0 l .few-names);
     }
 
-pub after-fits : {s : List ℕ} {x : ℕ} {step : Move} (S : Stepped s x step) → has-room s (nodes-all (config-of s)) step ≡ true →
-    length (image-after s step) ≤ max-image-length
-after-fits S h = rw (S .written) (within-length (S .outcome) (room-within S h))
+pub after-fits : {s : List ℕ} {x : ℕ} {step : Step} (S : Stepped s x step) → limits-test (S .outcome) ≡ true → length (image-after s step) ≤ max-image-length
+after-fits S l = rw (S .written) (within-length (S .outcome) (limits-test-iff (S .outcome) .0 l))
+
+-- an image that stands has few enough nodes to count on
+pub few-before : (s : List ℕ) → Bytes s → image-stands s ≡ true → nodes-all (config-of s) ≤ max-nodes
+few-before s b stands = rules s b stands .limits .few-nodes
 
 -- the whole step
 module _ (s : List ℕ) (x : ℕ) (out : List ℕ) where
@@ -159,8 +154,8 @@ module _ (s : List ℕ) (x : ℕ) where
   by-kind l kind e = rw (ltb-complete x (names s) l, e) refl
 
 -- a decision by which a thread goes, and others
-pub stepped : {s : List ℕ} {x : ℕ} {step : Move} → Decided s x (Goes step) → Stepped s x step
+pub stepped : {s : List ℕ} {x : ℕ} {step : Step} → Decided s x (Goes step) → Stepped s x step
 stepped (goes S) = S
 
-pub not-goes : {d : Decision} (step : Move) → d ≡ Goes step → OneOf (1 ∷ 2 ∷ []) (tagOf the-type d) → ⊥
+pub not-goes : {d : Decision} (step : Step) → d ≡ Goes step → OneOf (1 ∷ 2 ∷ []) (tagOf the-type d) → ⊥
 not-goes step e k = elim (subst (λ (d : Decision). OneOf (1 ∷ 2 ∷ []) (tagOf the-type d)) e k) [ inl p ↦ omega arith | inr q ↦ omega arith ]

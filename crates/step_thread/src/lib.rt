@@ -9,6 +9,7 @@ ghost use mathlib.Core.Path.{_≡_};
 ghost use mathlib.Core.Bool.{true};
 ghost use lib.ListN.{length};
 ghost use Rattle.calculus.specs.Step.{step-of};
+ghost use Rattle.calculus.specs.Image.{within-limits};
 ghost use Rattle.calculus.specs.Reply.{reply-of};
 ghost use Rattle.image.specs.Configuration.{config-of};
 ghost use Rattle.image.specs.Stands.{image-stands};
@@ -40,8 +41,8 @@ fn answer_of(decision: Decision) -> Outcome
 // A step on an image that keeps every rule and limit and has so many nodes, into a buffer that is long enough.
 fn step_checked(image: &[u8], nodes: usize, thread: usize, out: &mut [u8]) -> Outcome
     requires { ⌜ Checks (now image) nodes (now out) ⌝ }
-    ensures { λ r. ⌜ r ≡ outcome-of-reply (reply-of (step-of (config-of (now (image .entry))) thread)) ⌝ }
-    ensures { λ r. ⌜ now (out .exit) ≡ out-after-reply (reply-of (step-of (config-of (now (image .entry))) thread)) (now (out .entry)) ⌝ }
+    ensures { λ r. ⌜ r ≡ outcome-of-reply (reply-of within-limits (step-of (config-of (now (image .entry))) thread)) ⌝ }
+    ensures { λ r. ⌜ now (out .exit) ≡ out-after-reply (reply-of within-limits (step-of (config-of (now (image .entry))) thread)) (now (out .entry)) ⌝ }
 {
     if !is_thread(image, thread) {
         return Outcome::Refused(Cause::NO_THREAD);
@@ -54,11 +55,13 @@ fn step_checked(image: &[u8], nodes: usize, thread: usize, out: &mut [u8]) -> Ou
     let Decision::Goes(step) = decision else {
         return answer_of(decision);
     };
-    if !step_room::has_room(image, nodes, step) {
+    let after = step_room::size_after(image, nodes, step);
+    if !step_room::within_limits(after.names, after.nodes) {
         return Outcome::Refused(Cause::ROOM);
     }
-    let rule = step.rule;
-    let length = step_write::put_image_after(image, step, out);
+    let by = step.by;
+    let rule = step_rules::rule_of(by);
+    let length = step_write::put_image_after(image, step, after.names, out);
     Outcome::Rule(rule, length)
 }
 

@@ -1,62 +1,91 @@
--- What a step makes of a name, by rule: what the code's tests find.
-use mathlib.Core.Path.{_≡_, refl}
-use mathlib.Core.Bool.{cond, false}
-use Prim.Native.Nat.{ℕ, zero, suc, _+_}
-use borrow.Author.Tests.{eq-eqb, ne-eqb}
+-- What a step makes of a name, by the move and by what the code's tests find.
+use mathlib.Core.Path.{_≡_, refl, subst, sym}
+use mathlib.Core.Bool.{Bool, cond, true, false}
+use mathlib.Core.List.{List}
+use Prim.Native.Nat.{ℕ, _+_, _<_}
+use native.Mathlib.Omega.{arith}
+use borrow.Author.Tests.{eq-eqb, eqb-false, ne-eqb}
 use lib.Dec.{eqb}
-use lib.ListN.{getD}
-use Rattle.calculus.specs.Reduction.{THREAD-NEW, HANDLE-NEW, HANDLE-BIND, CELL-NEW, CELL-EXCH, number}
+use lib.ListN.{length}
+use Rattle.calculus.specs.Kinds.{thread-kind, cell-kind, open-handle-kind, used-handle-kind, future-kind, no-owner}
+use Rattle.image_layout.specs.Encoded.{Encoded}
+use Rattle.image_layout.specs.Slice.{names, encoded-at}
 use Rattle.step_rules.specs.declared.Move.{Move}
+use Rattle.step_rules.specs.declared.Move.the-variants.{Beta, ThreadNew, FutureDeref, HandleNew, HandleBind, CellNew, CellExch}
+use Rattle.step_rules.specs.declared.Step.{Step}
+use Rattle.step_rules.specs.Effects.{effect-of}
+use Rattle.step_rules.specs.Moves.{look-up, from-name, other-after, component-after, names-after}
+use Rattle.step_reduct.specs.CanWrite.{CanWrite}
+use Rattle.step_reduct.proofs.Redexes.{names-by}
 use Rattle.step_write.specs.declared.Change.{Change}
-use Rattle.step_write.specs.declared.Change.the-variants.{Kept, Goes, Starts, Awaited, Opens, Used, Bound, Holds}
-use Rattle.step_write.specs.Changes.{changes, change-of}
+use Rattle.step_write.specs.declared.Change.the-variants.{Kept, Goes, Starts, Holds, Bare}
+use Rattle.step_write.specs.Changes.{Becomes, Sure, changed}
 
-module _ (move : Move) (m k : ℕ) where
-  pub it-goes : k ≡ move .thread → Goes ≡ change-of move m k
-  unfolding change-of
-  it-goes e = rw (eq-eqb k (move .thread) e) refl
+module _ (s : List ℕ) (step : Step) (k : ℕ) where
+  abbrev Result : Change → Type 0
+  Result r = Becomes s step k r (component-after s step k)
 
-  module _ (other : ¬ (k ≡ move .thread)) where
-    pub by-2 : {r : Change} → r ≡ cond (eqb k m) Starts Kept → move .rule ≡ number THREAD-NEW → r ≡ change-of move m k
-    unfolding change-of changes
-    by-2 p e = rw (ne-eqb k (move .thread) other, e) p
+  pub it-goes : k ≡ step .thread → Result Goes
+  unfolding component-after changed
+  it-goes e = rw (eq-eqb k (step .thread) e) (record { is = refl; sure = tt })
 
-    pub future-by-4 : k ≡ m → move .rule ≡ number HANDLE-NEW → Awaited ≡ change-of move m k
-    unfolding change-of changes
-    future-by-4 q e = rw (ne-eqb k (move .thread) other, e, eq-eqb k m q) refl
+  it-stays : k < names s → Becomes s step k Kept (encoded-at s k)
+  unfolding changed
+  it-stays l = record { is = refl; sure = l }
 
-    pub handle-by-4 : {r : Change} → r ≡ cond (eqb k (m + 1)) Opens Kept → ¬ (k ≡ m) → move .rule ≡ number HANDLE-NEW → r ≡ change-of move m k
-    unfolding change-of changes
-    handle-by-4 p q e = rw (ne-eqb k (move .thread) other, e, ne-eqb k m q) p
+  -- a test of the code, and the same in the definition
+  chosen : (j : ℕ) (x : Change) {r y : Change} {Y : Encoded} → r ≡ cond (eqb k j) x y → Sure s k x → (¬ (k ≡ j) → Becomes s step k y Y)
+      → Becomes s step k r (cond (eqb k j) (changed s step k x) Y)
+  chosen j x {r} {y} {Y} e p q = go (eqb k j) refl e
+    where
+      go : (b : Bool) → eqb k j ≡ b → r ≡ cond b x y → Becomes s step k r (cond b (changed s step k x) Y)
+      go true t e = rw e (record { is = refl; sure = p })
+      go false t e = rw e (q (eqb-false k j t))
 
-    pub handle-by-5 : k ≡ move .name → move .rule ≡ number HANDLE-BIND → Used ≡ change-of move m k
-    unfolding change-of changes
-    handle-by-5 q e = rw (ne-eqb k (move .thread) other, e, eq-eqb k (move .name) q) refl
+  module _ (w : CanWrite s step) (l : k < names-after s step) (other : ¬ (k ≡ step .thread)) where
+    module _ {by : Move} (e : step .by ≡ by) where
+      below : k < names s + length (effect-of s (step .meeting) by .new)
+      unfolding names-after
+      below = subst (λ (m : Move). k < names s + length (effect-of s (step .meeting) m .new)) e l
 
-    pub future-by-5 : {r : Change} → r ≡ cond (eqb k (move .future)) Bound Kept → ¬ (k ≡ move .name) → move .rule ≡ number HANDLE-BIND → r ≡ change-of move m k
-    unfolding change-of changes
-    future-by-5 p q e = rw (ne-eqb k (move .thread) other, e, ne-eqb k (move .name) q) p
+      becomes : {r : Change}
+          → Becomes s step k r (look-up (effect-of s (step .meeting) by .changed) k (look-up (from-name (names s) (effect-of s (step .meeting) by .new)) k (encoded-at s k)))
+          → Result r
+      unfolding component-after other-after
+      becomes {r} h =
+          rw (ne-eqb k (step .thread) other)
+          (subst (λ (m : Move). Becomes s step k r (look-up (effect-of s (step .meeting) m .changed) k (look-up (from-name (names s) (effect-of s (step .meeting) m .new)) k (encoded-at s k)))) (sym e) h)
 
-    pub by-6 : {r : Change} → r ≡ cond (eqb k m) Holds Kept → move .rule ≡ number CELL-NEW → r ≡ change-of move m k
-    unfolding change-of changes
-    by-6 p e = rw (ne-eqb k (move .thread) other, e) p
+    pub by-beta : step .by ≡ Beta → Result Kept
+    unfolding effect-of look-up from-name
+    by-beta e = becomes e (it-stays (omega (arith, below e)))
 
-    pub by-7 : {r : Change} → r ≡ cond (eqb k (move .name)) Holds Kept → move .rule ≡ number CELL-EXCH → r ≡ change-of move m k
-    unfolding change-of changes
-    by-7 p e = rw (ne-eqb k (move .thread) other, e) p
+    pub by-deref : {from to : ℕ} → step .by ≡ FutureDeref from to → Result Kept
+    unfolding effect-of look-up from-name
+    by-deref e = becomes e (it-stays (omega (arith, below e)))
 
-    none : (r : ℕ) → ¬ (r ≡ number THREAD-NEW) → ¬ (r ≡ number HANDLE-NEW) → ¬ (r ≡ number HANDLE-BIND) → ¬ (r ≡ number CELL-NEW) → ¬ (r ≡ number CELL-EXCH) → Kept ≡ cond false Goes (getD (changes move m k) r Kept)
-    unfolding changes
-    none zero a b c d e = refl
-    none (suc zero) a b c d e = refl
-    none (suc (suc zero)) a b c d e = absurd (a refl)
-    none (suc (suc (suc zero))) a b c d e = refl
-    none (suc (suc (suc (suc zero)))) a b c d e = absurd (b refl)
-    none (suc (suc (suc (suc (suc zero))))) a b c d e = absurd (c refl)
-    none (suc (suc (suc (suc (suc (suc zero)))))) a b c d e = absurd (d refl)
-    none (suc (suc (suc (suc (suc (suc (suc zero))))))) a b c d e = absurd (e refl)
-    none (suc (suc (suc (suc (suc (suc (suc (suc r)))))))) a b c d e = refl
+    pub by-bind : (handle future : ℕ) {r r₂ : Change} → step .by ≡ HandleBind handle future
+        → r₂ ≡ cond (eqb k future) (Holds thread-kind) Kept → r ≡ cond (eqb k handle) (Bare used-handle-kind no-owner) r₂ → Result r
+    unfolding effect-of look-up from-name changed
+    by-bind handle future e p q =
+        becomes e (chosen handle (Bare used-handle-kind no-owner) q tt λ _. chosen future (Holds thread-kind) p tt λ _. it-stays (omega (arith, below e)))
 
-    pub it-stays : ¬ (move .rule ≡ number THREAD-NEW) → ¬ (move .rule ≡ number HANDLE-NEW) → ¬ (move .rule ≡ number HANDLE-BIND) → ¬ (move .rule ≡ number CELL-NEW) → ¬ (move .rule ≡ number CELL-EXCH) → Kept ≡ change-of move m k
-    unfolding change-of
-    it-stays a b c d e = rw (ne-eqb k (move .thread) other) (none (move .rule) a b c d e)
+    pub by-exchange : (cell : ℕ) {from to : ℕ} {r : Change} → step .by ≡ CellExch cell from to → r ≡ cond (eqb k cell) (Holds cell-kind) Kept → Result r
+    unfolding effect-of look-up from-name changed
+    by-exchange cell e q = becomes e (chosen cell (Holds cell-kind) q tt λ _. it-stays (omega (arith, below e)))
+
+    -- new names, where there are m
+    module _ {m : ℕ} (m-is : m ≡ names s) where
+      pub by-thread : {r : Change} → step .by ≡ ThreadNew → r ≡ cond (eqb k m) Starts Kept → Result r
+      unfolding effect-of look-up from-name changed
+      by-thread e q = becomes e (chosen (names s) Starts (rw m-is at q) (omega (arith, names-by w e)) λ n. it-stays (omega (arith, below e, n)))
+
+      pub by-handle : {r r₂ : Change} → step .by ≡ HandleNew → r₂ ≡ cond (eqb k (m + 1)) (Bare open-handle-kind m) Kept → r ≡ cond (eqb k m) (Bare future-kind no-owner) r₂ → Result r
+      unfolding effect-of look-up from-name changed
+      by-handle e p q =
+          becomes e (chosen (names s) (Bare future-kind no-owner) (rw m-is at q) tt λ n.
+          chosen (names s + 1) (Bare open-handle-kind (names s)) (rw m-is at p) tt λ o. it-stays (omega (arith, below e, n, o)))
+
+      pub by-cell : {r : Change} → step .by ≡ CellNew → r ≡ cond (eqb k m) (Holds cell-kind) Kept → Result r
+      unfolding effect-of look-up from-name changed
+      by-cell e q = becomes e (chosen (names s) (Holds cell-kind) (rw m-is at q) tt λ n. it-stays (omega (arith, below e, n)))

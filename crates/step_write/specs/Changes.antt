@@ -1,40 +1,35 @@
--- What a step by a rule makes of a name: the same components as in `Moves` (step_rules), found by number first (proofs.Components, `after-is`).
-use mathlib.Core.Bool.{cond}
-use mathlib.Core.List.{List, [], _∷_}
-use Prim.Native.Nat.{ℕ, _+_}
-use lib.Dec.{eqb}
-use lib.ListN.{getD}
+-- What a step makes of a name: the component that comes of it, as the code finds it.
+use mathlib.Core.Path.{_≡_}
+use mathlib.Core.List.{List, []}
+use Prim.Native.Nat.{ℕ, _<_}
+use Rattle.calculus.specs.Limits.{byte-values}
+use Rattle.calculus.specs.Kinds.{no-owner}
 use Rattle.image_layout.specs.Encoded.{Encoded}
 use Rattle.image_layout.specs.Slice.{names, encoded-at}
-use Rattle.step_rules.specs.declared.Move.{Move}
-use Rattle.step_rules.specs.Moves.{thread-holding, cell-holding, handle-open, handle-used, future-awaited, argument-bytes, started-bytes, expression-after}
+use Rattle.image.specs.Owned.{thread-holding}
+use Rattle.step_rules.specs.declared.Step.{Step}
+use Rattle.step_rules.specs.Effects.{argument-bytes, started-bytes}
+use Rattle.step_rules.specs.Moves.{expression-after}
 use Rattle.step_write.specs.declared.Change.{Change}
-use Rattle.step_write.specs.declared.Change.the-variants.{Kept, Goes, Starts, Awaited, Opens, Used, Bound, Holds}
+use Rattle.step_write.specs.declared.Change.the-variants.{Kept, Goes, Starts, Holds, Bare}
 
--- of any name but the thread that goes, by rule, where there are m names
-unfoldable pub changes : Move → ℕ → ℕ → List Change
-changes move m k =
-    Kept
-    ∷ Kept
-    ∷ cond (eqb k m) Starts Kept
-    ∷ Kept
-    ∷ cond (eqb k m) Awaited (cond (eqb k (m + 1)) Opens Kept)
-    ∷ cond (eqb k (move .name)) Used (cond (eqb k (move .future)) Bound Kept)
-    ∷ cond (eqb k m) Holds Kept
-    ∷ cond (eqb k (move .name)) Holds Kept
-    ∷ []
+-- the component that a change of name k makes
+unfoldable pub changed : List ℕ → Step → ℕ → Change → Encoded
+changed s step k Kept = encoded-at s k
+changed s step k Goes = thread-holding no-owner (expression-after s step)
+changed s step k Starts = thread-holding no-owner (started-bytes s (step .meeting))
+changed s step k (Holds kind) = record { kind = kind; companion = no-owner; expression = argument-bytes s (step .meeting) }
+changed s step k (Bare kind companion) = record { kind = kind; companion = companion; expression = [] }
 
--- what a step makes of name k
-unfoldable pub change-of : Move → ℕ → ℕ → Change
-change-of move m k = cond (eqb k (move .thread)) Goes (getD (changes move m k) (move .rule) Kept)
+-- what is known by a change: a name that stays was there before, and the name of a new thread has a byte
+abbrev pub Sure : List ℕ → ℕ → Change → Type 0
+Sure s k Kept = k < names s
+Sure s k Goes = Unit {0}
+Sure s k Starts = names s < byte-values
+Sure s k (Holds kind) = Unit {0}
+Sure s k (Bare kind companion) = Unit {0}
 
--- the component that a change makes
-unfoldable pub changed : List ℕ → Move → ℕ → Change → Encoded
-changed s move k Kept = encoded-at s k
-changed s move k Goes = thread-holding (expression-after s move)
-changed s move k Starts = thread-holding (started-bytes s move)
-changed s move k Awaited = future-awaited
-changed s move k Opens = handle-open (names s)
-changed s move k Used = handle-used
-changed s move k Bound = thread-holding (argument-bytes s move)
-changed s move k Holds = cell-holding (argument-bytes s move)
+-- name k becomes this component, by this change
+pub record Becomes (s : List ℕ) (step : Step) (k : ℕ) (change : Change) (component : Encoded) : Type 0 where
+  pub is : component ≡ changed s step k change
+  pub sure : Sure s k change

@@ -11,17 +11,18 @@ use image_layout::length_at;
 use image_layout::names_of;
 use image_layout::put_head;
 use numbers::Image;
-use numbers::Rule;
+use step_reduct::argument_size;
 use step_reduct::put_argument;
 use step_reduct::put_name;
 use step_reduct::put_thread_after;
 use step_reduct::thread_size;
 use step_rules::Move;
-use step_rules::new_names;
+use step_rules::Step;
 use term::Node;
+use term_redex::Meeting;
 ghost use mathlib.Core.Path.{_≡_};
 ghost use mathlib.Core.Bool.{cond};
-ghost use Prim.Native.Nat.{_+_, _<_, _≤_};
+ghost use Prim.Native.Nat.{_+_, _-_, _<_, _≤_};
 ghost use lib.ListN.{length};
 ghost use Rattle.calculus.specs.Bytes.{two-byte-values};
 ghost use Rattle.calculus.specs.Limits.{byte-values, first-head};
@@ -31,97 +32,98 @@ ghost use Rattle.image_layout.specs.Encoded.{heads, head-offset, expressions};
 ghost use Rattle.image_layout.specs.Slice.{names};
 ghost use Rattle.image_layout.specs.Heads.{Says};
 ghost use Rattle.image_layout.specs.Theory.Turns.{Room};
-ghost use Rattle.step_rules.specs.Moves.{started-bytes, component-after, names-after, image-after};
+ghost use Rattle.step_rules.specs.Positions.{application-length, name-length};
+ghost use Rattle.step_rules.specs.Effects.{started-bytes};
+ghost use Rattle.step_rules.specs.Moves.{component-after, names-after, image-after};
 ghost use Rattle.step_reduct.specs.CanWrite.{CanWrite};
-ghost use Rattle.step_write.specs.declared.Change.the-variants.{Kept};
-ghost use Rattle.step_write.specs.Changes.{change-of};
+ghost use Rattle.step_write.specs.Changes.{Becomes};
 
-// What THREAD.NEW writes besides its argument: an application and a name.
-const STARTED: usize = Move::APPLICATION + Move::NAME;
-
-// What a step makes of a name: it stays, it is the thread that goes, a new thread (rule 2), a new future and its handle (rule 4), the handle that is used and
-// the future that is bound (rule 5), a cell that holds the argument (rules 6 and 7).
+// What a step makes of a name: it stays, it is the thread that goes or a new thread (rule 2), it is of a kind and holds the argument, or it is of a kind, has a
+// companion and holds nothing.
 pub enum Change {
     Kept,
     Goes,
     Starts,
-    Awaited,
-    Opens,
-    Used,
-    Bound,
-    Holds,
+    Holds(u8),
+    Bare(u8, u8),
 }
 
-// This change, or none.
-fn when(test: bool, change: Change) -> Change
-    ensures { λ r. ⌜ r ≡ cond test change Kept ⌝ }
+// This change, or another.
+fn when(test: bool, change: Change, other: Change) -> Change
+    ensures { λ r. ⌜ r ≡ cond test change other ⌝ }
 {
     if test {
         return change;
     }
-    Change::Kept
+    other
 }
 
-// What a step makes of name k, where there are so many names before it.
-fn change_of(step: Move, names: usize, k: usize) -> Change
-    requires { ⌜ names < two-byte-values ⌝ }
-    ensures { λ r. ⌜ r ≡ change-of step names k ⌝ }
+// What a step makes of name k.
+fn change_of(image: &[u8], step: Step, k: usize) -> Change
+    requires { ⌜ CanWrite (now image) step × (k < names-after (now image) step) ⌝ }
+    ensures { λ r. ⌜ Becomes (now (image .entry)) step k r (component-after (now (image .entry)) step k) ⌝ }
 {
     if k == step.thread {
         return Change::Goes;
     }
-    let rule = step.rule;
-    if rule == Rule::THREAD_NEW {
-        return when(k == names, Change::Starts);
-    }
-    if rule == Rule::HANDLE_NEW {
-        if k == names {
-            return Change::Awaited;
+    let names = names_of(image);
+    let owner = Image::NO_OWNER;
+    let kept = Change::Kept;
+    let by = step.by;
+    match by {
+        Move::Beta => kept,
+        Move::ThreadNew => when(k == names, Change::Starts, kept),
+        Move::FutureDeref(_, _) => kept,
+        Move::HandleNew => {
+            let future = names as u8;
+            let handle = when(
+                k == names + 1,
+                Change::Bare(Image::OPEN_HANDLE, future),
+                kept,
+            );
+            when(k == names, Change::Bare(Image::FUTURE, owner), handle)
         }
-        return when(k == names + 1, Change::Opens);
-    }
-    if rule == Rule::HANDLE_BIND {
-        if k == step.name {
-            return Change::Used;
+        Move::HandleBind(handle, future) => {
+            let bound = when(k == future, Change::Holds(Image::THREAD), kept);
+            when(k == handle, Change::Bare(Image::USED_HANDLE, owner), bound)
         }
-        return when(k == step.future, Change::Bound);
+        Move::CellNew => when(k == names, Change::Holds(Image::CELL), kept),
+        Move::CellExch(cell, _, _) => when(k == cell, Change::Holds(Image::CELL), kept),
     }
-    if rule == Rule::CELL_NEW {
-        return when(k == names, Change::Holds);
-    }
-    if rule == Rule::CELL_EXCH {
-        return when(k == step.name, Change::Holds);
-    }
-    Change::Kept
 }
 
 // Writes the new thread of rule 2: the argument applied to the thread's own name.
-fn put_started(out: &mut [u8], at: usize, image: &[u8], step: Move) -> usize
+fn put_started(out: &mut [u8], at: usize, image: &[u8], step: Step) -> usize
     requires { ⌜ CanWrite (now image) step × (names (now image) < byte-values) ⌝ }
-    requires { ⌜ at + length (started-bytes (now image) step) ≤ length (now out) ⌝ }
-    ensures { λ r. ⌜ Wrote (now (out .entry)) at (started-bytes (now (image .entry)) step) (now (out .exit)) r ⌝ }
+    requires { ⌜ at + length (started-bytes (now image) (step .meeting)) ≤ length (now out) ⌝ }
+    ensures { λ r. ⌜ Wrote (now (out .entry)) at (started-bytes (now (image .entry)) (step .meeting)) (now (out .exit)) r ⌝ }
 {
     let function = put_byte(out, at, Node::APPLICATION);
     let name = put_argument(out, function, image, step);
     put_name(out, name, names_of(image))
 }
 
+// How many bytes it has.
+fn started_size(meeting: Meeting) -> usize
+    requires { ⌜ (meeting .argument ≤ meeting .end) × (meeting .end < two-byte-values) ⌝ }
+    ensures { λ r. ⌜ r ≡ meeting .end - meeting .argument + (application-length + name-length) ⌝ }
+{
+    argument_size(meeting) + (Step::APPLICATION + Step::NAME)
+}
+
 // Writes the expression of name k; futures and handles have none.
-fn put_expression_after(out: &mut [u8], at: usize, image: &[u8], step: Move, k: usize) -> usize
+fn put_expression_after(out: &mut [u8], at: usize, image: &[u8], step: Step, k: usize) -> usize
     requires { ⌜ CanWrite (now image) step × (k < names-after (now image) step) ⌝ }
     requires { ⌜ at + length (component-after (now image) step k .expression) ≤ length (now out) ⌝ }
     ensures { λ r. ⌜ Wrote (now (out .entry)) at (component-after (now (image .entry)) step k .expression) (now (out .exit)) r ⌝ }
 {
-    let change = change_of(step, names_of(image), k);
+    let change = change_of(image, step, k);
     match change {
         Change::Kept => put_bytes(out, at, expression_at(image, k)),
         Change::Goes => put_thread_after(out, at, image, step),
         Change::Starts => put_started(out, at, image, step),
-        Change::Awaited => at,
-        Change::Opens => at,
-        Change::Used => at,
-        Change::Bound => put_argument(out, at, image, step),
-        Change::Holds => put_argument(out, at, image, step),
+        Change::Holds(_) => put_argument(out, at, image, step),
+        Change::Bare(_, _) => at,
     }
 }
 
@@ -130,48 +132,45 @@ fn bare(kind: u8, companion: u8) -> Head
     ensures { λ r. ⌜ (r .kind ≡ kind) × ((r .companion ≡ companion) × (r .size ≡ 0)) ⌝ }
 {
     Head {
-        kind: kind,
-        companion: companion,
+        kind,
+        companion,
         size: 0,
     }
 }
 
 // The head of a name with an expression of so many bytes.
-fn holding(kind: u8, size: usize) -> Head
-    ensures { λ r. ⌜ (r .kind ≡ kind) × ((r .companion ≡ 0) × (r .size ≡ size)) ⌝ }
+fn holding(kind: u8, owner: u8, size: usize) -> Head
+    ensures { λ r. ⌜ (r .kind ≡ kind) × ((r .companion ≡ owner) × (r .size ≡ size)) ⌝ }
 {
     Head {
-        kind: kind,
-        companion: 0,
-        size: size,
+        kind,
+        companion: owner,
+        size,
     }
 }
 
 // The head of name k.
-fn head_after(image: &[u8], step: Move, k: usize) -> Head
+fn head_after(image: &[u8], step: Step, k: usize) -> Head
     requires { ⌜ CanWrite (now image) step × (k < names-after (now image) step) ⌝ }
     ensures { λ r. ⌜ Says r (component-after (now (image .entry)) step k) ⌝ }
 {
-    let names = names_of(image);
-    let change = change_of(step, names, k);
+    let owner = Image::NO_OWNER;
+    let change = change_of(image, step, k);
     match change {
         Change::Kept => Head {
             kind: kind_at(image, k),
             companion: companion_at(image, k),
             size: length_at(image, k),
         },
-        Change::Goes => holding(Image::THREAD, thread_size(image, step)),
-        Change::Starts => holding(Image::THREAD, step.end - step.argument + STARTED),
-        Change::Awaited => bare(Image::FUTURE, 0),
-        Change::Opens => bare(Image::OPEN_HANDLE, names as u8),
-        Change::Used => bare(Image::USED_HANDLE, 0),
-        Change::Bound => holding(Image::THREAD, step.end - step.argument),
-        Change::Holds => holding(Image::CELL, step.end - step.argument),
+        Change::Goes => holding(Image::THREAD, owner, thread_size(image, step)),
+        Change::Starts => holding(Image::THREAD, owner, started_size(step.meeting)),
+        Change::Holds(kind) => holding(kind, owner, argument_size(step.meeting)),
+        Change::Bare(kind, companion) => bare(kind, companion),
     }
 }
 
 // Writes the heads of so many names.
-fn put_heads(out: &mut [u8], at: usize, image: &[u8], step: Move, names: usize) -> usize
+fn put_heads(out: &mut [u8], at: usize, image: &[u8], step: Step, names: usize) -> usize
     requires { ⌜ CanWrite (now image) step × ((names ≡ names-after (now image) step) × (at ≡ first-head)) ⌝ }
     requires { ⌜ Room (names-after (now image) step) (component-after (now image) step) (now out) ⌝ }
     ensures { λ r. ⌜ Wrote (now (out .entry)) at (heads (head-offset (names-after (now (image .entry)) step)) (tabulate (names-after (now (image .entry)) step) (component-after (now (image .entry)) step))) (now (out .exit)) r ⌝ }
@@ -189,7 +188,7 @@ fn put_heads(out: &mut [u8], at: usize, image: &[u8], step: Move, names: usize) 
 }
 
 // Writes their expressions.
-fn put_expressions(out: &mut [u8], at: usize, image: &[u8], step: Move, names: usize) -> usize
+fn put_expressions(out: &mut [u8], at: usize, image: &[u8], step: Step, names: usize) -> usize
     requires { ⌜ CanWrite (now image) step × ((names ≡ names-after (now image) step) × (at ≡ head-offset (names-after (now image) step))) ⌝ }
     requires { ⌜ Room (names-after (now image) step) (component-after (now image) step) (now out) ⌝ }
     ensures { λ r. ⌜ Wrote (now (out .entry)) at (expressions (tabulate (names-after (now (image .entry)) step) (component-after (now (image .entry)) step))) (now (out .exit)) r ⌝ }
@@ -203,13 +202,12 @@ fn put_expressions(out: &mut [u8], at: usize, image: &[u8], step: Move, names: u
     next
 }
 
-// Writes the image after a step.
-pub fn put_image_after(image: &[u8], step: Move, out: &mut [u8]) -> usize
-    requires { ⌜ CanWrite (now image) step ⌝ }
+// Writes the image after a step, of so many names.
+pub fn put_image_after(image: &[u8], step: Step, names: usize, out: &mut [u8]) -> usize
+    requires { ⌜ CanWrite (now image) step × (names ≡ names-after (now image) step) ⌝ }
     requires { ⌜ (length (image-after (now image) step) ≤ length (now out)) × (length (image-after (now image) step) < two-byte-values) ⌝ }
     ensures { λ r. ⌜ Wrote (now (out .entry)) 0 (image-after (now (image .entry)) step) (now (out .exit)) r ⌝ }
 {
-    let names = names_of(image) + new_names(step.rule);
     let after_names = put_u16(out, 0, names);
     let after_heads = put_heads(out, after_names, image, step, names);
     put_expressions(out, after_heads, image, step, names)

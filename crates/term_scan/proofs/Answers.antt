@@ -162,8 +162,7 @@ part-single forms l n q = is (of-edition forms (read-term l)) refl q
     is (got t []) r q =
         let (r′, f) = edition-got forms (read-term l) r in
         let p = is-tree l t [] r′ in
-        let m : n ≡ tree-nodes t = cc in
-        (
+        let m : n ≡ tree-nodes t = cc in (
           record {
             reads = r′ ∙ ap (λ x. got x []) (sym p);
             good = record { inside = zero-le; good = is-good l t [] r′ };

@@ -11,7 +11,7 @@ use Rattle.calculus.specs.Typing.{TypeNumbers}
 use Rattle.calculus.specs.Step.{step-of}
 use Rattle.calculus.specs.NewTypes.{function-at, new-types}
 use Rattle.calculus.specs.Limits.{max-image-length}
-use Rattle.calculus.specs.Image.{image-test}
+use Rattle.calculus.specs.Image.{image-test, within-limits}
 use Rattle.calculus.specs.State.{State, ValuesTyped}
 use Rattle.calculus.specs.Reply.{Reply, moved, waits, finished, refuses, reply-of}
 
@@ -22,7 +22,7 @@ pub record ConfigCall : Type 0 where
 
 -- document 01, "The lowest number that fits wins": 12, 13, then the others
 unfoldable pub config-reply : Config → ConfigCall → Reply
-config-reply C a = cond (ltb (a .buffer) max-image-length) (refuses 12) (cond (image-test C) (reply-of (step-of C (a .thread))) (refuses 13))
+config-reply C a = cond (ltb (a .buffer) max-image-length) (refuses 12) (cond (image-test C) (reply-of within-limits (step-of C (a .thread))) (refuses 13))
 
 -- document 01, "the new image if that answered a rule, else the same image again". New names have their types.
 abbrev pub state-grown : TypeNumbers → State → ℕ → Config → State

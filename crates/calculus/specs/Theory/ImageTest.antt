@@ -162,7 +162,7 @@ each-complete test k (d ∷ C) f =
 
 -- the test passes exactly what keeps the rules
 pub image-test-iff : (C : Config) → (image-test C ≡ true) ↔ ImageRule C
-unfolding image-test component-test sum-in is-awaited
+unfolding image-test limits-test component-test sum-in is-awaited
 image-test-iff C = (there, back)
   where
     there : image-test C ≡ true → ImageRule C

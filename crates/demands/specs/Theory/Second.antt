@@ -18,7 +18,7 @@ use Rattle.calculus.specs.Syntax.{Exp, Value, thread-of, Config, at}
 use Rattle.calculus.specs.Typing.{Derivation}
 use Rattle.calculus.specs.Reduction.{Rule as RuleName, number, Reduces}
 use Rattle.calculus.specs.Step.{Answer, rule, waiting, done, no-thread, used-handle, wrong-kind, step-of, Needs, Unready, AppliesUsed}
-use Rattle.calculus.specs.Image.{ImageRule, WithinLimits, limits-test}
+use Rattle.calculus.specs.Image.{ImageRule, WithinLimits, limits-test, within-limits}
 use Rattle.calculus.specs.Reply.{moved, refuses, reply-of}
 use Rattle.calculus.specs.Table.{Table, type-at}
 use Rattle.calculus.specs.Recipe.{setting-types, start}
@@ -134,7 +134,7 @@ pub record Later (A : Outcome) : Type 0 where
 
 module _ (s : List ℕ) (b : Bytes s) (x : ℕ) (out : List ℕ) where
   -- an answer to a slice is the calculus's answer to the configuration that it is the image of
-  means : (A : Outcome) (P : Config → Type 0) → Later A → ((C : Config) → ImageRule C → (outcome-of-reply (reply-of (step-of C x)) ≡ A) ↔ P C) →
+  means : (A : Outcome) (P : Config → Type 0) → Later A → ((C : Config) → ImageRule C → (outcome-of-reply (reply-of within-limits (step-of C x)) ≡ A) ↔ P C) →
       (outcome-of s x out ≡ A) ↔ Means s out P
   unfolding outcome-of outcome-of-reply
   means A P later iff = (there, back)
@@ -143,7 +143,7 @@ module _ (s : List ℕ) (b : Bytes s) (x : ℕ) (out : List ℕ) where
       standing l e false q = absurd (later .not-13 (sym e ∙ ap outcome-of-reply (reply-broken s x (length out) l q)))
       standing l e true q =
           let (C, i, k, w) = image-exactly s b .0 q in
-          let p : outcome-of-reply (reply-of (step-of C x)) ≡ A =
+          let p : outcome-of-reply (reply-of within-limits (step-of C x)) ≡ A =
           sym (ap outcome-of-reply (step-is C k w x (length out) l)) ∙ ap (λ (t : List ℕ). outcome-of-reply (step-reply t x (length out))) (sym i) ∙ e in
           (l, C, record { bytes = i; rule = k; writable = w }, iff C k .0 p)
 
@@ -190,7 +190,7 @@ module _ (s : List ℕ) (b : Bytes s) (x : ℕ) (out : List ℕ) where
 -- each answer of the calculus, from how it is told
 module _ (C : Config) (x : ℕ) where
   abbrev told-of : Answer → Outcome
-  told-of a = outcome-of-reply (reply-of a)
+  told-of a = outcome-of-reply (reply-of within-limits a)
 
   within : {C′ : Config} → limits-test C′ ≡ true → WithinLimits C′
   within {C′} e = limits-test-iff C′ .0 e
@@ -199,14 +199,14 @@ module _ (C : Config) (x : ℕ) where
   moves-there q (told-moved {r} {C′} l) = (r, C′, rule-iff C C′ x r .0 q, within l, refl, refl)
 
   moves-iff : (k size : ℕ) → (told-of (step-of C x) ≡ Rule k size) ↔ Moves x k size C
-  unfolding outcome-of-reply reply-of
+  unfolding outcome-of-reply reply-of limits-test
   moves-iff k size = (
     λ e. moves-there refl (rw e at (tells (step-of C x))),
     λ (r, C′, m, w, k-is, size-is). rw (rule-iff C C′ x r .1 m, limits-test-iff C′ .1 w, k-is, size-is) refl,
   )
 
   room-iff : (told-of (step-of C x) ≡ Refused room-cause) ↔ LacksRoom x C
-  unfolding outcome-of-reply reply-of
+  unfolding outcome-of-reply reply-of limits-test
   room-iff = (
     λ e. there (step-of C x) refl (rw e at (tells (step-of C x))),
     λ (r, C′, m, n). rw (rule-iff C C′ x r .1 m) (above r C′ (limits-test C′) refl n),
@@ -261,7 +261,7 @@ module _ (C : Config) (x : ℕ) where
 -- the image that a rule leaves
 rule-image : (s : List ℕ) (x : ℕ) (out : List ℕ) (C C′ : Config) (by : RuleName) → ImageOf s C → Reduces C x by C′ → WithinLimits C′ → max-image-length ≤ length out →
     Written (image-of C′) out (out-after-step s x out)
-unfolding out-after-step out-after-reply reply-of
+unfolding out-after-step out-after-reply reply-of limits-test
 rule-image s x out C C′ by i m w l = (
   ap (λ (t : List ℕ). out-after-reply (step-reply t x (length out)) out) (i .bytes)
       ∙ rw (step-is C (i .rule) (i .writable) x (length out) l, rule-iff C C′ x by .1 m, limits-test-iff C′ .1 w) refl,

@@ -47,7 +47,7 @@ module _ (s : List ℕ) where
       ∙ ap (λ (m : ℕ). expression-keeps m (component-of s k) && pair-keeps (config-of s) k (component-of s k)) (length-config s)
 
   pub whole-sound : image-stands s ≡ true → Whole
-  unfolding image-stands image-test terms-stand term-stands expression-stands
+  unfolding image-stands image-test limits-test terms-stand term-stands expression-stands
   whole-sound h =
       let (heads, rest) = and-parts (heads-stand s) (terms-stand s && image-test (config-of s)) h in
       let (terms, tests) = and-parts (terms-stand s) (image-test (config-of s)) rest in
@@ -65,7 +65,7 @@ module _ (s : List ℕ) where
       }
 
   pub whole-complete : Whole → image-stands s ≡ true
-  unfolding image-stands image-test terms-stand term-stands expression-stands
+  unfolding image-stands image-test limits-test terms-stand term-stands expression-stands
   whole-complete w =
       let parts : (k : ℕ) → k < names s → (term-stands s k ≡ true) × (expression-keeps (names s) (component-of s k) ≡ true) =
       λ k l. and-parts (term-stands s k) (expression-keeps (names s) (component-of s k)) (w .expressions k l) in

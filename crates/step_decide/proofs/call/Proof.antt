@@ -23,7 +23,7 @@ returns-3 : tie.Need-returns-3
 returns-3 c =
     let t = c .before .before in
     let k = t .before .before .before in
-    call-goes (k .before .before .pre) (k .kind-at .ensures) (t .if3 .taken) (c .before .companion-at .ensures) (c .move-at .ensures)
+    call-goes (k .before .before .pre) (k .kind-at .ensures) (t .if3 .taken) (c .before .companion-at .ensures) (c .goes .ensures)
 
 returns-4 : tie.Need-returns-4
 returns-4 c =

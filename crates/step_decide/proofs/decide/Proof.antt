@@ -1,8 +1,10 @@
 -- `step_decide::decide` meets its contract.
+use mathlib.Core.Path.{refl}
 use Prim.Native.Nat.{_+_}
 use Rattle.calculus.specs.Bytes.{Bytes}
-use Rattle.step_decide.proofs.Tags.{tag-inside, tag-name, tag-application, tag-plain}
-use Rattle.step_decide.proofs.Decisions.{plain-refuses, plain-goes}
+use Rattle.step_decide.specs.Decided.{refuses-wrong}
+use Rattle.step_decide.proofs.Tags.{tag-inside, tag-name, tag-application, tag-lambda, tag-cell, tag-thread, tag-handle, tag-other}
+use Rattle.step_decide.proofs.Decisions.{goes-by}
 use native.Mathlib.Omega.{arith}
 use borrow.Author.Needs.{needs}
 use Rattle.step_decide.proofs.decide.Statement.{statement}
@@ -18,36 +20,34 @@ shared-slice-read-tag : tie.Need-shared-slice-read-tag
 shared-slice-read-tag c = omega (arith, tag-inside (are-bytes (c .before)) (c .before .before .pre))
 
 add-call : tie.Need-add-call
-add-call c = omega (arith, tag-inside (are-bytes (c .before .before)) (c .before .before .before .pre))
+add-call c = let k = c .before .before in omega (arith, tag-inside (are-bytes k) (k .before .pre))
 
 shared-slice-read-call : tie.Need-shared-slice-read-call
-shared-slice-read-call c = let k = c .before .before .before in omega (arith, tag-name (are-bytes k) (k .before .pre) (c .before .if1 .taken))
+shared-slice-read-call c = let k = c .before .before .before in omega (arith, tag-name (are-bytes k) (k .before .pre) (c .before .match .keys1))
 
 cast-call : tie.Need-cast-call
 cast-call c = omega (arith, c .shared-slice-known3 .given (c .before .before .before .before .args .meeting .at + 2))
 
 call-requires : tie.Need-call-requires
-call-requires c κs = let k = c .before .before .before in tag-name (are-bytes k) (k .before .pre) (c .before .if1 .taken) .1
+call-requires c κs = let k = c .before .before .before in tag-name (are-bytes k) (k .before .pre) (c .before .match .keys1) .1
 
 exchange-requires : tie.Need-exchange-requires
-exchange-requires c κs = let k = c .before .before .before in tag-application (are-bytes k) (k .before .pre) (c .if2 .taken)
-
-rule-of-requires : tie.Need-rule-of-requires
-rule-of-requires c κs = let k = c .before .before .before in tag-plain (are-bytes k) (k .before .pre) (c .before .if1 .left) (c .if2 .left) .0
+exchange-requires c κs = let k = c .before .before in tag-application (are-bytes k) (k .before .pre) (c .match .keys2)
 
 returns-3 : tie.Need-returns-3
-returns-3 c =
-    let r = c .before in
-    let l = r .before in
-    let k = l .before .before .before in
-    plain-refuses (tag-plain (are-bytes k) (k .before .pre) (l .before .if1 .left) (l .if2 .left) .1) (r .rule-of .ensures) (c .if3 .taken)
+returns-3 c = let k = c .before .before .before in goes-by (c .goes .ensures) refl (tag-lambda (are-bytes k) (k .before .pre) (c .before .match .keys3))
 
 returns-4 : tie.Need-returns-4
-returns-4 c =
-    let r = c .before .before in
-    let l = r .before in
-    let k = l .before .before .before in
-    plain-goes (tag-plain (are-bytes k) (k .before .pre) (l .before .if1 .left) (l .if2 .left) .1) (r .rule-of .ensures) (c .before .if3 .left) (c .move-at .ensures)
+returns-4 c = let k = c .before .before .before in goes-by (c .goes2 .ensures) refl (tag-cell (are-bytes k) (k .before .pre) (c .before .match .keys4))
+
+returns-5 : tie.Need-returns-5
+returns-5 c = let k = c .before .before .before in goes-by (c .goes3 .ensures) refl (tag-thread (are-bytes k) (k .before .pre) (c .before .match .keys5))
+
+returns-6 : tie.Need-returns-6
+returns-6 c = let k = c .before .before .before in goes-by (c .goes4 .ensures) refl (tag-handle (are-bytes k) (k .before .pre) (c .before .match .keys6))
+
+returns-7 : tie.Need-returns-7
+returns-7 c = let k = c .before .before in refuses-wrong (tag-other (are-bytes k) (k .before .pre) (c .match .rest))
 
 pub decide-spec : {M : Type 1} → statement M
 decide-spec =
@@ -59,10 +59,15 @@ decide-spec =
     shared-slice-read-call
     cast-call
     call-requires
-    (λ c. search needs)
     exchange-requires
-    (λ c. search needs)
-    rule-of-requires
-    returns-3
     (λ c κs. search needs)
-    returns-4)
+    (λ c κs. search needs)
+    (λ c κs. search needs)
+    (λ c κs. search needs)
+    (λ c. search needs)
+    (λ c. search needs)
+    returns-3
+    returns-4
+    returns-5
+    returns-6
+    returns-7)

@@ -27,7 +27,7 @@ returns-3 c =
     let o = c .before .before in
     let t = o .before in
     let k = t .before .before .before in
-    exchange-goes (k .before .before .pre) (k .kind-at .ensures) (t .if3 .taken) (o .offset-at .ensures .0) (c .before .length-at .ensures .0) (c .move-at .ensures)
+    exchange-goes (k .before .before .pre) (k .kind-at .ensures) (t .if3 .taken) (o .offset-at .ensures .0) (c .before .length-at .ensures .0) (c .goes .ensures)
 
 returns-4 : tie.Need-returns-4
 returns-4 c =

@@ -18,7 +18,7 @@ returns-2 c =
     let l = c .before in
     let v = l .before .before in
     let p = v .before in
-    follow-goes (p .before .before .pre) (p .offset-at .ensures .0) (v .is-value .ensures) (not-false _ (l .before .if1 .left)) (l .length-at .ensures .0) (c .move-at .ensures)
+    follow-goes (p .before .before .pre) (p .offset-at .ensures .0) (v .is-value .ensures) (not-false _ (l .before .if1 .left)) (l .length-at .ensures .0) (c .goes .ensures)
 
 pub follow-spec : {M : Type 1} → statement M
 follow-spec =

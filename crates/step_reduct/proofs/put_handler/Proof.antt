@@ -3,8 +3,8 @@ use mathlib.Core.Path.{ap, sym}
 use Prim.Native.Nat.{_-_, _+_, ℕ}
 use native.Mathlib.Omega.{arith}
 use Rattle.buffer.specs.Theory.Writes.{same, then, known-as}
-use Rattle.step_rules.specs.Moves.{name-bytes}
-use Rattle.step_reduct.proofs.Redexes.{argument-length, redex-4, two-names, length-4}
+use Rattle.step_rules.specs.Effects.{name-bytes, effect-of}
+use Rattle.step_reduct.proofs.Redexes.{argument-length, redex-by, names-by, length-4}
 use borrow.Author.Needs.{needs}
 use Rattle.step_reduct.proofs.put_handler.Statement.{statement}
 use Rattle.step_reduct.proofs.put_handler.Tie as tie
@@ -46,6 +46,7 @@ put-argument-requires c κs =
     (w, omega (arith, n, argument-length w, at-put-byte .put-byte .ensures .ends, same (at-put-byte .put-byte .ensures), at-put-byte2 .put-byte2 .ensures .ends, same (at-put-byte2 .put-byte2 .ensures), start .pre .1 .1))
 
 put-name-requires : tie.Need-put-name-requires
+unfolding effect-of
 put-name-requires c κs =
     let at-put-argument = c .before .before .before in
     let at-put-byte2 = before-put-argument at-put-argument in
@@ -54,9 +55,10 @@ put-name-requires c κs =
     let start = before-names-of at-names-of in
     let w = start .pre .0 in
     let n = length-4 w (start .pre .1 .0) in
-    (omega (arith, two-names w (start .pre .1 .0), at-names-of .names-of .ensures .0), omega (arith, n, argument-length w, at-put-byte .put-byte .ensures .ends, same (at-put-byte .put-byte .ensures), at-put-byte2 .put-byte2 .ensures .ends, same (at-put-byte2 .put-byte2 .ensures), at-put-argument .put-argument .ensures .ends, same (at-put-argument .put-argument .ensures), start .pre .1 .1))
+    (omega (arith, names-by w (start .pre .1 .0), at-names-of .names-of .ensures .0), omega (arith, n, argument-length w, at-put-byte .put-byte .ensures .ends, same (at-put-byte .put-byte .ensures), at-put-byte2 .put-byte2 .ensures .ends, same (at-put-byte2 .put-byte2 .ensures), at-put-argument .put-argument .ensures .ends, same (at-put-argument .put-argument .ensures), start .pre .1 .1))
 
 put-name-requires-2 : tie.Need-put-name-requires-2
+unfolding effect-of
 put-name-requires-2 c κs =
     let at-put-name = c .before .before .before in
     let at-put-argument = before-put-name at-put-name in
@@ -66,9 +68,10 @@ put-name-requires-2 c κs =
     let start = before-names-of at-names-of in
     let w = start .pre .0 in
     let n = length-4 w (start .pre .1 .0) in
-    (omega (arith, two-names w (start .pre .1 .0), at-names-of .names-of .ensures .0), omega (arith, n, argument-length w, at-put-byte .put-byte .ensures .ends, same (at-put-byte .put-byte .ensures), at-put-byte2 .put-byte2 .ensures .ends, same (at-put-byte2 .put-byte2 .ensures), at-put-argument .put-argument .ensures .ends, same (at-put-argument .put-argument .ensures), at-put-name .put-name .ensures .ends, same (at-put-name .put-name .ensures), start .pre .1 .1))
+    (omega (arith, names-by w (start .pre .1 .0), at-names-of .names-of .ensures .0), omega (arith, n, argument-length w, at-put-byte .put-byte .ensures .ends, same (at-put-byte .put-byte .ensures), at-put-byte2 .put-byte2 .ensures .ends, same (at-put-byte2 .put-byte2 .ensures), at-put-argument .put-argument .ensures .ends, same (at-put-argument .put-argument .ensures), at-put-name .put-name .ensures .ends, same (at-put-name .put-name .ensures), start .pre .1 .1))
 
 returns : tie.Need-returns
+unfolding effect-of
 returns c =
     let at-put-name2 = c .before .before in
     let at-put-name = at-put-name2 .before .before .before .before in
@@ -81,7 +84,7 @@ returns c =
     let m = at-names-of .names-of .ensures .0 in
     known-as
     (then (then (then (then (at-put-byte .put-byte .ensures) (at-put-byte2 .put-byte2 .ensures)) (at-put-argument .put-argument .ensures)) (known-as (at-put-name .put-name .ensures) (ap name-bytes m))) (known-as (at-put-name2 .put-name2 .ensures) (ap (λ (k : ℕ). name-bytes (k + 1)) m)))
-    (sym (redex-4 w (start .pre .1 .0)))
+    (sym (redex-by w (start .pre .1 .0)))
 
 pub put-handler-spec : {M : Type 1} → statement M
 put-handler-spec =

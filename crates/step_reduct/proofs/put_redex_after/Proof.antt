@@ -1,101 +1,123 @@
--- `step_reduct::put_redex_after` meets its contract.
+-- `step_reduct::put_redex_after` meets its contract, rule by rule.
 use mathlib.Core.Path.{ap, sym, _∙_}
 use native.Mathlib.Omega.{arith}
 use lib.ListN.{length}
 use Rattle.buffer.specs.Theory.Writes.{known-as}
-use Rattle.step_rules.specs.Moves.{name-bytes}
-use Rattle.step_reduct.proofs.Redexes.{redex-1, redex-5, redex-7, redex-new, one-name, length-5}
+use Rattle.step_rules.specs.Effects.{bytes-between, name-bytes, effect-of}
+use Rattle.step_rules.specs.Theory.Writers.{has-by}
+use Rattle.step_reduct.proofs.Redexes.{redex-by, names-by, length-7}
 use Rattle.step_reduct.proofs.Outcomes.{body-good, body-few, redex-length}
 use borrow.Author.Needs.{needs}
 use Rattle.step_reduct.proofs.put_redex_after.Statement.{statement}
 use Rattle.step_reduct.proofs.put_redex_after.Tie as tie
 
--- from each place to the one before it
-abbrev before-else1 : tie.Else1 → tie.Start
-before-else1 c = c .before .before .before
-
 put-applied-requires : tie.Need-put-applied-requires
 put-applied-requires c κs =
-    let start = c .before .before .before .before .before in
+    let t = c .before .before in
+    let start = t .before .before .before .before in
     let w = start .pre .0 in
-    let e = c .before .before .if1 .taken in
+    let e = t .enum-told .given .1 in
     ((body-good w e, body-few w e), ((w .movable .argument .good, w .movable .argument-ends), omega (arith, redex-length w e, start .pre .1)))
 
 returns : tie.Need-returns
+unfolding effect-of
 returns c =
-    let in-then1 = c .before .before .before .before .before in
-    let start = in-then1 .before .before .before in
-    known-as (c .before .before .put-applied .ensures) (sym (redex-1 (start .pre .0) (in-then1 .if1 .taken)))
-
-put-byte-requires : tie.Need-put-byte-requires
-put-byte-requires c κs =
-    let start = before-else1 (c .before .before .before .before) in
-    omega (arith, length-5 (start .pre .0) (c .before .if4 .taken), start .pre .1)
-
-returns-4 : tie.Need-returns-4
-returns-4 c =
-    let in-then4 = c .before .before .before .before in
-    let start = before-else1 (in-then4 .before .before .before) in
-    known-as (c .before .before .put-byte .ensures) (sym (redex-5 (start .pre .0) (in-then4 .if4 .taken)))
-
-put-copied-requires : tie.Need-put-copied-requires
-put-copied-requires c κs =
-    let start = before-else1 (c .before .before .before .before .before) in
-    let w = start .pre .0 in
-    (w, omega (arith, ap length (redex-7 w (c .before .if5 .taken)), start .pre .1))
-
-returns-5 : tie.Need-returns-5
-returns-5 c =
-    let in-then5 = c .before .before .before .before in
-    let start = before-else1 (in-then5 .before .before .before .before) in
-    known-as (c .before .before .put-copied .ensures) (sym (redex-7 (start .pre .0) (in-then5 .if5 .taken)))
+    let t = c .before .before .before .before .before in
+    let start = t .before .before .before .before in
+    known-as (c .before .before .put-applied .ensures) (sym (redex-by (start .pre .0) (t .enum-told .given .1)))
 
 put-name-requires : tie.Need-put-name-requires
+unfolding effect-of
 put-name-requires c κs =
-    let in-else3 = c .before .before .before .before in
-    let in-else2 = in-else3 .before in
-    let in-else1 = in-else2 .before in
-    let start = before-else1 in-else1 in
-    let w = start .pre .0 in
-    let a = in-else1 .if1 .left in
-    let b = in-else2 .if2 .left in
-    let d = in-else3 .if3 .left in
-    let e = c .before .before .before .if4 .left in
-    let f = c .before .before .if5 .left in
-    (omega (arith, one-name w a b d e f, c .names-of .ensures .0), omega (arith, ap length (redex-new w a b d e f), start .pre .1))
+    let t = c .before .before in
+    let start = t .before .before .before .before in
+    let e = t .enum-told2 .given .1 in
+    (omega (arith, names-by (start .pre .0) e, c .names-of .ensures .0), omega (arith, ap length (redex-by (start .pre .0) e), start .pre .1))
+
+returns-2 : tie.Need-returns-2
+unfolding effect-of
+returns-2 c =
+    let t = c .before .before .before .before .before in
+    let start = t .before .before .before .before in
+    known-as (c .before .before .put-name .ensures) (ap name-bytes (c .before .before .before .names-of .ensures .0) ∙ sym (redex-by (start .pre .0) (t .enum-told2 .given .1)))
+
+put-byte-requires : tie.Need-put-byte-requires
+unfolding effect-of
+put-byte-requires c κs =
+    let t = c .before in
+    let start = t .before .before .before .before in
+    omega (arith, ap length (redex-by (start .pre .0) (t .enum-told4 .given .1)), start .pre .1)
+
+returns-5 : tie.Need-returns-5
+unfolding effect-of
+returns-5 c =
+    let t = c .before .before .before .before in
+    let start = t .before .before .before .before in
+    known-as (c .before .before .put-byte .ensures) (sym (redex-by (start .pre .0) (t .enum-told4 .given .1)))
+
+put-name-requires-2 : tie.Need-put-name-requires-2
+unfolding effect-of
+put-name-requires-2 c κs =
+    let t = c .before .before in
+    let start = t .before .before .before .before in
+    let e = t .enum-told5 .given .1 in
+    (omega (arith, names-by (start .pre .0) e, c .names-of2 .ensures .0), omega (arith, ap length (redex-by (start .pre .0) e), start .pre .1))
 
 returns-6 : tie.Need-returns-6
+unfolding effect-of
 returns-6 c =
-    let in-else5 = c .before .before .before .before .before in
-    let in-else4 = in-else5 .before in
-    let in-else3 = in-else4 .before in
-    let in-else2 = in-else3 .before in
-    let in-else1 = in-else2 .before in
-    let start = before-else1 in-else1 in
+    let t = c .before .before .before .before .before in
+    let start = t .before .before .before .before in
+    known-as (c .before .before .put-name2 .ensures) (ap name-bytes (c .before .before .before .names-of2 .ensures .0) ∙ sym (redex-by (start .pre .0) (t .enum-told5 .given .1)))
+
+put-part-requires : tie.Need-put-part-requires
+put-part-requires c κs =
+    let k = c .before .before in
+    let start = k .before .before .before .before in
     let w = start .pre .0 in
-    known-as (c .before .before .put-name .ensures) (ap name-bytes (c .before .before .before .names-of .ensures .0) ∙ sym (redex-new w (in-else1 .if1 .left) (in-else2 .if2 .left) (in-else3 .if3 .left) (in-else4 .if4 .left) (in-else5 .if5 .left)))
+    let e = k .by2 .given .1 in
+    let v = has-by (w .movable) e in
+    (v .onward, (v .inside, omega (arith, v .onward, length-7 w e, start .pre .1)))
+
+returns-7 : tie.Need-returns-7
+unfolding effect-of bytes-between
+returns-7 c =
+    let k = c .before .before .before .before .before in
+    let start = k .before .before .before .before in
+    known-as (c .before .before .put-part .ensures) (sym (redex-by (start .pre .0) (k .by2 .given .1)))
 
 pub put-redex-after-spec : {M : Type 1} → statement M
 put-redex-after-spec =
     tie.close
     (tie.spec
     (λ c. search needs)
+    (λ c. search needs)
     put-applied-requires
     (λ c. search needs)
-    returns
-    (λ c κs. search needs)
-    (λ c. search needs)
-    (λ c. search needs)
-    (λ c κs. search needs)
-    (λ c. search needs)
-    (λ c. search needs)
-    put-byte-requires
-    (λ c. search needs)
-    returns-4
-    put-copied-requires
-    (λ c. search needs)
-    returns-5
     (λ c κs. search needs)
     put-name-requires
     (λ c. search needs)
-    returns-6)
+    (λ c κs. search needs)
+    (λ c. search needs)
+    (λ c κs. search needs)
+    (λ c. search needs)
+    put-byte-requires
+    (λ c. search needs)
+    (λ c κs. search needs)
+    put-name-requires-2
+    (λ c. search needs)
+    put-part-requires
+    (λ c. search needs)
+    returns
+    (λ c. search needs)
+    returns-2
+    (λ c. search needs)
+    (λ c. search needs)
+    (λ c. search needs)
+    (λ c. search needs)
+    (λ c. search needs)
+    returns-5
+    (λ c. search needs)
+    returns-6
+    (λ c. search needs)
+    returns-7)

@@ -4,7 +4,8 @@ use Prim.Native.Nat.{_-_, _+_, ℕ}
 use native.Mathlib.Omega.{arith}
 use lib.ListN.{take, drop}
 use Rattle.buffer.specs.Theory.Writes.{same, then, known-as}
-use Rattle.step_rules.specs.Moves.{bytes-between, expression-after}
+use Rattle.step_rules.specs.Effects.{bytes-between}
+use Rattle.step_rules.specs.Moves.{expression-after}
 use Rattle.step_reduct.proofs.Redexes.{length-between, has-thread, expression-length}
 use borrow.Author.Needs.{needs}
 use Rattle.step_reduct.proofs.put_thread_after.Statement.{statement}
@@ -33,7 +34,7 @@ put-part-requires c κs =
     let o = c .before .before .offset-at .ensures .0 in
     (omega (arith, o, w .movable .begins), (omega (arith, w .movable .second, w .movable .third, w .movable .ends, w .movable .inside), omega (arith, o, expression-length w, start .pre .1)))
 
-first-part : (c : tie.After-put-redex-after-arg) → c .before .before .before .put-part .result ≡ before-length-at (before-put-redex-after-arg c) .args .at + (before-length-at (before-put-redex-after-arg c) .args .step .at - (before-put-redex-after-arg c) .before .offset-at .result)
+first-part : (c : tie.After-put-redex-after-arg) → c .before .before .before .put-part .result ≡ before-length-at (before-put-redex-after-arg c) .args .at + (before-length-at (before-put-redex-after-arg c) .args .step .meeting .at - (before-put-redex-after-arg c) .before .offset-at .result)
 unfolding bytes-between
 first-part c =
     let at-offset-at = (before-put-redex-after-arg c) .before in
@@ -43,7 +44,7 @@ first-part c =
     omega (
       arith,
       c .before .before .before .put-part .ensures .ends,
-      length-between (start .args .image .now) (at-offset-at .offset-at .result) (start .args .step .at) (omega (arith, o, w .movable .begins)) (omega (arith, w .movable .second, w .movable .third, w .movable .ends, w .movable .inside)),
+      length-between (start .args .image .now) (at-offset-at .offset-at .result) (start .args .step .meeting .at) (omega (arith, o, w .movable .begins)) (omega (arith, w .movable .second, w .movable .third, w .movable .ends, w .movable .inside)),
     )
 
 put-redex-after-requires : tie.Need-put-redex-after-requires
@@ -79,7 +80,7 @@ returns c =
     let at-offset-at = at-length-at .before in
     let start = before-offset-at at-offset-at in
     let s = start .args .image .now in
-    let m = start .args .step in
+    let m = start .args .step .meeting in
     let o = at-offset-at .offset-at .ensures .0 in
     let l = at-length-at .length-at .ensures .0 in
     then (then (known-as (at-put-part .put-part .ensures) (ap (λ (k : ℕ). take (m .at - k) (drop k s)) o)) (at-put-redex-after .put-redex-after .ensures)) (known-as (at-put-part2 .put-part2 .ensures) (ap₂ (λ (k n : ℕ). take (k + n - m .end) (drop (m .end) s)) o l))

@@ -1,58 +1,78 @@
--- `step_reduct::redex_size` meets its contract.
+-- `step_reduct::redex_size` meets its contract, rule by rule.
 use mathlib.Core.Path.{ap}
 use native.Mathlib.Omega.{arith}
 use lib.ListN.{length}
-use Rattle.step_reduct.proofs.Redexes.{redex-new, length-3, length-4, length-5, length-7}
+use Rattle.step_rules.specs.Effects.{effect-of}
+use Rattle.step_rules.specs.Theory.Writers.{has-by}
+use Rattle.step_reduct.proofs.Redexes.{redex-by, length-3, length-4, length-7}
 use borrow.Author.Needs.{needs}
 use Rattle.step_reduct.proofs.redex_size.Statement.{statement}
 use Rattle.step_reduct.proofs.redex_size.Tie as tie
 
+sub-result-3 : tie.Need-sub-result-3
+sub-result-3 c = has-by (c .before .before .before .before .pre .movable) (c .before .by .given .1) .1 .onward
+
+add-result : tie.Need-add-result
+add-result c =
+    let w = c .before .before .before .before .pre in
+    let v = has-by (w .movable) (c .before .by .given .1) .1 in
+    omega (arith, v .onward, v .inside, w .short, w .movable .ends, w .movable .inside)
+
+sub-result-4 : tie.Need-sub-result-4
+sub-result-4 c = has-by (c .before .before .before .before .pre .movable) (c .before .by2 .given .1) .onward
+
 returns-2 : tie.Need-returns-2
-returns-2 c =
-    let start = c .before .before .before .before .before in
-    let w = start .pre in
-    omega (arith, length-3 w (c .before .before .if2 .taken), w .short, w .movable .copied-inside, w .movable .ends, w .movable .inside)
+unfolding effect-of
+returns-2 c = omega (arith, ap length (redex-by (c .before .before .before .pre) (c .enum-told2 .given .1)))
 
 returns-3 : tie.Need-returns-3
 returns-3 c =
-    let start = c .before .before .before .before .before in
-    let w = start .pre in
-    omega (arith, length-4 w (c .before .if3 .taken), w .short, w .movable .ends, w .movable .inside)
+    let w = c .before .before .before .before .pre in
+    let e = c .before .by .given .1 in
+    omega (arith, length-3 w e, has-by (w .movable) e .1 .inside, w .short, w .movable .ends, w .movable .inside)
 
 returns-4 : tie.Need-returns-4
 returns-4 c =
-    let start = c .before .before .before .before .before in
-    let w = start .pre in
-    omega (arith, length-5 w (c .if4 .taken))
+    let w = c .before .before .before .before .pre in
+    omega (arith, c .argument-size .ensures, length-4 w (c .before .enum-told3 .given .1), w .short, w .movable .ends, w .movable .inside)
 
 returns-5 : tie.Need-returns-5
-returns-5 c =
-    let start = c .before .before .before .before .before .before .before in
-    let w = start .pre in
-    omega (arith, length-7 w (c .before .if5 .taken), w .short, w .movable .copied-inside)
+unfolding effect-of
+returns-5 c = omega (arith, ap length (redex-by (c .before .before .before .pre) (c .enum-told4 .given .1)))
 
 returns-6 : tie.Need-returns-6
-returns-6 c =
-    let in-else1 = c .before .before .before .before in
-    let start = in-else1 .before .before in
-    let w = start .pre in
-    omega (arith, ap length (redex-new w (in-else1 .if1 .left) (c .before .before .before .if2 .left) (c .before .before .if3 .left) (c .before .if4 .left) (c .if5 .left)))
+unfolding effect-of
+returns-6 c = omega (arith, ap length (redex-by (c .before .before .before .pre) (c .enum-told5 .given .1)))
+
+returns-7 : tie.Need-returns-7
+returns-7 c =
+    let w = c .before .before .before .before .pre in
+    let e = c .before .by2 .given .1 in
+    omega (arith, length-7 w e, has-by (w .movable) e .inside, w .short)
 
 pub redex-size-spec : {M : Type 1} → statement M
 redex-size-spec =
     tie.close
     (tie.spec
+    (λ c. search needs)
     (λ c κs. search needs)
     (λ c. search needs)
     (λ c. search needs)
     (λ c. search needs)
     (λ c. search needs)
+    sub-result-3
+    add-result
+    (λ c. search needs)
+    (λ c κs. search needs)
+    (λ c. search needs)
+    (λ c. search needs)
+    (λ c. search needs)
+    (λ c. search needs)
+    sub-result-4
     (λ c. search needs)
     returns-2
-    (λ c. search needs)
-    (λ c. search needs)
     returns-3
     returns-4
-    (λ c. search needs)
     returns-5
-    returns-6)
+    returns-6
+    returns-7)

@@ -14,19 +14,21 @@ use Rattle.term.specs.Expressions.{bytes, const-bytes, exp-of, leaf-exp, leaf-f
 use Rattle.image_layout.specs.Encoded.{expressions, head, heads, image-bytes}
 use Rattle.image_layout.specs.Slice.{companion-at, encoded-at, expression-at, kind-at, length-at, names, offset-at}
 use Rattle.step_rules.specs.declared.Move.{Move}
-use Rattle.step_rules.specs.Moves.{component-after, bytes-between, components-after, expression-after, image-after, names-after, new-names, node-counts, nodes-after, other-after, others, redex-after, redexes}
+use Rattle.step_rules.specs.declared.Move.the-variants.{Beta, ThreadNew, FutureDeref, HandleNew, HandleBind, CellNew, CellExch}
+use Rattle.step_rules.specs.declared.Step.{Step}
+use Rattle.step_rules.specs.Effects.{bytes-between, effect-of}
+use Rattle.step_rules.specs.Moves.{component-after, components-after, expression-after, from-name, image-after, look-up, names-after, nodes-after, other-after}
 
--- an image and its nodes, a move, and the image and its nodes after it
+-- an image and its nodes, a step, and the image and its nodes after it
 record Row : Type 0 where
   before : List ℕ
   nodes-before : ℕ
-  move : Move
+  step : Step
   next : List ℕ
   nodes-next : ℕ
 
-abbrev move : ℕ → ℕ → ℕ → ℕ → ℕ → ℕ → ℕ → ℕ → ℕ → Move
-move rule thread at argument end name from to future =
-    record { rule = rule; thread = thread; at = at; argument = argument; end = end; name = name; from = from; to = to; future = future }
+abbrev step : ℕ → ℕ → ℕ → ℕ → Move → Step
+step thread at argument end by = record { thread = thread; meeting = record { at = at; argument = argument; end = end }; by = by }
 
 abbrev rows : List Row
 rows =
@@ -34,7 +36,7 @@ rows =
     record {
       before = 2 ∷ 0 ∷ 2 ∷ 0 ∷ 14 ∷ 0 ∷ 3 ∷ 0 ∷ 1 ∷ 0 ∷ 17 ∷ 0 ∷ 9 ∷ 0 ∷ 4 ∷ 0 ∷ 0 ∷ 2 ∷ 2 ∷ 6 ∷ 4 ∷ 9 ∷ 0 ∷ 4 ∷ 250 ∷ 0 ∷ [];
       nodes-before = 6;
-      move = move 7 1 17 23 26 0 14 17 0;
+      step = step 1 17 23 26 (CellExch 0 14 17);
       next = 2 ∷ 0 ∷ 2 ∷ 0 ∷ 14 ∷ 0 ∷ 3 ∷ 0 ∷ 1 ∷ 0 ∷ 17 ∷ 0 ∷ 3 ∷ 0 ∷ 4 ∷ 250 ∷ 0 ∷ 4 ∷ 0 ∷ 0 ∷ [];
       nodes-next = 2;
     }
@@ -42,28 +44,28 @@ rows =
     ∷ record {
       before = 2 ∷ 0 ∷ 2 ∷ 0 ∷ 14 ∷ 0 ∷ 3 ∷ 0 ∷ 1 ∷ 0 ∷ 17 ∷ 0 ∷ 12 ∷ 0 ∷ 4 ∷ 0 ∷ 0 ∷ 2 ∷ 8 ∷ 6 ∷ 1 ∷ 5 ∷ 1 ∷ 4 ∷ 2 ∷ 0 ∷ 0 ∷ 0 ∷ 1 ∷ [];
       nodes-before = 8;
-      move = move 4 1 17 20 29 0 0 0 0;
+      step = step 1 17 20 29 HandleNew;
       next = 4 ∷ 0 ∷ 2 ∷ 0 ∷ 26 ∷ 0 ∷ 3 ∷ 0 ∷ 1 ∷ 0 ∷ 29 ∷ 0 ∷ 15 ∷ 0 ∷ 5 ∷ 0 ∷ 44 ∷ 0 ∷ 0 ∷ 0 ∷ 3 ∷ 2 ∷ 44 ∷ 0 ∷ 0 ∷ 0 ∷ 4 ∷ 0 ∷ 0 ∷ 2 ∷ 2 ∷ 1 ∷ 5 ∷ 1 ∷ 4 ∷ 2 ∷ 0 ∷ 0 ∷ 0 ∷ 1 ∷ 9 ∷ 2 ∷ 9 ∷ 3 ∷ [];
       nodes-next = 10;
     }
     ∷ record {
       before = 4 ∷ 0 ∷ 2 ∷ 0 ∷ 26 ∷ 0 ∷ 3 ∷ 0 ∷ 1 ∷ 0 ∷ 29 ∷ 0 ∷ 15 ∷ 0 ∷ 5 ∷ 0 ∷ 44 ∷ 0 ∷ 0 ∷ 0 ∷ 3 ∷ 2 ∷ 44 ∷ 0 ∷ 0 ∷ 0 ∷ 4 ∷ 0 ∷ 0 ∷ 2 ∷ 2 ∷ 1 ∷ 5 ∷ 1 ∷ 4 ∷ 2 ∷ 0 ∷ 0 ∷ 0 ∷ 1 ∷ 9 ∷ 2 ∷ 9 ∷ 3 ∷ [];
       nodes-before = 10;
-      move = move 1 1 30 40 42 0 0 0 0;
+      step = step 1 30 40 42 Beta;
       next = 4 ∷ 0 ∷ 2 ∷ 0 ∷ 26 ∷ 0 ∷ 3 ∷ 0 ∷ 1 ∷ 0 ∷ 29 ∷ 0 ∷ 10 ∷ 0 ∷ 5 ∷ 0 ∷ 39 ∷ 0 ∷ 0 ∷ 0 ∷ 3 ∷ 2 ∷ 39 ∷ 0 ∷ 0 ∷ 0 ∷ 4 ∷ 0 ∷ 0 ∷ 2 ∷ 1 ∷ 4 ∷ 2 ∷ 0 ∷ 0 ∷ 9 ∷ 2 ∷ 9 ∷ 3 ∷ [];
       nodes-next = 7;
     }
     ∷ record {
       before = 4 ∷ 0 ∷ 2 ∷ 0 ∷ 26 ∷ 0 ∷ 3 ∷ 0 ∷ 1 ∷ 0 ∷ 29 ∷ 0 ∷ 10 ∷ 0 ∷ 5 ∷ 0 ∷ 39 ∷ 0 ∷ 0 ∷ 0 ∷ 3 ∷ 2 ∷ 39 ∷ 0 ∷ 0 ∷ 0 ∷ 4 ∷ 0 ∷ 0 ∷ 2 ∷ 1 ∷ 4 ∷ 2 ∷ 0 ∷ 0 ∷ 9 ∷ 2 ∷ 9 ∷ 3 ∷ [];
       nodes-before = 7;
-      move = move 1 1 29 37 39 0 0 0 0;
+      step = step 1 29 37 39 Beta;
       next = 4 ∷ 0 ∷ 2 ∷ 0 ∷ 26 ∷ 0 ∷ 3 ∷ 0 ∷ 1 ∷ 0 ∷ 29 ∷ 0 ∷ 5 ∷ 0 ∷ 5 ∷ 0 ∷ 34 ∷ 0 ∷ 0 ∷ 0 ∷ 3 ∷ 2 ∷ 34 ∷ 0 ∷ 0 ∷ 0 ∷ 4 ∷ 0 ∷ 0 ∷ 2 ∷ 9 ∷ 3 ∷ 9 ∷ 2 ∷ [];
       nodes-next = 4;
     }
     ∷ record {
       before = 4 ∷ 0 ∷ 2 ∷ 0 ∷ 26 ∷ 0 ∷ 3 ∷ 0 ∷ 1 ∷ 0 ∷ 29 ∷ 0 ∷ 5 ∷ 0 ∷ 5 ∷ 0 ∷ 34 ∷ 0 ∷ 0 ∷ 0 ∷ 3 ∷ 2 ∷ 34 ∷ 0 ∷ 0 ∷ 0 ∷ 4 ∷ 0 ∷ 0 ∷ 2 ∷ 9 ∷ 3 ∷ 9 ∷ 2 ∷ [];
       nodes-before = 4;
-      move = move 5 1 29 32 34 3 0 0 2;
+      step = step 1 29 32 34 (HandleBind 3 2);
       next = 4 ∷ 0 ∷ 2 ∷ 0 ∷ 26 ∷ 0 ∷ 3 ∷ 0 ∷ 1 ∷ 0 ∷ 29 ∷ 0 ∷ 1 ∷ 0 ∷ 1 ∷ 0 ∷ 30 ∷ 0 ∷ 2 ∷ 0 ∷ 4 ∷ 0 ∷ 32 ∷ 0 ∷ 0 ∷ 0 ∷ 4 ∷ 0 ∷ 0 ∷ 3 ∷ 9 ∷ 2 ∷ [];
       nodes-next = 3;
     }
@@ -71,14 +73,14 @@ rows =
     ∷ record {
       before = 1 ∷ 0 ∷ 1 ∷ 0 ∷ 8 ∷ 0 ∷ 4 ∷ 0 ∷ 2 ∷ 7 ∷ 3 ∷ 3 ∷ [];
       nodes-before = 3;
-      move = move 2 0 8 11 12 0 0 0 0;
+      step = step 0 8 11 12 ThreadNew;
       next = 2 ∷ 0 ∷ 1 ∷ 0 ∷ 14 ∷ 0 ∷ 2 ∷ 0 ∷ 1 ∷ 0 ∷ 16 ∷ 0 ∷ 4 ∷ 0 ∷ 9 ∷ 1 ∷ 2 ∷ 3 ∷ 9 ∷ 1 ∷ [];
       nodes-next = 4;
     }
     ∷ record {
       before = 1 ∷ 0 ∷ 1 ∷ 0 ∷ 8 ∷ 0 ∷ 4 ∷ 0 ∷ 2 ∷ 5 ∷ 2 ∷ 3 ∷ [];
       nodes-before = 3;
-      move = move 6 0 8 11 12 0 0 0 0;
+      step = step 0 8 11 12 CellNew;
       next = 2 ∷ 0 ∷ 1 ∷ 0 ∷ 14 ∷ 0 ∷ 2 ∷ 0 ∷ 2 ∷ 0 ∷ 16 ∷ 0 ∷ 1 ∷ 0 ∷ 9 ∷ 1 ∷ 3 ∷ [];
       nodes-next = 2;
     }
@@ -86,14 +88,14 @@ rows =
     ∷ record {
       before = 2 ∷ 0 ∷ 1 ∷ 0 ∷ 14 ∷ 0 ∷ 4 ∷ 0 ∷ 1 ∷ 0 ∷ 18 ∷ 0 ∷ 4 ∷ 0 ∷ 2 ∷ 9 ∷ 1 ∷ 3 ∷ 1 ∷ 3 ∷ 0 ∷ 0 ∷ [];
       nodes-before = 5;
-      move = move 3 0 14 17 18 1 18 22 0;
+      step = step 0 14 17 18 (FutureDeref 18 22);
       next = 2 ∷ 0 ∷ 1 ∷ 0 ∷ 14 ∷ 0 ∷ 6 ∷ 0 ∷ 1 ∷ 0 ∷ 20 ∷ 0 ∷ 4 ∷ 0 ∷ 2 ∷ 1 ∷ 3 ∷ 0 ∷ 0 ∷ 3 ∷ 1 ∷ 3 ∷ 0 ∷ 0 ∷ [];
       nodes-next = 6;
     }
     ∷ record {
       before = 2 ∷ 0 ∷ 1 ∷ 0 ∷ 14 ∷ 0 ∷ 7 ∷ 0 ∷ 1 ∷ 0 ∷ 21 ∷ 0 ∷ 4 ∷ 0 ∷ 2 ∷ 2 ∷ 6 ∷ 4 ∷ 9 ∷ 1 ∷ 3 ∷ 1 ∷ 3 ∷ 0 ∷ 0 ∷ [];
       nodes-before = 7;
-      move = move 3 0 14 20 21 1 21 25 0;
+      step = step 0 14 20 21 (FutureDeref 21 25);
       next = 2 ∷ 0 ∷ 1 ∷ 0 ∷ 14 ∷ 0 ∷ 9 ∷ 0 ∷ 1 ∷ 0 ∷ 23 ∷ 0 ∷ 4 ∷ 0 ∷ 2 ∷ 2 ∷ 6 ∷ 4 ∷ 1 ∷ 3 ∷ 0 ∷ 0 ∷ 3 ∷ 1 ∷ 3 ∷ 0 ∷ 0 ∷ [];
       nodes-next = 8;
     }
@@ -101,8 +103,8 @@ rows =
 
 abbrev Hold : List Row → Type 0
 Hold [] = Unit {0}
-Hold (r ∷ rs) = ((image-after (r .before) (r .move) ≡ r .next) × (nodes-after (r .nodes-before) (r .before) (r .move) ≡ r .nodes-next)) × Hold rs
+Hold (r ∷ rs) = ((image-after (r .before) (r .step) ≡ r .next) × (nodes-after (r .nodes-before) (r .before) (r .step) ≡ r .nodes-next)) × Hold rs
 
 pub cases : Hold rows
-unfolding image-after components-after component-after other-after others expression-after redex-after redexes bytes-between names-after new-names nodes-after node-counts tabulate image-bytes heads head expressions two-bytes word names kind-at companion-at offset-at length-at expression-at encoded-at bytes const-bytes substitute uses nodes term-of exp-of leaf-exp leaf-forms two-exp read-term read form-of forms value-of
+unfolding image-after components-after component-after other-after look-up from-name expression-after effect-of bytes-between names-after nodes-after tabulate image-bytes heads head expressions two-bytes word names kind-at companion-at offset-at length-at expression-at encoded-at bytes const-bytes substitute uses nodes term-of exp-of leaf-exp leaf-forms two-exp read-term read form-of forms value-of
 cases = ((refl, refl), ((refl, refl), ((refl, refl), ((refl, refl), ((refl, refl), ((refl, refl), ((refl, refl), ((refl, refl), ((refl, refl), tt)))))))))

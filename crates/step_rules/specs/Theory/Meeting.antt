@@ -8,6 +8,7 @@ use lib.Dec.{eqb}
 use lib.ListN.{drop, length, length-drop, take}
 use lib.Seq.{drop-drop, take-at}
 use Rattle.calculus.specs.Lists.{tabulate}
+use Rattle.calculus.specs.Kinds.{no-owner}
 use Rattle.calculus.specs.Syntax.{Exp, lam, app, Value, thread-of, Config}
 use Rattle.calculus.specs.Reduction.{Context, plug}
 use Rattle.calculus.specs.Image.{size}
@@ -18,13 +19,15 @@ use Rattle.term.proofs.Trees.{fits-lam}
 use Rattle.image_layout.specs.Encoded.{Encoded}
 use Rattle.image_layout.specs.Slice.{names, offset-at, length-at, encoded-at, encoded-all}
 use Rattle.image.specs.Configuration.{encode, config-of}
+use Rattle.image.specs.Owned.{thread-holding}
 use Rattle.image.specs.Theory.Exactly.{written-back}
 use Rattle.term_redex.specs.declared.Meeting.{Meeting}
 use Rattle.term_redex.specs.Contexts.{back, front}
 use Rattle.term_redex.proofs.Contexts.{plug-bytes}
 use Rattle.step_rules.specs.declared.Move.{Move}
-use Rattle.step_rules.specs.Moves.{bytes-between, thread-holding, argument-bytes, redex-after, expression-after, other-after, component-after, names-after, components-after}
-use Rattle.step_rules.specs.Meets.{move-of, MeetsAt}
+use Rattle.step_rules.specs.Effects.{bytes-between, argument-bytes, effect-of}
+use Rattle.step_rules.specs.Moves.{expression-after, other-after, component-after, names-after, components-after}
+use Rattle.step_rules.specs.Meets.{step-at, MeetsAt}
 use Rattle.step_rules.specs.Theory.Changes.{Table}
 
 -- the front of what stands at a position
@@ -55,29 +58,26 @@ pub table-start : {s : List ℕ} {x : ℕ} {m : Meeting} {F : Context} {f : Exp}
 unfolding encoded-all
 table-start {s} M = record { is = written-back s (M .in-bytes) (M .stands) }
 
-module _ {s : List ℕ} {x : ℕ} {m : Meeting} {F : Context} {f : Exp} {w : Value f} {v : Exp} (M : MeetsAt s x m F w v) (rule name from to future : ℕ) where
-  abbrev move : Move
-  move = move-of rule x m name from to future
-
+module _ {s : List ℕ} {x : ℕ} {m : Meeting} {F : Context} {f : Exp} {w : Value f} {v : Exp} (M : MeetsAt s x m F w v) where
   -- the argument
-  pub argument-is : argument-bytes s move ≡ bytes v
-  unfolding move-of
+  pub argument-is : argument-bytes s m ≡ bytes v
   argument-is = between-term (m .end) (M .placed .argument) (M .placed .ends)
 
   -- the thread's expression after a step, whatever came in place of the application
-  pub expression-is : (r : Exp) → redex-after s move ≡ bytes r → expression-after s move ≡ bytes (plug F r)
-  unfolding move-of expression-after bytes-between
-  expression-is r e =
+  pub expression-is : (by : Move) (r : Exp) → effect-of s m by .redex ≡ bytes r → expression-after s (step-at x m by) ≡ bytes (plug F r)
+  unfolding expression-after bytes-between
+  expression-is by r e =
       let n : offset-at s x + length-at s x ≡ offset-at s x + size (plug F (app f v)) = ap (λ k. offset-at s x + k) (M .long) in
       let a : take (offset-at s x + length-at s x - m .end) (drop (m .end) s) ≡ back F = ap (λ k. take (k - m .end) (drop (m .end) s)) n ∙ M .placed .after in
       ap₂ (λ (p q : List ℕ). p ++ q) (ap₂ (λ (p q : List ℕ). p ++ q) (M .placed .before) e) a ∙ append-assoc (front F) (bytes r) (back F) ∙ sym (plug-bytes F r)
 
   -- the components after a step are those of a configuration
-  pub components-are : (r : Exp) → redex-after s move ≡ bytes r → (C : Config) (n : ℕ) (g : ℕ → Encoded) → Table C n g → n ≡ names-after s move
-      → ((k : ℕ) → g k ≡ cond (eqb k x) (encode (thread-of (plug F r))) (other-after s move k)) → components-after s move ≡ map encode C
-  unfolding move-of components-after component-after encode
-  components-are r e C n g t k h =
-      let p = expression-is r e in
-      sym (tabulate-same (names-after s move) g (component-after s move) (λ i l. h i ∙ ap (λ b. cond (eqb i x) (thread-holding b) (other-after s move i)) (sym p)))
+  pub components-are : (by : Move) (r : Exp) → effect-of s m by .redex ≡ bytes r → (C : Config) (n : ℕ) (g : ℕ → Encoded) → Table C n g → n ≡ names-after s (step-at x m by)
+      → ((k : ℕ) → g k ≡ cond (eqb k x) (encode (thread-of (plug F r))) (other-after s (step-at x m by) k)) → components-after s (step-at x m by) ≡ map encode C
+  unfolding components-after component-after encode
+  components-are by r e C n g t k h =
+      let step = step-at x m by in
+      let p = expression-is by r e in
+      sym (tabulate-same (names-after s step) g (component-after s step) (λ i l. h i ∙ ap (λ b. cond (eqb i x) (thread-holding no-owner b) (other-after s step i)) (sym p)))
       ∙ ap (λ j. tabulate j g) (sym k)
       ∙ sym (t .is)

@@ -3,14 +3,15 @@ use mathlib.Core.Path.{_∙_, _≡_, ap, ap₂, refl, sym, subst}
 use mathlib.Core.Bool.{cond}
 use mathlib.Core.Option.{some}
 use mathlib.Core.List.{List, [], _++_, _∷_, append-assoc}
-use Prim.Native.Nat.{ℕ, _+_, _-_, _≤_, _<_}
+use Prim.Native.Nat.{ℕ, _+_, _-_, _≤_}
 use native.Mathlib.Omega.{arith}
 use lib.Dec.{eqb}
 use lib.ListN.{length, set}
 use Rattle.image.specs.Theory.Lengths.{length-config}
 use Rattle.calculus.specs.Theory.Configurations.{sum-append, sum-set, sum-part}
-use Rattle.calculus.specs.Syntax.{Op, unit, op, cell, exch, thread, handle, Exp, name, const, app, Value, is-name, is-const, is-lam, is-exch, Component, thread-of, holds, open-for, used, awaited, Config, at, sum-in, sum-all}
-use Rattle.calculus.specs.Reduction.{substitute, Context, plug, put, Rule, BETA, THREAD-NEW, FUTURE-DEREF, HANDLE-NEW, HANDLE-BIND, CELL-NEW, CELL-EXCH, number}
+use Rattle.calculus.specs.Syntax.{unit, op, cell, exch, thread, handle, Exp, name, const, app, Value, is-name, is-const, is-lam, is-exch, Component, thread-of, holds, open-for, used, awaited, Config, at, sum-in, sum-all}
+use Rattle.calculus.specs.Reduction.{substitute, Context, plug, put, HANDLE-NEW}
+use Rattle.calculus.specs.Kinds.{no-owner}
 use Rattle.calculus.specs.Names.{count}
 use Rattle.calculus.specs.Step.{rule, step-meeting, step-call, step-exchange, when-done}
 use Rattle.calculus.specs.Image.{nodes, nodes-all, size, const-size}
@@ -22,41 +23,42 @@ use Rattle.term.proofs.Expressions.{found-at}
 use Rattle.image_layout.specs.Encoded.{Encoded, image-bytes}
 use Rattle.image_layout.specs.Slice.{names, offset-at, length-at, encoded-at}
 use Rattle.image.specs.Configuration.{encode, config-of, image-of}
+use Rattle.image.specs.Owned.{thread-holding, cell-holding}
 use Rattle.term_redex.specs.declared.Meeting.{Meeting}
 use Rattle.term_redex.proofs.Contexts.{plug-nodes}
 use Rattle.term_subst.specs.Theory.Outcome.{nodes-substitute}
+use Rattle.step_rules.specs.declared.Move.{Move}
+use Rattle.step_rules.specs.declared.Move.the-variants.{Beta, ThreadNew, HandleNew, HandleBind, CellNew}
 use Rattle.step_rules.specs.Positions.{name-length, to-body}
-use Rattle.step_rules.specs.Moves.{bytes-between, thread-holding, cell-holding, argument-bytes, copied-bytes, name-bytes, redexes, redex-after, others, other-after, new-names, names-after, image-after, node-counts, nodes-after}
-use Rattle.step_rules.specs.Stepped.{Movable, Stepped}
-use Rattle.step_rules.specs.Meets.{move-of, MeetsAt}
-use Rattle.step_rules.specs.Theory.Reading.{rules, below, Stands, thread-stands, cell-stands}
+use Rattle.step_rules.specs.Effects.{rule-of, bytes-between, argument-bytes, name-bytes, effect-of}
+use Rattle.step_rules.specs.Moves.{look-up, from-name, other-after, names-after, image-after, nodes-after}
+use Rattle.step_rules.specs.Stepped.{Counted, Copied, Has, Stepped}
+use Rattle.step_rules.specs.Meets.{step-at, dereferenced, exchanged, MeetsAt}
+use Rattle.step_rules.specs.Theory.Reading.{rules, Stands, thread-stands, cell-stands}
 use Rattle.step_rules.specs.Theory.Changes.{Table, table-length, table-set, table-more, swap}
 use Rattle.step_rules.specs.Theory.Meeting.{between-front, between-term, body-stands, table-start, argument-is, components-are}
 use Rattle.step_rules.specs.Theory.Writers.{counted, thread-below, few, few-all, movable}
 
--- a move by a rule, from the parts that are the rule's own: what comes in place of the application, the table of the components, the nodes
+-- a step by a move, from the parts that are the move's own: what comes in place of the application, the table of the components, the nodes
 module _ {s : List ℕ} {x : ℕ} {m : Meeting} {F : Context} {f : Exp} {w : Value f} {v : Exp} (M : MeetsAt s x m F w v) where
-  stepped : (named from to future : ℕ) (r : Rule) (e : Exp) (C : Config) (size : ℕ) (g : ℕ → Encoded)
-      → step-meeting (config-of s) x F w v ≡ rule r C
-      → redex-after s (move-of (number r) x m named from to future) ≡ bytes e
-      → Table C size g → size ≡ names-after s (move-of (number r) x m named from to future)
-      → ((k : ℕ) → g k ≡ cond (eqb k x) (encode (thread-of (plug F e))) (other-after s (move-of (number r) x m named from to future) k))
-      → nodes-all C ≡ nodes-after (nodes-all (config-of s)) s (move-of (number r) x m named from to future)
-      → Movable s (move-of (number r) x m named from to future)
-      → Stepped s x (move-of (number r) x m named from to future)
-  unfolding move-of image-after image-of
-  stepped named from to future r e C size g step redex table names each count move =
-      let are = components-are M (number r) named from to future e redex C size g table names each in
+  stepped : (by : Move) (e : Exp) (C : Config) (size : ℕ) (g : ℕ → Encoded)
+      → step-meeting (config-of s) x F w v ≡ rule (rule-of by) C
+      → effect-of s m by .redex ≡ bytes e
+      → Table C size g → size ≡ names-after s (step-at x m by)
+      → ((k : ℕ) → g k ≡ cond (eqb k x) (encode (thread-of (plug F e))) (other-after s (step-at x m by) k))
+      → nodes-all C ≡ nodes-after (nodes-all (config-of s)) s (step-at x m by)
+      → Has s m by
+      → Stepped s x (step-at x m by)
+  unfolding image-after image-of
+  stepped by e C size g step redex table names each count has =
+      let are = components-are M by e redex C size g table names each in
       record {
         outcome = C;
-        by = r;
         steps = M .steps ∙ step;
-        numbered = refl;
-        components = are;
         written = ap image-bytes are;
         counted = count;
         named = table-length table ∙ names;
-        movable = move;
+        movable = movable M by has;
       }
 
   -- the nodes of a configuration whose thread x has e in the place of the application
@@ -75,60 +77,51 @@ module _ {s : List ℕ} {x : ℕ} {m : Meeting} {F : Context} {f : Exp} {w : Val
   new-name = length-config s
 
 -- rule 1
-pub beta-moves : {s : List ℕ} {x t : ℕ} {m : Meeting} {F : Context} {e v : Exp} → MeetsAt s x m F (is-lam {t = t} {e = e}) v → Stepped s x (move-of (number BETA) x m 0 0 0 0)
-unfolding move-of step-meeting redex-after redexes other-after others names-after new-names nodes-after node-counts nodes
+pub beta-moves : {s : List ℕ} {x t : ℕ} {m : Meeting} {F : Context} {e v : Exp} → MeetsAt s x m F (is-lam {t = t} {e = e}) v → Stepped s x (step-at x m Beta)
+unfolding step-meeting effect-of other-after look-up from-name names-after nodes-after nodes
 beta-moves {s} {x} {t} {m} {F} {e} {v} M =
     let body : TermAt s (m .at + to-body) e = subst (λ k. TermAt s k e) (omega arith) (body-stands (M .placed .function)) in
     let p : term-at s (m .argument) ≡ v = found-at (M .placed .argument) .term in
     let q : term-at s (m .at + to-body) ≡ e = found-at body .term in
-    stepped M 0 0 0 0 BETA (substitute 0 v e) _ (names s) _ refl
+    stepped M Beta (substitute 0 v e) _ (names s) _ refl
     (ap₂ (λ a c. bytes (substitute 0 a c)) p q)
     (table-put M (substitute 0 v e)) (omega arith) (λ k. refl)
     (rw (p, q) (omega (arith, nodes-put M (substitute 0 v e), nodes-substitute 0 v e)))
-    (movable M (number BETA) 0 0 0 0 (omega (arith, thread-below M)) (omega (arith, thread-below M)) (omega arith) (omega arith)
-    (λ z. counted body (omega (arith, few M))) (λ z. absurd (omega arith)))
+    (counted body (omega (arith, few M)))
 
 -- rules 2, 4 and 6: new names. The thread is none of them.
-module _ {s : List ℕ} {x t : ℕ} {o : Op} {m : Meeting} {F : Context} {v : Exp} (M : MeetsAt s x m F (is-const {c = op o t}) v) where
-  not-new : (k : ℕ) → names s ≤ k → ¬ (x ≡ k)
-  not-new k l e = omega (arith, thread-below M)
-
-  -- no rule of these copies a part or names a name
-  plainly : (n : ℕ) → ¬ (n ≡ number BETA) → ¬ (n ≡ number FUTURE-DEREF) → Movable s (move-of n x m 0 0 0 0)
-  plainly n p q =
-      movable M n 0 0 0 0 (omega (arith, thread-below M)) (omega (arith, thread-below M)) (omega arith) (omega arith) (λ z. absurd (p z)) (λ z. absurd (q z))
+not-new : {s : List ℕ} {x : ℕ} {m : Meeting} {F : Context} {f : Exp} {w : Value f} {v : Exp} → MeetsAt s x m F w v → (k : ℕ) → names s ≤ k → ¬ (x ≡ k)
+not-new M k l e = omega (arith, thread-below M)
 
 -- rule 2
-pub thread-moves : {s : List ℕ} {x t : ℕ} {m : Meeting} {F : Context} {v : Exp} → MeetsAt s x m F (is-const {c = op thread t}) v → Stepped s x (move-of (number THREAD-NEW) x m 0 0 0 0)
-unfolding move-of step-meeting redex-after redexes other-after others names-after new-names nodes-after node-counts nodes sum-all sum-in bytes encode
+pub thread-moves : {s : List ℕ} {x t : ℕ} {m : Meeting} {F : Context} {v : Exp} → MeetsAt s x m F (is-const {c = op thread t}) v → Stepped s x (step-at x m ThreadNew)
+unfolding step-meeting effect-of other-after look-up from-name names-after nodes-after nodes sum-all sum-in bytes encode
 thread-moves {s} {x} {t} {m} {F} {v} M =
     let C = config-of s in
     let new = thread-of (app v (name (length C))) in
     let z : length C ≡ names s = new-name M in
     let e = name (length C) in
-    let a : argument-bytes s (move-of (number THREAD-NEW) x m 0 0 0 0) ≡ bytes v = argument-is M (number THREAD-NEW) 0 0 0 0 in
-    let c : encode new ≡ thread-holding (2 ∷ (argument-bytes s (move-of (number THREAD-NEW) x m 0 0 0 0) ++ name-bytes (names s))) =
-    ap₂ (λ (p : List ℕ) (k : ℕ). thread-holding (2 ∷ (p ++ name-bytes k))) (sym a) z in
-    stepped M 0 0 0 0 THREAD-NEW e _ (names s + 1) _ refl
+    let c : encode new ≡ thread-holding no-owner (2 ∷ (argument-bytes s m ++ name-bytes (names s))) =
+    ap₂ (λ (p : List ℕ) (k : ℕ). thread-holding no-owner (2 ∷ (p ++ name-bytes k))) (sym (argument-is M)) z in
+    stepped M ThreadNew e _ (names s + 1) _ refl
     (ap name-bytes (sym z))
     (table-more new (table-put M e)) (omega arith)
     (λ k. swap k x (names s) (thread-after M e) (encode new) (encoded-at s k) (not-new M (names s) (omega arith))
     ∙ ap (λ d. cond (eqb k x) (thread-after M e) (cond (eqb k (names s)) d (encoded-at s k))) c)
     (omega (arith, sum-append (sum-in nodes) (put C x F e) (new ∷ []), nodes-put M e))
-    (plainly M (number THREAD-NEW) (omega arith) (omega arith))
+    tt
 
 -- rule 4
-pub handle-moves : {s : List ℕ} {x t : ℕ} {m : Meeting} {F : Context} {v : Exp} → MeetsAt s x m F (is-const {c = op handle t}) v → Stepped s x (move-of (number HANDLE-NEW) x m 0 0 0 0)
-unfolding move-of step-meeting redex-after redexes other-after others names-after new-names nodes-after node-counts nodes sum-all sum-in bytes encode
+pub handle-moves : {s : List ℕ} {x t : ℕ} {m : Meeting} {F : Context} {v : Exp} → MeetsAt s x m F (is-const {c = op handle t}) v → Stepped s x (step-at x m HandleNew)
+unfolding step-meeting effect-of other-after look-up from-name names-after nodes-after nodes sum-all sum-in bytes encode
 handle-moves {s} {x} {t} {m} {F} {v} M =
     let C = config-of s in
     let z : length C ≡ names s = new-name M in
     let e = app (app v (name (length C))) (name (length C + 1)) in
-    let a : argument-bytes s (move-of (number HANDLE-NEW) x m 0 0 0 0) ≡ bytes v = argument-is M (number HANDLE-NEW) 0 0 0 0 in
     let C₁ = put C x F e ++ (awaited ∷ []) in
-    stepped M 0 0 0 0 HANDLE-NEW e (C₁ ++ (open-for (length C) ∷ [])) (names s + 1 + 1) _
+    stepped M HandleNew e (C₁ ++ (open-for (length C) ∷ [])) (names s + 1 + 1) _
     (ap (rule HANDLE-NEW) (sym (append-assoc (put C x F e) (awaited ∷ []) (open-for (length C) ∷ []))))
-    (ap₂ (λ (p : List ℕ) (k : ℕ). 2 ∷ 2 ∷ (p ++ name-bytes k ++ name-bytes (k + 1))) a (sym z))
+    (ap₂ (λ (p : List ℕ) (k : ℕ). 2 ∷ 2 ∷ (p ++ name-bytes k ++ name-bytes (k + 1))) (argument-is M) (sym z))
     (table-more (open-for (length C)) (table-more awaited (table-put M e))) (omega arith)
     (λ k. let old = encoded-at s k in let h = encode (open-for (length C)) in
     swap k (names s) (names s + 1) (encode awaited) h (cond (eqb k x) (thread-after M e) old) (omega arith)
@@ -136,23 +129,22 @@ handle-moves {s} {x} {t} {m} {F} {v} M =
     ∙ swap k x (names s) (thread-after M e) (encode awaited) (cond (eqb k (names s + 1)) h old) (not-new M (names s) (omega arith))
     ∙ ap (λ j. cond (eqb k x) (thread-after M e) (cond (eqb k (names s)) (encode awaited) (cond (eqb k (names s + 1)) (encode (open-for j)) old))) z)
     (omega (arith, sum-append (sum-in nodes) C₁ (open-for (length C) ∷ []), sum-append (sum-in nodes) (put C x F e) (awaited ∷ []), nodes-put M e))
-    (plainly M (number HANDLE-NEW) (omega arith) (omega arith))
+    tt
 
 -- rule 6
-pub cell-moves : {s : List ℕ} {x t : ℕ} {m : Meeting} {F : Context} {v : Exp} → MeetsAt s x m F (is-const {c = op cell t}) v → Stepped s x (move-of (number CELL-NEW) x m 0 0 0 0)
-unfolding move-of step-meeting redex-after redexes other-after others names-after new-names nodes-after node-counts nodes sum-all sum-in bytes encode
+pub cell-moves : {s : List ℕ} {x t : ℕ} {m : Meeting} {F : Context} {v : Exp} → MeetsAt s x m F (is-const {c = op cell t}) v → Stepped s x (step-at x m CellNew)
+unfolding step-meeting effect-of other-after look-up from-name names-after nodes-after nodes sum-all sum-in bytes encode
 cell-moves {s} {x} {t} {m} {F} {v} M =
     let C = config-of s in
     let z : length C ≡ names s = new-name M in
     let e = name (length C) in
-    let a : argument-bytes s (move-of (number CELL-NEW) x m 0 0 0 0) ≡ bytes v = argument-is M (number CELL-NEW) 0 0 0 0 in
-    stepped M 0 0 0 0 CELL-NEW e _ (names s + 1) _ refl
+    stepped M CellNew e _ (names s + 1) _ refl
     (ap name-bytes (sym z))
     (table-more (holds v) (table-put M e)) (omega arith)
     (λ k. swap k x (names s) (thread-after M e) (encode (holds v)) (encoded-at s k) (not-new M (names s) (omega arith))
-    ∙ ap (λ p. cond (eqb k x) (thread-after M e) (cond (eqb k (names s)) (cell-holding p) (encoded-at s k))) (sym a))
+    ∙ ap (λ p. cond (eqb k x) (thread-after M e) (cond (eqb k (names s)) (cell-holding no-owner p) (encoded-at s k))) (sym (argument-is M)))
     (omega (arith, sum-append (sum-in nodes) (put C x F e) (holds v ∷ []), nodes-put M e))
-    (plainly M (number CELL-NEW) (omega arith) (omega arith))
+    tt
 
 -- rules 3, 5 and 7: the name at the place is a name of the image
 module _ {s : List ℕ} {x : ℕ} {m : Meeting} {F : Context} {f : Exp} {w : Value f} {v : Exp} (M : MeetsAt s x m F w v) where
@@ -160,65 +152,58 @@ module _ {s : List ℕ} {x : ℕ} {m : Meeting} {F : Context} {f : Exp} {w : Val
   other : (y : ℕ) {c : Component} → at (config-of s) y ≡ some c → ¬ (thread-of (plug F (app f v)) ≡ c) → ¬ (x ≡ y)
   other y h n e = let p = M .thread in let q = ap (at (config-of s)) e in n (cc)
 
-  name-below : (y : ℕ) {c : Component} → at (config-of s) y ≡ some c → y < names s
-  name-below y h = below s (M .in-bytes) (M .stands) y h
-
   -- an expression that is copied, whole
-  copied-is : (n y future : ℕ) {e : Exp} (h : Stands s y e) → copied-bytes s (move-of n x m y (offset-at s y) (offset-at s y + length-at s y) future) ≡ bytes e
-  unfolding move-of
-  copied-is n y future h = between-term _ (h .term) (omega (arith, h .long))
+  copied-is : (y : ℕ) {e : Exp} (h : Stands s y e) → bytes-between s (offset-at s y) (offset-at s y + length-at s y) ≡ bytes e
+  copied-is y h = between-term _ (h .term) (omega (arith, h .long))
 
-  value-moves : (n y : ℕ) (e : Exp) → at (config-of s) y ≡ some (thread-of e) → ¬ (n ≡ number BETA) → Movable s (move-of n x m y (offset-at s y) (offset-at s y + length-at s y) 0)
+  copied : {y : ℕ} {e : Exp} → Stands s y e → Copied s (offset-at s y) (offset-at s y + length-at s y)
+  copied h = record { onward = omega arith; inside = h .inside }
+
+  counted-value : {y : ℕ} {e : Exp} → at (config-of s) y ≡ some (thread-of e) → Stands s y e → Counted s (offset-at s y)
   unfolding sum-in
-  value-moves n y e h p =
-      let q = thread-stands s (M .in-bytes) (M .stands) y e h in
-      movable M n y _ _ 0 (name-below y h) (omega (arith, thread-below M)) (omega arith) (q .inside) (λ z. absurd (p z))
-      (λ z. counted (q .term) (omega (arith, sum-part (sum-in nodes) (config-of s) y h, few-all M)))
+  counted-value {y} h q = counted (q .term) (omega (arith, sum-part (sum-in nodes) (config-of s) y h, few-all M))
 
 -- rule 3, at the function of an application
 pub deref-moves : {s : List ℕ} {x y : ℕ} {m : Meeting} {F : Context} {v : Exp} → MeetsAt s x m F (is-name {k = y}) v → (e : Exp) → at (config-of s) y ≡ some (thread-of e) → Value e
-    → Stepped s x (move-of (number FUTURE-DEREF) x m y (offset-at s y) (offset-at s y + length-at s y) 0)
-unfolding move-of step-meeting step-call when-done redex-after redexes other-after others names-after new-names nodes-after node-counts nodes size bytes
+    → Stepped s x (step-at x m (dereferenced s y))
+unfolding step-meeting step-call when-done effect-of other-after look-up from-name names-after nodes-after nodes size bytes
 deref-moves {s} {x} {y} {m} {F} {v} M e h u =
-    let to = offset-at s y + length-at s y in
     let q = thread-stands s (M .in-bytes) (M .stands) y e h in
     let a : bytes-between s (m .at) (m .argument - name-length) ≡ 2 ∷ [] =
     between-front s (m .at) (m .argument - name-length) (2 ∷ []) _ (M .placed .application .stands) (omega (arith, M .placed .second)) in
     let p : term-at s (offset-at s y) ≡ e = found-at (q .term) .term in
-    stepped M y (offset-at s y) to 0 FUTURE-DEREF (app e v) (put (config-of s) x F (app e v)) (names s) _
+    stepped M (dereferenced s y) (app e v) (put (config-of s) x F (app e v)) (names s) _
     (rw (h, place-value u) refl)
-    (ap₂ (λ (i j : List ℕ). i ++ j) (ap₂ (λ (i j : List ℕ). i ++ j) a (copied-is M (number FUTURE-DEREF) y 0 q)) (argument-is M (number FUTURE-DEREF) y (offset-at s y) to 0))
+    (ap₂ (λ (i j : List ℕ). i ++ j) (ap₂ (λ (i j : List ℕ). i ++ j) a (copied-is M y q)) (argument-is M))
     (table-put M (app e v)) (omega arith) (λ k. refl)
     (rw p (omega (arith, nodes-put M (app e v))))
-    (value-moves M (number FUTURE-DEREF) y e h (omega arith))
+    (counted-value M h q, copied M q)
 
 -- rule 3, at the first argument of a full exch
 pub deref-exch-moves : {s : List ℕ} {x y t : ℕ} {m : Meeting} {F : Context} {v : Exp} → MeetsAt s x m F (is-exch {t = t} (is-name {k = y})) v → (e : Exp)
-    → at (config-of s) y ≡ some (thread-of e) → Value e → Stepped s x (move-of (number FUTURE-DEREF) x m y (offset-at s y) (offset-at s y + length-at s y) 0)
-unfolding move-of step-meeting step-exchange when-done redex-after redexes other-after others names-after new-names nodes-after node-counts nodes size const-size bytes const-bytes op-tag
+    → at (config-of s) y ≡ some (thread-of e) → Value e → Stepped s x (step-at x m (dereferenced s y))
+unfolding step-meeting step-exchange when-done effect-of other-after look-up from-name names-after nodes-after nodes size const-size bytes const-bytes op-tag
 deref-exch-moves {s} {x} {y} {t} {m} {F} {v} M e h u =
-    let to = offset-at s y + length-at s y in
     let q = thread-stands s (M .in-bytes) (M .stands) y e h in
     let a : bytes-between s (m .at) (m .argument - name-length) ≡ 2 ∷ 2 ∷ 6 ∷ t ∷ [] =
     between-front s (m .at) (m .argument - name-length) (2 ∷ 2 ∷ 6 ∷ t ∷ []) _ (M .placed .application .stands) (omega (arith, M .placed .second)) in
     let p : term-at s (offset-at s y) ≡ e = found-at (q .term) .term in
     let r = app (app (const (op exch t)) e) v in
-    stepped M y (offset-at s y) to 0 FUTURE-DEREF r (put (config-of s) x F r) (names s) _
+    stepped M (dereferenced s y) r (put (config-of s) x F r) (names s) _
     (rw (h, place-value u) refl)
-    (ap₂ (λ (i j : List ℕ). i ++ j) (ap₂ (λ (i j : List ℕ). i ++ j) a (copied-is M (number FUTURE-DEREF) y 0 q)) (argument-is M (number FUTURE-DEREF) y (offset-at s y) to 0))
+    (ap₂ (λ (i j : List ℕ). i ++ j) (ap₂ (λ (i j : List ℕ). i ++ j) a (copied-is M y q)) (argument-is M))
     (table-put M r) (omega arith) (λ k. refl)
     (rw p (omega (arith, nodes-put M r)))
-    (value-moves M (number FUTURE-DEREF) y e h (omega arith))
+    (counted-value M h q, copied M q)
 
 -- rule 5
 pub bind-moves : {s : List ℕ} {x z : ℕ} {m : Meeting} {F : Context} {v : Exp} → MeetsAt s x m F (is-name {k = z}) v → (y : ℕ) → at (config-of s) z ≡ some (open-for y)
-    → Stepped s x (move-of (number HANDLE-BIND) x m z 0 0 y)
-unfolding move-of step-meeting step-call redex-after redexes other-after others names-after new-names nodes-after node-counts nodes sum-in bytes const-bytes encode
+    → Stepped s x (step-at x m (HandleBind z y))
+unfolding step-meeting step-call effect-of other-after look-up from-name names-after nodes-after nodes sum-in bytes const-bytes encode
 bind-moves {s} {x} {z} {m} {F} {v} M y h =
     let C = config-of s in
     let g : at C y ≡ some awaited = rules s (M .in-bytes) (M .stands) .companions z y h in
     let e = const unit in
-    let a : argument-bytes s (move-of (number HANDLE-BIND) x m z 0 0 y) ≡ bytes v = argument-is M (number HANDLE-BIND) z 0 0 y in
     let xz = other M z h (λ p. clash (cc)) in
     let xy = other M y g (λ p. clash (cc)) in
     let yz : ¬ (y ≡ z) = λ p. let q = ap (at C) p in clash (cc) in
@@ -226,31 +211,29 @@ bind-moves {s} {x} {z} {m} {F} {v} M y h =
     let C₂ = set C₁ y (thread-of v) in
     let g₁ : at C₁ y ≡ some awaited = set-other C x y (thread-of (plug F e)) (λ p. xy (sym p)) ∙ g in
     let h₂ : at C₂ z ≡ some (open-for y) = set-other C₁ y z (thread-of v) (λ p. yz (sym p)) ∙ set-other C x z (thread-of (plug F e)) (λ p. xz (sym p)) ∙ h in
-    stepped M z 0 0 y HANDLE-BIND e (set C₂ z used) (names s) _
+    stepped M (HandleBind z y) e (set C₂ z used) (names s) _
     (rw h refl) refl
     (table-set z used (table-set y (thread-of v) (table-put M e))) (omega arith)
     (λ k. let old = encoded-at s k in let u = encode used in let b = encode (thread-of v) in
     ap (λ r. cond (eqb k z) u r) (swap k x y (thread-after M e) b old xy)
     ∙ swap k x z (thread-after M e) u (cond (eqb k y) b old) xz
-    ∙ ap (λ p. cond (eqb k x) (thread-after M e) (cond (eqb k z) u (cond (eqb k y) (thread-holding p) old))) (sym a))
+    ∙ ap (λ p. cond (eqb k x) (thread-after M e) (cond (eqb k z) u (cond (eqb k y) (thread-holding no-owner p) old))) (sym (argument-is M)))
     (omega (arith, sum-set (sum-in nodes) C₂ z used h₂, sum-set (sum-in nodes) C₁ y (thread-of v) g₁, nodes-put M e))
-    (movable M (number HANDLE-BIND) z 0 0 y (name-below M z h) (name-below M y g) (omega arith) (omega arith) (λ i. absurd (omega arith)) (λ i. absurd (omega arith)))
+    tt
 
 -- rule 7
 pub exchange-moves : {s : List ℕ} {x y t : ℕ} {m : Meeting} {F : Context} {v : Exp} → MeetsAt s x m F (is-exch {t = t} (is-name {k = y})) v → (e : Exp)
-    → at (config-of s) y ≡ some (holds e) → Stepped s x (move-of (number CELL-EXCH) x m y (offset-at s y) (offset-at s y + length-at s y) 0)
-unfolding move-of step-meeting step-exchange redex-after redexes other-after others names-after new-names nodes-after node-counts nodes sum-in encode
+    → at (config-of s) y ≡ some (holds e) → Stepped s x (step-at x m (exchanged s y))
+unfolding step-meeting step-exchange effect-of other-after look-up from-name names-after nodes-after nodes sum-in encode
 exchange-moves {s} {x} {y} {t} {m} {F} {v} M e h =
     let C = config-of s in
-    let to = offset-at s y + length-at s y in
     let q = cell-stands s (M .in-bytes) (M .stands) y e h in
-    let a : argument-bytes s (move-of (number CELL-EXCH) x m y (offset-at s y) to 0) ≡ bytes v = argument-is M (number CELL-EXCH) y (offset-at s y) to 0 in
     let xy = other M y h (λ p. clash (cc)) in
     let h₁ : at (put C x F e) y ≡ some (holds e) = set-other C x y (thread-of (plug F e)) (λ p. xy (sym p)) ∙ h in
-    stepped M y (offset-at s y) to 0 CELL-EXCH e (set (put C x F e) y (holds v)) (names s) _
-    (rw h refl) (copied-is M (number CELL-EXCH) y 0 q)
+    stepped M (exchanged s y) e (set (put C x F e) y (holds v)) (names s) _
+    (rw h refl) (copied-is M y q)
     (table-set y (holds v) (table-put M e)) (omega arith)
     (λ k. swap k x y (thread-after M e) (encode (holds v)) (encoded-at s k) xy
-    ∙ ap (λ p. cond (eqb k x) (thread-after M e) (cond (eqb k y) (cell-holding p) (encoded-at s k))) (sym a))
+    ∙ ap (λ p. cond (eqb k x) (thread-after M e) (cond (eqb k y) (cell-holding no-owner p) (encoded-at s k))) (sym (argument-is M)))
     (omega (arith, sum-set (sum-in nodes) (put C x F e) y (holds v) h₁, nodes-put M e))
-    (movable M (number CELL-EXCH) y _ _ 0 (name-below M y h) (omega (arith, thread-below M)) (omega arith) (q .inside) (λ i. absurd (omega arith)) (λ i. absurd (omega arith)))
+    (copied M q)

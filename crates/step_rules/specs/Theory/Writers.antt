@@ -1,12 +1,11 @@
--- What a writer needs, of a move at a meeting.
-use mathlib.Core.Path.{_∙_, _≡_, ap, sym}
+-- What a writer needs, of a step at a meeting.
+use mathlib.Core.Path.{_∙_, _≡_, ap, subst, sym}
 use mathlib.Core.List.{List}
-use Prim.Native.Nat.{ℕ, _+_, _≤_, _<_}
+use Prim.Native.Nat.{ℕ, _≤_, _<_}
 use native.Mathlib.Omega.{arith}
-use lib.ListN.{length}
 use Rattle.calculus.specs.Theory.Configurations.{sum-part}
-use Rattle.calculus.specs.Syntax.{Const, unit, num, op, Exp, var, name, const, lam, app, Value, at, sum-in}
-use Rattle.calculus.specs.Reduction.{Context, plug, BETA, FUTURE-DEREF, number}
+use Rattle.calculus.specs.Syntax.{Const, unit, num, op, Exp, var, name, const, lam, app, Value, sum-in}
+use Rattle.calculus.specs.Reduction.{Context, plug}
 use Rattle.calculus.specs.Image.{const-size, nodes, nodes-all, size}
 use Rattle.calculus.specs.Limits.{max-nodes}
 use Rattle.term.specs.Expressions.{TermAt}
@@ -15,9 +14,10 @@ use Rattle.image_layout.specs.Slice.{names}
 use Rattle.image.specs.Configuration.{config-of}
 use Rattle.term_redex.specs.declared.Meeting.{Meeting}
 use Rattle.term_redex.proofs.Contexts.{plug-nodes}
-use Rattle.step_rules.specs.Positions.{to-body}
-use Rattle.step_rules.specs.Stepped.{Counted, Movable}
-use Rattle.step_rules.specs.Meets.{move-of, MeetsAt}
+use Rattle.step_rules.specs.declared.Move.{Move}
+use Rattle.step_rules.specs.declared.Step.{Step}
+use Rattle.step_rules.specs.Stepped.{Counted, Has, Movable}
+use Rattle.step_rules.specs.Meets.{step-at, MeetsAt}
 use Rattle.step_rules.specs.Theory.Reading.{rules, below, thread-stands}
 
 pub size-positive : (e : Exp) → 1 ≤ size e
@@ -36,6 +36,10 @@ size-positive (app f a) = omega arith
 pub counted : {s : List ℕ} {a : ℕ} {e : Exp} → TermAt s a e → nodes e ≤ max-nodes → Counted s a
 counted {s} {a} {e} t n = let p = found-at t in record { good = p .good; few = omega (arith, ap nodes (p .term)) }
 
+-- what a move that is known has
+pub has-by : {s : List ℕ} {step : Step} {by : Move} → Movable s step → step .by ≡ by → Has s (step .meeting) by
+has-by {s} {step} w e = subst (Has s (step .meeting)) e (w .has)
+
 module _ {s : List ℕ} {x : ℕ} {m : Meeting} {F : Context} {f : Exp} {w : Value f} {v : Exp} (M : MeetsAt s x m F w v) where
   pub thread-below : x < names s
   thread-below = below s (M .in-bytes) (M .stands) x (M .thread)
@@ -47,25 +51,19 @@ module _ {s : List ℕ} {x : ℕ} {m : Meeting} {F : Context} {f : Exp} {w : Val
   unfolding sum-in
   few = omega (arith, sum-part (sum-in nodes) (config-of s) x (M .thread), plug-nodes F (app f v), few-all)
 
-  pub movable : (rule named from to future : ℕ) → named < names s → future < names s → from ≤ to → to ≤ length s
-      → (rule ≡ number BETA → Counted s (m .at + to-body)) → (rule ≡ number FUTURE-DEREF → Counted s from) → Movable s (move-of rule x m named from to future)
-  unfolding move-of nodes
-  movable rule named from to future nb fb copied inside body value =
+  pub movable : (by : Move) → Has s m by → Movable s (step-at x m by)
+  unfolding nodes
+  movable by has =
       let p = M .placed in
       let q = thread-stands s (M .in-bytes) (M .stands) x (plug F (app f v)) (M .thread) in
       record {
+        thread-below = thread-below;
         begins = omega (arith, p .begins);
         second = omega (arith, p .second, size-positive f);
         third = omega (arith, p .ends);
         ends = omega (arith, p .last, M .long);
         inside = q .inside;
-        copied = copied;
-        copied-inside = inside;
-        thread-below = thread-below;
-        name-below = nb;
-        future-below = fb;
         argument = counted (p .argument) (omega (arith, few));
         argument-ends = p .ends ∙ sym (found-at (p .argument) .ends);
-        body = body;
-        value = value;
+        has = has;
       }

@@ -7,7 +7,7 @@ use Rattle.calculus.specs.Syntax.{Config, EachAll}
 use Rattle.calculus.specs.Reduction.{Rule, number, Reduces}
 use Rattle.calculus.specs.Step.{step-of}
 use Rattle.calculus.specs.Limits.{max-image-length}
-use Rattle.calculus.specs.Image.{ImageRule, WithinLimits, Writable}
+use Rattle.calculus.specs.Image.{ImageRule, WithinLimits, Writable, limits-test, within-limits}
 use Rattle.calculus.specs.Reply.{moved, reply-of}
 use Rattle.calculus.specs.Theory.Tests.{ltb-not}
 use Rattle.calculus.specs.Theory.Step.{rule-iff}
@@ -19,13 +19,13 @@ use Rattle.step_spec.specs.Stepping.{step-reply}
 
 -- on the image of a configuration that keeps its rules, and with a buffer that is long enough, a step answers what the calculus's does
 module _ (C : Config) (keeps : ImageRule C) (writable : EachAll Writable C) (x room : ℕ) (long : max-image-length ≤ room) where
-  pub step-is : step-reply (image-of C) x room ≡ reply-of (step-of C x)
+  pub step-is : step-reply (image-of C) x room ≡ reply-of within-limits (step-of C x)
   unfolding step-reply
   step-is = rw (ltb-not room max-image-length long, image-written C keeps writable, read-again C keeps writable) refl
 
   -- a rule, exactly when Fig. 5 has that move and the outcome is within the limits
   pub rule-exactly : (k : ℕ) (C′ : Config) → (step-reply (image-of C) x room ≡ moved k C′) ↔ ((r : Rule) × (number r ≡ k) × Reduces C x r C′ × WithinLimits C′)
-  unfolding reply-of
+  unfolding reply-of limits-test
   rule-exactly k C′ = (there, back)
     where
       there : step-reply (image-of C) x room ≡ moved k C′ → (r : Rule) × (number r ≡ k) × Reduces C x r C′ × WithinLimits C′

@@ -9,7 +9,7 @@ use Rattle.calculus.specs.Reduction.{Rule as RuleName, number}
 use Rattle.calculus.specs.Step.{Answer, rule, waiting, done, no-thread, used-handle, wrong-kind, step-of}
 use Rattle.calculus.specs.Limits.{max-image-length}
 use Rattle.calculus.specs.Causes.{buffer-cause, image-cause, no-thread-cause, room-cause, used-handle-cause, wrong-kind-cause}
-use Rattle.calculus.specs.Image.{limits-test}
+use Rattle.calculus.specs.Image.{limits-test, within-limits}
 use Rattle.calculus.specs.Reply.{moved, refuses, reply-of}
 use Rattle.calculus.specs.Theory.Tests.{ltb-complete, ltb-not}
 use Rattle.image.specs.Configuration.{image-of, config-of}
@@ -29,7 +29,7 @@ module _ (s : List ℕ) (x room : ℕ) where
     unfolding step-reply
     reply-broken e = rw (ltb-not room max-image-length long, e) refl
 
-    pub reply-stands : image-stands s ≡ true → step-reply s x room ≡ reply-of (step-of (config-of s) x)
+    pub reply-stands : image-stands s ≡ true → step-reply s x room ≡ reply-of within-limits (step-of (config-of s) x)
     unfolding step-reply
     reply-stands e = rw (ltb-not room max-image-length long, e) refl
 
@@ -43,8 +43,8 @@ pub data Told : Answer → Outcome → Type 0 where
   told-used : Told used-handle (Refused used-handle-cause)
   told-wrong : Told wrong-kind (Refused wrong-kind-cause)
 
-pub tells : (a : Answer) → Told a (outcome-of-reply (reply-of a))
-unfolding outcome-of-reply reply-of
+pub tells : (a : Answer) → Told a (outcome-of-reply (reply-of within-limits a))
+unfolding outcome-of-reply reply-of limits-test
 tells (rule r C′) = go (limits-test C′) refl
   where
     go : (b : Bool) → limits-test C′ ≡ b → Told (rule r C′) (outcome-of-reply (cond b (moved (number r) C′) (refuses room-cause)))

@@ -8,7 +8,7 @@ use borrow.Author.Tests.{not-false, not-true}
 use Rattle.calculus.specs.Bytes.{Bytes}
 use Rattle.calculus.specs.Syntax.{at, thread-of}
 use Rattle.calculus.specs.Step.{place}
-use Rattle.calculus.specs.Image.{nodes-all}
+use Rattle.calculus.specs.Image.{limits-test, nodes-all}
 use Rattle.term.specs.Expressions.{term-at}
 use Rattle.image_layout.specs.Slice.{offset-at}
 use Rattle.image_layout.specs.Theory.Reading.{has-head}
@@ -18,13 +18,11 @@ use Rattle.term_redex.specs.Places.{place-of, Searchable}
 use Rattle.step_rules.specs.Meets.{Deciding}
 use Rattle.step_rules.specs.Stepped.{Stepped}
 use Rattle.step_rules.specs.Theory.Found.{found-done, thread-searchable}
-use Rattle.step_room.specs.Room.{has-room}
-use Rattle.step_room.specs.Theory.Room.{few-before}
 use Rattle.step_decide.specs.Decided.{Decided}
 use Rattle.image_check.specs.Theory.Names.{config-parts}
 use Rattle.image_check.specs.Theory.Whole.{whole-sound}
 use Rattle.step_thread.proofs.step_checked.Statement.{statement}
-use Rattle.step_thread.proofs.Answers.{after-fits, by-decision, by-done, by-no-room, by-no-thread, by-rule, can-write, no-thread-there, not-goes, stepped, thread-is-there}
+use Rattle.step_thread.proofs.Answers.{after-fits, by-decision, by-done, by-no-room, by-no-thread, by-rule, can-write, few-before, no-thread-there, not-goes, room-is, stepped, thread-is-there}
 use Rattle.step_thread.proofs.step_checked.Tie as tie
 
 -- places that several needs stand behind: it is a thread, the search has found a meeting, the decision is that the thread goes
@@ -120,33 +118,39 @@ returns-3 c =
     let (p, q) = by-decision (image st) (st .args .thread) (st .args .out .now) (d .decide .ensures) (λ step e. not-goes step e (c .before .match2 .keys2)) in
     (c .answer-of .ensures ∙ p, q)
 
-has-room-requires : tie.Need-has-room-requires
-has-room-requires c κs =
+size-after-requires : tie.Need-size-after-requires
+size-after-requires c κs =
     let st = start (goes-in c) in
     (goes-by c .movable, omega (arith, counted st, few-before (image st) (are-bytes (known (goes-in c))) (st .pre .stands)))
 
+-- the limits asked are those of the outcome
+limits : (w : tie.After-within-limits) → limits-test (goes-by (w .before .before) .outcome) ≡ w .within-limits .result
+limits w = let k = w .before .before in sym (w .within-limits .ensures ∙ room-is (goes-by k) (counted (start (goes-in k))) (w .before .size-after .ensures))
+
 returns-4 : tie.Need-returns-4
 returns-4 c =
-    let t = c .before .before in
+    let t = c .before .before .before in
     let st = start (goes-in t) in
-    by-no-room (image st) (st .args .thread) (st .args .out .now) (goes-by t) (ap (λ (n : ℕ). has-room (image st) n (t .before .decision .given .0 .0)) (counted st) ∙ sym (c .before .has-room .ensures) ∙ not-true _ (c .if2 .taken))
+    by-no-room (image st) (st .args .thread) (st .args .out .now) (goes-by t) (limits (c .before) ∙ not-true _ (c .if2 .taken))
 
 put-image-after-requires : tie.Need-put-image-after-requires
 put-image-after-requires c κs =
-    let t = c .before .before .before in
+    let e = c .before .before in
+    let t = e .before .before .before in
     let st = start (goes-in t) in
-    let h = ap (λ (n : ℕ). has-room (image st) n (t .before .decision .given .0 .0)) (counted st) ∙ sym (c .before .before .has-room .ensures) ∙ not-false _ (c .before .if2 .left) in
-    let f = after-fits (goes-by t) h in
-    (can-write (image st) (are-bytes (known (goes-in t))) (st .pre .stands) (goes-by t) h, (omega (arith, f, st .pre .long), omega (arith, f)))
+    let l = limits (e .before) ∙ not-false _ (e .if2 .left) in
+    let f = after-fits (goes-by t) l in
+    ((can-write (image st) (are-bytes (known (goes-in t))) (st .pre .stands) (goes-by t) l, e .before .before .size-after .ensures .0), (omega (arith, f, st .pre .long), omega (arith, f)))
 
 returns-5 : tie.Need-returns-5
 returns-5 c =
     let w = c .before .before in
     let r = w .before .before in
-    let t = r .before .before in
+    let e = r .before in
+    let t = e .before .before .before in
     let st = start (goes-in t) in
-    let h = ap (λ (n : ℕ). has-room (image st) n (t .before .decision .given .0 .0)) (counted st) ∙ sym (r .before .has-room .ensures) ∙ not-false _ (r .if2 .left) in
-    by-rule (image st) (st .args .thread) (st .args .out .now) (goes-by t) h (st .pre .long) _ _ (w .put-image-after .ensures)
+    let l = limits (e .before) ∙ not-false _ (e .if2 .left) in
+    by-rule (image st) (st .args .thread) (st .args .out .now) (goes-by t) l (st .pre .long) _ _ _ (r .rule-of .ensures) (w .put-image-after .ensures)
 
 pub step-checked-spec : {M : Type 1} → statement M
 step-checked-spec =
@@ -163,8 +167,10 @@ step-checked-spec =
     (λ c. search needs)
     (λ c κs. search needs)
     returns-3
-    has-room-requires
+    size-after-requires
+    (λ c κs. search needs)
     returns-4
+    (λ c κs. search needs)
     put-image-after-requires
     (λ c. search needs)
     returns-5)

@@ -2,7 +2,7 @@
 use mathlib.Core.Path.{ap}
 use native.Mathlib.Omega.{arith}
 use Rattle.buffer.specs.Theory.Writes.{same, then, known-as}
-use Rattle.step_rules.specs.Moves.{name-bytes}
+use Rattle.step_rules.specs.Effects.{name-bytes}
 use Rattle.step_write.proofs.Components.{started-length}
 use Rattle.step_reduct.proofs.Redexes.{argument-length}
 use borrow.Author.Needs.{needs}

@@ -1,0 +1,15 @@
+-- What is counted of a move's effect, and that no count is too large.
+use mathlib.Core.Path.{_≡_}
+use Prim.Native.Nat.{_*_, _≤_}
+use lib.ListN.{length}
+use Rattle.calculus.specs.Limits.{max-nodes}
+use Rattle.step_rules.specs.Effects.{Effect}
+use Rattle.step_room.specs.declared.Count.{Count}
+
+pub record Counts (effect : Effect) (count : Count) : Type 0 where
+  pub new : count .new ≡ length (effect .new)
+  pub gained : count .gained ≡ effect .gained
+  pub lost : count .lost ≡ effect .lost
+  -- "takes m for the future and m + 1 for the handle"; at most a value for each node of a body
+  pub few-new : count .new ≤ 2
+  pub few-gained : count .gained ≤ max-nodes * max-nodes

@@ -1,2 +1,0 @@
--- how many names come with a rule
-pub mod Names

@@ -1,0 +1,129 @@
+-- Fig. 5 in bytes, a clause for each rule.
+use mathlib.Core.List.{List, [], _∷_, _++_}
+use Prim.Native.Nat.{ℕ, _+_, _-_, _*_}
+use lib.ListN.{drop, take}
+use Rattle.calculus.specs.Image.{nodes}
+use Rattle.calculus.specs.Names.{uses}
+use Rattle.calculus.specs.Reduction.{substitute, Rule, BETA, THREAD-NEW, FUTURE-DEREF, HANDLE-NEW, HANDLE-BIND, CELL-NEW, CELL-EXCH}
+use Rattle.calculus.specs.Kinds.{no-owner}
+use Rattle.term.specs.Expressions.{bytes, term-at}
+use Rattle.term.specs.Forms.{application-tag, unit-tag, name-tag}
+use Rattle.term_redex.specs.declared.Meeting.{Meeting}
+use Rattle.image_layout.specs.Encoded.{Encoded}
+use Rattle.image_layout.specs.Slice.{names}
+use Rattle.image.specs.Owned.{thread-holding, cell-holding, handle-open, handle-used, future-awaited}
+use Rattle.step_rules.specs.declared.Move.{Move}
+use Rattle.step_rules.specs.declared.Move.the-variants.{Beta, ThreadNew, FutureDeref, HandleNew, HandleBind, CellNew, CellExch}
+use Rattle.step_rules.specs.Positions.{name-length, to-body}
+
+-- the rule of a move
+abbrev pub rule-of : Move → Rule
+rule-of Beta = BETA
+rule-of ThreadNew = THREAD-NEW
+rule-of (FutureDeref from to) = FUTURE-DEREF
+rule-of HandleNew = HANDLE-NEW
+rule-of (HandleBind handle future) = HANDLE-BIND
+rule-of CellNew = CELL-NEW
+rule-of (CellExch cell from to) = CELL-EXCH
+
+-- the bytes of a slice from a to b
+unfoldable pub bytes-between : List ℕ → ℕ → ℕ → List ℕ
+bytes-between s a b = take (b - a) (drop a s)
+
+-- the value that the function is applied to
+abbrev pub argument-bytes : List ℕ → Meeting → List ℕ
+argument-bytes s m = bytes-between s (m .argument) (m .end)
+
+-- a name
+abbrev pub name-bytes : ℕ → List ℕ
+name-bytes k = name-tag ∷ k ∷ []
+
+-- the new thread of rule 2: the argument applied to the thread's own name
+abbrev pub started-bytes : List ℕ → Meeting → List ℕ
+started-bytes s m = application-tag ∷ (argument-bytes s m ++ name-bytes (names s))
+
+-- a name with its component
+pub record Named : Type 0 where
+  pub name : ℕ
+  pub component : Encoded
+
+abbrev pub named : ℕ → Encoded → Named
+named k c = record { name = k; component = c }
+
+-- what a move makes of an image
+pub record Effect : Type 0 where
+  -- what stands in place of the application
+  pub redex : List ℕ
+  -- the nodes that come and those that go
+  pub gained : ℕ
+  pub lost : ℕ
+  -- the components of the new names, from m on
+  pub new : List Encoded
+  -- the other names that change
+  pub changed : List Named
+
+-- at the meeting m in the image s
+unfoldable pub effect-of : List ℕ → Meeting → Move → Effect
+-- BETA: E[(λy.e) v] → E[e[v/y]]. A value comes for each y; these, the value, the lambda and the application go.
+effect-of s m Beta =
+    record {
+      redex = bytes (substitute 0 (term-at s (m .argument)) (term-at s (m .at + to-body)));
+      gained = uses 0 (term-at s (m .at + to-body)) * nodes (term-at s (m .argument));
+      lost = uses 0 (term-at s (m .at + to-body)) + nodes (term-at s (m .argument)) + 2;
+      new = [];
+      changed = [];
+    }
+-- THREAD.NEW: E[thread v] → (νy)(E[y] | y ⇐ v y)
+effect-of s m ThreadNew =
+    record {
+      redex = name-bytes (names s);
+      gained = 1;
+      lost = 0;
+      new = thread-holding no-owner (started-bytes s m) ∷ [];
+      changed = [];
+    }
+-- FUTURE.DEREF: Ef[y] | y ⇐ w → Ef[w] | y ⇐ w. The name y stands right before the argument.
+effect-of s m (FutureDeref from to) =
+    record {
+      redex = bytes-between s (m .at) (m .argument - name-length) ++ bytes-between s from to ++ argument-bytes s m;
+      gained = nodes (term-at s from);
+      lost = 1;
+      new = [];
+      changed = [];
+    }
+-- HANDLE.NEW: E[handle v] → (νy)(νz)(E[v y z] | z h y)
+effect-of s m HandleNew =
+    record {
+      redex = application-tag ∷ application-tag ∷ (argument-bytes s m ++ name-bytes (names s) ++ name-bytes (names s + 1));
+      gained = 2;
+      lost = 0;
+      new = future-awaited no-owner ∷ handle-open no-owner (names s) ∷ [];
+      changed = [];
+    }
+-- HANDLE.BIND: E[z v] | z h y → E[unit] | y ⇐ v | z h •
+effect-of s m (HandleBind handle future) =
+    record {
+      redex = unit-tag ∷ [];
+      gained = 0;
+      lost = 1;
+      new = [];
+      changed = named handle (handle-used no-owner) ∷ named future (thread-holding no-owner (argument-bytes s m)) ∷ [];
+    }
+-- CELL.NEW: E[cell v] → (νy)(E[y] | y c v)
+effect-of s m CellNew =
+    record {
+      redex = name-bytes (names s);
+      gained = 0;
+      lost = 1;
+      new = cell-holding no-owner (argument-bytes s m) ∷ [];
+      changed = [];
+    }
+-- CELL.EXCH: E[exch y v₁] | y c v₂ → E[v₂] | y c v₁
+effect-of s m (CellExch cell from to) =
+    record {
+      redex = bytes-between s from to;
+      gained = 0;
+      lost = 4;
+      new = [];
+      changed = named cell (cell-holding no-owner (argument-bytes s m)) ∷ [];
+    }
