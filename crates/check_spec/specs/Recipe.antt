@@ -13,8 +13,9 @@ use Rattle.calculus.specs.Limits.{max-nesting, max-recipe-nodes}
 use Rattle.calculus.specs.Image.{nodes-all}
 use Rattle.calculus.specs.Table.{Entry, Table, TableRule, type-at}
 use Rattle.calculus.specs.Recipe.{setting-types}
-use Rattle.term.specs.Expressions.{bytes, nesting, tree-of, FitsBytes}
+use Rattle.term.specs.Expressions.{bytes, nesting, FitsBytes}
 use Rattle.term.specs.Tree.{forms-below}
+use Rattle.term.specs.Reader.{read-term, tree-in}
 use Rattle.recipe_file.specs.File.{edition-of, bays, table-bytes, term-bytes}
 use Rattle.recipe_file.specs.FileRule.{FileRule}
 
@@ -38,7 +39,7 @@ pub record Recipe (s : List ℕ) (T : Table) (es : List Exp) : Type 0 where
   -- cause 5: each other part is the bytes of an expression that the node forms can write, those of the edition
   pub count : length es ≡ bays s
   pub terms : (bay : ℕ) (e : Exp) → at es bay ≡ some e → (term-bytes s bay ≡ bytes e) × FitsBytes e
-  pub forms : (bay : ℕ) (e : Exp) → at es bay ≡ some e → forms-below (edition-of s .forms) (tree-of e) ≡ true
+  pub forms : (bay : ℕ) → bay < bays s → forms-below (edition-of s .forms) (tree-in (read-term (term-bytes s bay))) ≡ true
   -- cause 6: nesting, and nodes over all terms
   pub shallow : (bay : ℕ) (e : Exp) → at es bay ≡ some e → nesting e ≤ max-nesting
   pub few-nodes : nodes-all (map thread-of es) ≤ max-recipe-nodes

@@ -10,9 +10,9 @@ use Rattle.calculus.specs.Bytes.{Bytes}
 use Rattle.calculus.specs.Syntax.{Exp}
 use Rattle.calculus.specs.Image.{size}
 use Rattle.term.specs.Tree.{forms-below, Tree, tree-size, WellFormed}
-use Rattle.term.specs.Reader.{end-at, first-rest, first-tree, Got, none, got, GoodAt, of-edition, one-term, read-term, tree-at}
+use Rattle.term.specs.Reader.{end-at, first-rest, first-tree, Got, none, got, GoodAt, of-edition, one-term, read-term, tree-at, tree-in}
 use Rattle.term.specs.Expressions.{bytes, exp-of, term-at, TermAt, tree-of, FitsBytes, term-of}
-use Rattle.term.proofs.Trees.{bytes-tree, exp-bytes, exp-fits, exp-size, exp-tree, tree-exp, tree-well-formed}
+use Rattle.term.proofs.Trees.{bytes-tree, exp-bytes, exp-fits, exp-size, exp-tree, tree-well-formed}
 use Rattle.term.proofs.Reading.{none-got, past-term}
 use Rattle.term.proofs.Fronts.{is-good, is-tree}
 use Rattle.term.proofs.Terms.{bytes-drop, exactly, read-bytes, read-stands, unique}
@@ -72,17 +72,21 @@ edition-got forms (got u q) {t} {r} e = by (forms-below forms u) refl e
     by false f e = absurd (none-got t r e)
 
 pub edition-sound : (forms : ℕ) (l : List ℕ) → Bytes l → one-term (of-edition forms (read-term l)) ≡ true →
-    (l ≡ bytes (term-at l 0)) × FitsBytes (term-at l 0) × (forms-below forms (tree-of (term-at l 0)) ≡ true)
+    (l ≡ bytes (term-at l 0)) × FitsBytes (term-at l 0) × (forms-below forms (tree-in (read-term l)) ≡ true)
 unfolding term-of
 edition-sound forms l b e =
     let (t, g) = one-term-parts (of-edition forms (read-term l)) e in
     let (q, f) = edition-got forms (read-term l) g in
-    let (p, w) = exactly l t b .0 q in
-    rw q (p ∙ sym (exp-bytes t w), exp-fits t w, ap (forms-below forms) (tree-exp t w) ∙ f)
+    let (p, w) = one-term-is l t b q in
+    rw q (p, w, f)
 
-pub edition-complete : (forms : ℕ) (e : Exp) → FitsBytes e → forms-below forms (tree-of e) ≡ true → one-term (of-edition forms (read-term (bytes e))) ≡ true
+pub edition-complete : (forms : ℕ) (l : List ℕ) (e : Exp) → l ≡ bytes e → FitsBytes e → forms-below forms (tree-in (read-term l)) ≡ true →
+    one-term (of-edition forms (read-term l)) ≡ true
 unfolding one-term of-edition
-edition-complete forms e f below = rw (read-alone e f, below) refl
+edition-complete forms l e p f below =
+    let q : read-term l ≡ got (tree-of e) [] = ap read-term p ∙ read-alone e f in
+    let k : forms-below forms (tree-of e) ≡ true = rw q at below in
+    rw (q, k) refl
 
 -- At a position
 

@@ -56,18 +56,12 @@ to-name = 3
 abbrev pub form : ℕ → ℕ → ℕ → ℕ → Form
 form operand subterms binders refers = record { operand = operand; subterms = subterms; binders = binders; refers = refers }
 
--- the rows of the table, in the order of the tags
+-- the rows of the table, in the order of the tags: variable, lambda, application; unit, num; cell, exch, thread, handle; name
 unfoldable pub forms : List Form
 forms =
-    form 1 0 0 to-variable
-    ∷ form 1 1 1 to-type
-    ∷ form 0 2 0 to-nothing
-    ∷ form 0 0 0 to-nothing
-    ∷ form 2 0 0 to-nothing
-    ∷ form 1 0 0 to-type
-    ∷ form 1 0 0 to-type
-    ∷ form 1 0 0 to-type
-    ∷ form 1 0 0 to-type
+    form 1 0 0 to-variable ∷ form 1 1 1 to-type ∷ form 0 2 0 to-nothing
+    ∷ form 0 0 0 to-nothing ∷ form 2 0 0 to-nothing
+    ∷ form 1 0 0 to-type ∷ form 1 0 0 to-type ∷ form 1 0 0 to-type ∷ form 1 0 0 to-type
     ∷ form 1 0 0 to-name
     ∷ []
 

@@ -26,9 +26,9 @@ use Rattle.calculus.specs.Theory.Tabulate.{length-tabulate, tabulate-at, tabula
 use Rattle.calculus.specs.Theory.Lowest.{first-cause-parts}
 use Rattle.calculus.specs.Theory.TableTest.{KindsBelow, table-test-iff}
 use Rattle.calculus.specs.Theory.Verdict.{accepted-iff, verdict-iff, verdict-derived-iff}
-use Rattle.term.specs.Reader.{one-term}
+use Rattle.term.specs.Reader.{one-term, read-term, tree-in}
 use Rattle.term.specs.Tree.{forms-below}
-use Rattle.term.specs.Expressions.{bytes, nesting, tree-of, FitsBytes}
+use Rattle.term.specs.Expressions.{bytes, nesting, FitsBytes}
 use Rattle.term.proofs.Expressions.{edition-complete, edition-sound, term-of-bytes}
 use Rattle.recipe_file.specs.File.{edition-of, bays, table-bytes, term-bytes, cause-1, cause-2, cause-3}
 use Rattle.recipe_file.specs.FileRule.{FileRule}
@@ -75,7 +75,7 @@ module _ (s : List ℕ) (b : Bytes s) (n : NoCause s) where
       sym (entry-bytes-of t (table-bytes s) (length-table-bytes laid-out ∙ e))
 
   bay-is-term : (bay : ℕ) → bay < bays s →
-      (term-bytes s bay ≡ bytes (bay-term s bay)) × FitsBytes (bay-term s bay) × (forms-below (edition-of s .forms) (tree-of (bay-term s bay)) ≡ true)
+      (term-bytes s bay ≡ bytes (bay-term s bay)) × FitsBytes (bay-term s bay) × (forms-below (edition-of s .forms) (tree-in (read-term (term-bytes s bay))) ≡ true)
   unfolding cause-5 bay-term term-bytes
   bay-is-term bay l = edition-sound (edition-of s .forms) (term-bytes s bay) (part-bytes s (edition-of s .terms + bay) b)
       (each-below-sound (bays s) (λ k. one-term (bay-reading s k)) (not-false _ (n .not-5)) bay l)
@@ -93,7 +93,7 @@ module _ (s : List ℕ) (b : Bytes s) (n : NoCause s) where
     table-rule = table-stands .1;
     count = length-tabulate (bays s) (bay-term s);
     terms = λ bay e h. let (l, q) = tabulate-parts (bays s) (bay-term s) bay h in let (p, f, below) = bay-is-term bay l in rw q (p, f);
-    forms = λ bay e h. let (l, q) = tabulate-parts (bays s) (bay-term s) bay h in rw q (bay-is-term bay l .2);
+    forms = λ bay l. bay-is-term bay l .2;
     shallow = λ bay e h.
         let (l, q) = tabulate-parts (bays s) (bay-term s) bay h in
         rw q (leb-sound _ _ (each-below-sound (bays s) (λ k. leb (nesting (bay-term s k)) max-nesting) (bay-limits .0) bay l));
@@ -121,7 +121,7 @@ module _ {s : List ℕ} {T : Table} {es : List Exp} (r : Recipe s T es) where
   each-one-term : each-below (bays s) (λ k. one-term (bay-reading s k)) ≡ true
   unfolding term-bytes
   each-one-term = each-below-complete (bays s) _ λ bay l.
-      let (e, h) = bay-there bay l in let (p, f) = r .terms bay e h in rw p (edition-complete (edition-of s .forms) e f (r .forms bay e h))
+      let (e, h) = bay-there bay l in let (p, f) = r .terms bay e h in edition-complete (edition-of s .forms) (term-bytes s bay) e p f (r .forms bay l)
 
   each-shallow : each-below (bays s) (λ k. leb (nesting (bay-term s k)) max-nesting) ≡ true
   each-shallow = each-below-complete (bays s) _ λ bay l.
