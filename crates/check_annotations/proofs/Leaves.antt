@@ -1,7 +1,7 @@
 -- A leaf by its tag.
 use mathlib.Core.Path.{_≡_, refl}
 use mathlib.Core.Bool.{false, true}
-use Prim.Native.Nat.{_≤_, suc, zero, ℕ}
+use Prim.Native.Nat.{_≤_, ℕ}
 use Rattle.calculus.specs.Syntax.{const, Op, op, cell, exch, thread, handle}
 use Rattle.calculus.specs.Table.{Table}
 use Rattle.calculus.specs.Verdict.{annotated, annotated-const, cell-parts, exch-parts, handle-parts, is-function-kind, thread-parts}
@@ -43,18 +43,3 @@ module _ (T : Table) (tag arg : ℕ) (w : Entry) (whole : as-entry w ≡ entry-o
     pub handle-leaf : tag ≡ handle-tag → handle-parts T (w .p) (w .q) ≡ annotated T (leaf-exp tag arg)
     unfolding leaf-exp leaf-forms annotated annotated-const
     handle-leaf e = rw (e, on-function-is T arg (handle-parts T), ← whole, f) refl
-
--- a leaf of any other tag has no annotation
-pub plain-leaf : (T : Table) (tag arg : ℕ) → (tag ≡ cell-tag → ⊥) → (tag ≡ exch-tag → ⊥) → (tag ≡ thread-tag → ⊥) → (tag ≡ handle-tag → ⊥) → true ≡ annotated T (leaf-exp tag arg)
-unfolding leaf-exp leaf-forms annotated annotated-const
-plain-leaf T zero arg a b c d = refl
-plain-leaf T (suc zero) arg a b c d = refl
-plain-leaf T (suc (suc zero)) arg a b c d = refl
-plain-leaf T (suc (suc (suc zero))) arg a b c d = refl
-plain-leaf T (suc (suc (suc (suc zero)))) arg a b c d = refl
-plain-leaf T (suc (suc (suc (suc (suc zero))))) arg a b c d = absurd (a refl)
-plain-leaf T (suc (suc (suc (suc (suc (suc zero)))))) arg a b c d = absurd (b refl)
-plain-leaf T (suc (suc (suc (suc (suc (suc (suc zero))))))) arg a b c d = absurd (c refl)
-plain-leaf T (suc (suc (suc (suc (suc (suc (suc (suc zero)))))))) arg a b c d = absurd (d refl)
-plain-leaf T (suc (suc (suc (suc (suc (suc (suc (suc (suc zero))))))))) arg a b c d = refl
-plain-leaf T (suc (suc (suc (suc (suc (suc (suc (suc (suc (suc n)))))))))) arg a b c d = refl

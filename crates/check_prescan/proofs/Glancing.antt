@@ -2,15 +2,14 @@
 use mathlib.Core.Path.{_≡_, ap, ap₂, refl, sym, _∙_}
 use mathlib.Core.Bool.{Bool, _&&_, and-false, cond, false, false≢true, true}
 use mathlib.Core.List.{List, [], _∷_, map}
-use Prim.Native.Nat.{_%_, _*_, _+_, _-_, _/_, _<_, _≤_, suc, zero, ℕ}
+use Prim.Native.Nat.{_*_, _+_, _-_, _<_, _≤_, suc, zero, ℕ}
 use native.Mathlib.Omega.{arith}
-use borrow.Author.Tests.{le-ltb, lt-ltb}
-use lib.Dec.{leb, ltb}
+use lib.Dec.{ltb}
 use lib.ListN.{drop, getD, length}
 use Rattle.calculus.specs.Limits.{byte-values, max-nesting}
 use Rattle.calculus.specs.Syntax.{Exp, lam}
 use Rattle.calculus.specs.Table.{Table}
-use Rattle.calculus.specs.Verdict.{annotated, annotated-const, on-function}
+use Rattle.calculus.specs.Verdict.{annotated, annotated-const}
 use Rattle.calculus.specs.Theory.Tests.{and-parts, clash, ltb-false, ltb-sound}
 use Rattle.term.specs.declared.Front.{Front}
 use Rattle.term.specs.declared.Front.the-variants.{Bad, Is}
@@ -18,7 +17,7 @@ use Rattle.term.specs.declared.Node.{Node}
 use Rattle.term.specs.Forms.{tags}
 use Rattle.term.specs.Tree.{forms-below, HasForm, Tree, tree-nodes}
 use Rattle.term.specs.Reader.{first-tree, Got, got, GoodAt, node-at, none, of-edition, read-term, tree-at}
-use Rattle.term.specs.Expressions.{exp-of, leaf-exp, leaf-forms, nesting, term-at, term-of, two-exp}
+use Rattle.term.specs.Expressions.{exp-of, leaf-exp, leaf-forms, term-at, term-of, two-exp}
 use Rattle.term.proofs.Fronts.{is-good, is-tree}
 use Rattle.term.proofs.Reading.{shaped-term}
 use Rattle.term.proofs.Shapes.{all-forms, leaf-tag, one-tag, two-tag}
@@ -27,7 +26,6 @@ use Rattle.term_walk.specs.Frames.{opened, Passed, stack-of}
 use Rattle.term_walk.proofs.Law.{from, from-node, from-none, Walk}
 use Rattle.term_walk.proofs.Asking.{asked, asking}
 use Rattle.term_walk.proofs.Stack.{length-stack, pop}
-use Rattle.term_scan.specs.declared.Part.{Part}
 use Rattle.term_scan.specs.declared.Part.the-variants.{Nodes, NoTerm}
 use Rattle.term_scan.specs.Extents.{part-of}
 use Rattle.term_scan.specs.Extents as extents

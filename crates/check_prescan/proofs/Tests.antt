@@ -4,10 +4,9 @@ use mathlib.Core.Bool.{Bool, _&&_, and-true, cond, false, not, true}
 use Prim.Native.Nat.{_<_, _≤_, ℕ}
 use native.Mathlib.Omega.{arith}
 use borrow.Author.Tests.{eq-eqb, le-ltb, lt-ltb, ne-eqb}
-use lib.Dec.{T as So, eqb, leb, ltb}
+use lib.Dec.{T as So, eqb, leb}
 use lib.ListN.{length}
-use Rattle.calculus.specs.Bytes.{two-byte-values}
-use Rattle.calculus.specs.Limits.{byte-values, max-entries, max-nesting}
+use Rattle.calculus.specs.Limits.{max-entries, max-nesting}
 use Rattle.calculus.specs.Table as calculus
 use Rattle.calculus.specs.Table.{Table}
 use Rattle.calculus.specs.Verdict.{annotated, annotated-const, is-function-kind}

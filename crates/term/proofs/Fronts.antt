@@ -43,10 +43,6 @@ pub front-not-bad : (l : List ℕ) → Good l → node-of l ≡ Bad → ⊥
 front-not-bad l g is = none-got (first-tree l) (first-rest l) (sym (rw is at (step l)) ∙ g)
 
 module _ (l : List ℕ) (h : Node) (is : node-of l ≡ Is h) where
-  -- neither none nor one
-  pub is-two : (h .subterms ≡ 0 → ⊥) → (h .subterms ≡ 1 → ⊥) → h .subterms ≡ 2
-  is-two no-0 no-1 = omega (arith, subterms-at-most (h .tag), head-is l h is .at-subterms)
-
   module _ (g : Good l) where
     pub leaf-front : h .subterms ≡ 0 → first-tree l ≡ leaf (h .tag) (h .arg)
     leaf-front k = is-tree l (leaf (h .tag) (h .arg)) (drop (h .size) l) (step-node l h is 0 k)

@@ -20,7 +20,7 @@ pub mod Views
 pub mod Packed
 -- leaves by their tag
 pub mod Leaves
--- nodes, nesting and bytes of a term
+-- nodes and bytes of a term
 pub mod Sizes
 -- an expression and the tree that it is written as
 pub mod Trees

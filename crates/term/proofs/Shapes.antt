@@ -10,9 +10,9 @@ use Rattle.calculus.specs.Syntax.{Each, each-app, each-lam, Exp, app, lam}
 use Rattle.calculus.specs.Limits.{byte-values}
 use Rattle.calculus.specs.Reduction.{substitute}
 use Rattle.calculus.specs.Names.{count, uses}
-use Rattle.calculus.specs.Image.{nodes, size, Writable}
+use Rattle.calculus.specs.Image.{nodes, Writable}
 use Rattle.calculus.specs.Theory.Tests.{clash}
-use Rattle.term.specs.Forms.{application-tag, binders-of, cell-tag, exch-tag, form-of, forms, handle-tag, lambda-tag, name-tag, num-tag, operand-of, subterms-of, tags, thread-tag, unit-tag, variable-tag}
+use Rattle.term.specs.Forms.{application-tag, binders-of, cell-tag, exch-tag, form-of, forms, handle-tag, lambda-tag, name-tag, num-tag, subterms-of, tags, thread-tag, unit-tag, variable-tag}
 use Rattle.term.specs.Numbers.{little-endian}
 use Rattle.term.specs.Tree.{forms-below, HasForm, InTable, leaf, node-bytes, one, Shaped, Tree, two}
 use Rattle.term.specs.Expressions.{bytes, FitsBytes, nesting, tree-of, two-exp}
@@ -113,10 +113,6 @@ unfolding two-exp
 two-app arg e f h = rw h refl
 
 -- what holds of the tags that have two
-pub size-two : (arg : ℕ) (e f : Exp) (tag : ℕ) → HasForm tag 2 → size (two-exp tag arg e f) ≡ 1 + operand-of tag + size e + size f
-unfolding size two-exp form-of forms
-size-two arg e f = two-tag (λ tag. size (two-exp tag arg e f) ≡ 1 + operand-of tag + size e + size f) (omega arith)
-
 pub uses-two : (arg : ℕ) (e f : Exp) (d tag : ℕ) → HasForm tag 2 → uses d (two-exp tag arg e f) ≡ uses d e + uses (d + binders-of tag) f
 unfolding uses two-exp form-of forms
 uses-two arg e f d = two-tag (λ tag. uses d (two-exp tag arg e f) ≡ uses d e + uses (d + binders-of tag) f) (at-0 (λ x. uses d e + uses x f) d)

@@ -1,24 +1,21 @@
 -- What an answer of a scan says of the term there, and what a scan answers of a term that stands there.
 use mathlib.Core.Path.{_≡_, ap, refl, sym, _∙_}
 use mathlib.Core.Bool.{Bool, cond, false, true}
-use mathlib.Core.List.{List, [], _∷_, append-nil}
+use mathlib.Core.List.{List, [], _∷_}
 use Prim.Native.Nat.{_+_, _-_, _≤_, zero-le, ℕ}
 use native.Mathlib.Omega.{arith}
 use borrow.Author.Tests.{le-leb, leb-true}
 use lib.Dec.{leb}
 use lib.ListN.{drop, length, length-drop}
-use Rattle.calculus.specs.Bytes.{Bytes}
-use Rattle.calculus.specs.Syntax.{Exp}
 use Rattle.calculus.specs.Image.{nodes}
 use Rattle.calculus.specs.Theory.Tests.{clash}
 use Rattle.term.specs.Tree.{forms-below, Tree, tree-nodes, tree-size}
 use Rattle.term.specs.Reader.{end-at, first-tree, GoodAt, Got, got, none, of-edition, read-term, tree-at}
-use Rattle.term.specs.Expressions.{bytes, FitsBytes, term-at, term-of, tree-of}
+use Rattle.term.specs.Expressions.{term-at, term-of}
 use Rattle.term.proofs.Reading.{past-term}
 use Rattle.term.proofs.Views.{end-inside, nodes-inside}
 use Rattle.term.proofs.Fronts.{is-good, is-tree}
 use Rattle.term.proofs.Sizes.{nodes-exp}
-use Rattle.term.proofs.Trees.{exp-tree}
 use Rattle.term.proofs.Expressions.{edition-got}
 use Rattle.term_scan.specs.declared.Extent.{Extent}
 use Rattle.term_scan.specs.declared.Extent.the-variants.{Ends, Refused}

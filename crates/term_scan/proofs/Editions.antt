@@ -1,6 +1,6 @@
 -- The forms of an edition: the walk that asks each tag.
 use mathlib.Core.Path.{_≡_, ap, refl, sym, _∙_}
-use mathlib.Core.Bool.{Bool, _&&_, and-assoc, and-false, and-true, false, true}
+use mathlib.Core.Bool.{Bool, _&&_, false, true}
 use mathlib.Core.List.{List, [], _∷_}
 use Prim.Native.Nat.{_+_, _-_, _<_, _≤_, suc, ℕ}
 use native.Mathlib.Omega.{arith}
@@ -9,7 +9,6 @@ use lib.Dec.{ltb}
 use lib.ListN.{replicate}
 use Rattle.term.specs.declared.Front.the-variants.{Bad, Is}
 use Rattle.term.specs.declared.Node.{Node}
-use Rattle.term.specs.Tree.{leaf, one, Tree, two}
 use Rattle.term.specs.Tree.{forms-below}
 use Rattle.term.specs.Reader.{GoodAt, node-at, tree-at}
 use Rattle.term_walk.proofs.Law.{from, from-node, from-none, Walk}

@@ -1,6 +1,6 @@
 -- Nesting by the walk whose frames are the numbers of nodes above, and what the loop of `nesting_within` knows.
 use mathlib.Core.Path.{_≡_, ap, refl, sym, _∙_}
-use mathlib.Core.Bool.{Bool, _&&_, and-assoc, and-false, and-true, false, true}
+use mathlib.Core.Bool.{Bool, _&&_, false, true}
 use mathlib.Core.List.{List, [], _∷_}
 use Prim.Native.Nat.{_+_, _-_, _<_, _≤_, max, suc, zero, ℕ}
 use native.Mathlib.Omega.{arith}

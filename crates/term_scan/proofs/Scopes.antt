@@ -1,6 +1,6 @@
 -- Scope of nodes by what they refer to, and of terms by the walk that asks it of each node; scope as an image asks it.
-use mathlib.Core.Path.{_≡_, ap, ap₂, refl, sym, _∙_}
-use mathlib.Core.Bool.{Bool, _&&_, and-assoc, and-false, and-true, false, true}
+use mathlib.Core.Path.{_≡_, ap, ap₂, refl, _∙_}
+use mathlib.Core.Bool.{Bool, _&&_, true}
 use mathlib.Core.List.{List, [], _∷_}
 use Prim.Native.Nat.{_+_, _<_, _≤_, suc, zero, ℕ}
 use native.Mathlib.Omega.{arith}
@@ -12,10 +12,9 @@ use Rattle.calculus.specs.Limits.{byte-values}
 use Rattle.calculus.specs.Image.{expression-test, Writable, WritableConst}
 use Rattle.calculus.specs.Verdict.{scoped, scoped-const}
 use Rattle.term.specs.Forms.{binders-of, form-of, forms, refers-of, to-name}
-use Rattle.term.specs.Tree.{HasForm, leaf, one, Shaped, Tree, two}
+use Rattle.term.specs.Tree.{HasForm}
 use Rattle.term.specs.Reader.{first-tree, GoodAt, tree-at}
 use Rattle.term.specs.Expressions.{exp-of, leaf-exp, leaf-forms, term-at, term-of, two-exp}
-use Rattle.term.proofs.Views.{shaped-at}
 use Rattle.term.proofs.Shapes.{at-0, at-1, leaf-tag, one-tag, two-tag}
 use Rattle.term_walk.proofs.Law.{from, Walk}
 use Rattle.term_walk.proofs.Asking.{asked, asking}

@@ -1,12 +1,11 @@
 -- `check_prescan::glance` meets its contract. The loop's invariant: the terms still to come give the answer (proofs/Glancing.antt). The measure: a node takes a byte.
-use mathlib.Core.Path.{_≡_, refl, sym, _∙_}
+use mathlib.Core.Path.{refl, sym, _∙_}
 use mathlib.Core.List.{List}
 use Prim.Native.Nat.{_-_, _<_, _≤_, ℕ}
 use native.Mathlib.Omega.{arith}
 use borrow.Author.Needs.{needs}
 use lib.ListN.{length}
 use Rattle.calculus.specs.Limits.{max-nesting}
-use Rattle.calculus.specs.Table.{Table}
 use Rattle.term.specs.declared.Node.{Node}
 use Rattle.term_scan.proofs.Many.{More}
 use Rattle.recipe_table.specs.Entries.{table-of}

@@ -1,12 +1,11 @@
 -- `check_prescan::node_stands` meets its contract: a law for each return (proofs/Tests.antt).
 use mathlib.Core.Path.{_≡_, sym, _∙_}
-use mathlib.Core.Bool.{Bool}
-use Prim.Native.Nat.{_%_, _/_, _<_}
+use Prim.Native.Nat.{_%_}
 use native.Mathlib.Omega.{arith}
 use borrow.Author.Needs.{needs}
 use borrow.Author.Tests.{not-false, not-true}
 use lib.ListN.{length}
-use Rattle.calculus.specs.Limits.{byte-values, max-nesting}
+use Rattle.calculus.specs.Limits.{byte-values}
 use Rattle.term.proofs.Nodes.{refers-at-most}
 use Rattle.term_scan.specs.Scopes.{operand-scoped}
 use Rattle.recipe_table.specs.Entries.{table-of}
