@@ -1,6 +1,6 @@
 -- Keys are equal where entries are, so that the search among keys is the search among entries.
 use mathlib.Core.Path.{_≡_, ap, ap₂, refl, sym, _∙_}
-use mathlib.Core.Bool.{Bool, _&&_, and-assoc, and-false, and-true, false, false≢true, not, true}
+use mathlib.Core.Bool.{Bool, _&&_, and-assoc, and-true, false, false≢true, not, true}
 use mathlib.Core.List.{List}
 use Prim.Native.Nat.{_+_, _-_, _<_, _≤_, suc, zero, ℕ}
 use native.Mathlib.Numerals.{add-one}
@@ -15,7 +15,7 @@ use Rattle.calculus.specs.Theory.Tests.{and-parts, eqb-sound, eqb-complete, equ
 use Rattle.recipe_table.specs.declared.Entry.{Entry}
 use Rattle.recipe_table.specs.Filled.{unused, as-entry, as-table}
 use Rattle.recipe_table.specs.Keys.{absent, Coded, mark-of, Marked, marks-room}
-use Rattle.recipe_table.proofs.Turns.{distinct-done, distinct-from, distinct-turn, new-done, new-from, new-turn}
+use Rattle.recipe_table.proofs.Turns.{distinct-done, distinct-from, distinct-turn, fails-from, new-done, new-from, new-turn}
 
 -- two keys
 key-same : {x y : calculus.Entry} {k m : ℕ} → Coded x k → Coded y m → eqb m k ≡ calculus.same-entry x y
@@ -57,8 +57,7 @@ module _ (a : List Entry) (count : ℕ) (h : count ≤ length a) where
   -- where an entry stands again, the table fails
   fails : (i : ℕ) → i ≤ count → distinct-from (as-table a count) i ≡ false → false ≡ calculus.distinct-test (as-table a count)
   unfolding distinct-from
-  fails zero l e = sym e
-  fails (suc i) l e = fails i (omega arith) (distinct-turn a count h i (omega arith) ∙ rw (add-one i, e) (and-false (calculus.new-to (as-entry (getD a i unused)) (drop (suc i) (as-table a count)))))
+  fails i l e = sym (fails-from (distinct-from (as-table a count)) (λ j. calculus.new-to (as-entry (getD a j unused)) (drop (j + 1) (as-table a count))) count (distinct-turn a count h) i l e)
 
   -- the search among keys
   search-is : (keys : List ℕ) (x : calculus.Entry) (k : ℕ) → Coded x k → (n j : ℕ) → j + n ≡ count

@@ -116,21 +116,6 @@ fn is_same(a: Entry, b: Entry) -> bool
     a.p == b.p && a.q == b.q
 }
 
-// Each entry keeps its rule.
-fn entries_stand(table: [Entry; Recipe::MAX_ENTRIES], count: usize, kinds: u8) -> bool
-    requires { ⌜ count ≤ max-entries ⌝ }
-    ensures { λ r. ⌜ r ≡ entries-test kinds 0 (as-table table count) ⌝ }
-{
-    let mut i = 0;
-    while i < count {
-        if !entry_stands(table[i], i, kinds) {
-            return false;
-        }
-        i += 1;
-    }
-    true
-}
-
 // An entry as one number.
 fn key_of(it: Entry) -> u32
     ensures { λ r. ⌜ Coded (as-entry it) r ⌝ }
@@ -176,16 +161,19 @@ fn is_unmet(
     is_new(keys, from, count, key)
 }
 
-// No two entries are equal: from the last entry down, none stands again behind it.
-fn entries_differ(table: [Entry; Recipe::MAX_ENTRIES], count: usize) -> bool
+// Each entry keeps its rule and no two are equal: from the last entry down, none stands again behind it.
+fn entries_stand(table: [Entry; Recipe::MAX_ENTRIES], count: usize, kinds: u8) -> bool
     requires { ⌜ count ≤ max-entries ⌝ }
-    ensures { λ r. ⌜ r ≡ distinct-test (as-table table count) ⌝ }
+    ensures { λ r. ⌜ r ≡ (entries-test kinds 0 (as-table table count) && distinct-test (as-table table count)) ⌝ }
 {
     let mut keys = [0u32; Recipe::MAX_ENTRIES];
     let mut marks = [false; MARKS];
     let mut i = count;
     while 0 < i {
         i -= 1;
+        if !entry_stands(table[i], i, kinds) {
+            return false;
+        }
         let key = key_of(table[i]);
         if !is_unmet(&keys, &marks, i + 1, count, key) {
             return false;
@@ -215,9 +203,6 @@ pub fn table_stands(table: [Entry; Recipe::MAX_ENTRIES], count: usize, kinds: u8
     ensures { λ r. ⌜ r ≡ table-test kinds (as-table table count) ⌝ }
 {
     if !entries_stand(table, count, kinds) {
-        return false;
-    }
-    if !entries_differ(table, count) {
         return false;
     }
     first_stand(table)
