@@ -1,10 +1,11 @@
 -- Keys are equal where entries are, so that the search among keys is the search among entries.
 use mathlib.Core.Path.{_≡_, ap, ap₂, refl, sym, _∙_}
-use mathlib.Core.Bool.{Bool, _&&_, and-assoc, and-false, and-true, false, false≢true, not, true}
+use mathlib.Core.Bool.{Bool, _&&_, and-assoc, and-true, false, false≢true, not, true}
 use mathlib.Core.List.{List}
 use Prim.Native.Nat.{_+_, _-_, _<_, _≤_, suc, zero, ℕ}
 use native.Mathlib.Numerals.{add-one}
 use native.Mathlib.Omega.{arith}
+use borrow.Author.Tests.{ne-eqb}
 use lib.Dec.{eqb}
 use lib.ListN.{drop, getD, length, length-set, set}
 use lib.Seq.{getD-set-other, getD-set-same}
@@ -13,8 +14,8 @@ use Rattle.calculus.specs.Table as calculus
 use Rattle.calculus.specs.Theory.Tests.{and-parts, eqb-sound, eqb-complete, equal-from}
 use Rattle.recipe_table.specs.declared.Entry.{Entry}
 use Rattle.recipe_table.specs.Filled.{unused, as-entry, as-table}
-use Rattle.recipe_table.specs.Keys.{absent, Coded}
-use Rattle.recipe_table.proofs.Turns.{distinct-done, distinct-from, distinct-turn, new-done, new-from, new-turn}
+use Rattle.recipe_table.specs.Keys.{absent, Coded, mark-of, Marked, marks-room}
+use Rattle.recipe_table.proofs.Turns.{distinct-done, distinct-from, distinct-turn, fails-from, new-done, new-from, new-turn}
 
 -- two keys
 key-same : {x y : calculus.Entry} {k m : ℕ} → Coded x k → Coded y m → eqb m k ≡ calculus.same-entry x y
@@ -56,8 +57,7 @@ module _ (a : List Entry) (count : ℕ) (h : count ≤ length a) where
   -- where an entry stands again, the table fails
   fails : (i : ℕ) → i ≤ count → distinct-from (as-table a count) i ≡ false → false ≡ calculus.distinct-test (as-table a count)
   unfolding distinct-from
-  fails zero l e = sym e
-  fails (suc i) l e = fails i (omega arith) (distinct-turn a count h i (omega arith) ∙ rw (add-one i, e) (and-false (calculus.new-to (as-entry (getD a i unused)) (drop (suc i) (as-table a count)))))
+  fails i l e = sym (fails-from (distinct-from (as-table a count)) (λ j. calculus.new-to (as-entry (getD a j unused)) (drop (j + 1) (as-table a count))) count (distinct-turn a count h) i l e)
 
   -- the search among keys
   search-is : (keys : List ℕ) (x : calculus.Entry) (k : ℕ) → Coded x k → (n j : ℕ) → j + n ≡ count
@@ -104,6 +104,39 @@ absent-turn key keys count j fresh t next l e f =
 pub absent-done : (key : ℕ) (keys : List ℕ) (count j : ℕ) (fresh : Bool) → count ≤ j → (fresh && absent key keys j (count - j)) ≡ fresh
 unfolding absent
 absent-done key keys count j fresh l = let z : count - j ≡ 0 = omega arith in rw z (and-true fresh)
+
+-- a key without a mark is none of those with theirs
+pub unmarked : {keys : List ℕ} {marks : List Bool} {from count : ℕ} → Marked keys marks from count → (key : ℕ) → getD marks (mark-of key) false ≡ false
+    → (n j : ℕ) → from ≤ j → j + n ≡ count → absent key keys j n ≡ true
+unfolding absent
+unmarked w key e zero j l f = refl
+unmarked {keys} {marks} w key e (suc n) j l f =
+    let other : ¬ (getD keys j 0 ≡ key) = λ z. false≢true (sym e ∙ (rw z at (w .each j l (omega arith)))) in
+    rw (ne-eqb (getD keys j 0) key other) (unmarked w key e n (suc j) (omega arith) (omega arith))
+
+pub marked-none : (keys : List ℕ) (marks : List Bool) (count : ℕ) → length marks ≡ marks-room → Marked keys marks count count
+marked-none keys marks count r = record { room = r; each = λ j low high. absurd (omega arith) }
+
+pub marked-before : {keys : List ℕ} {marks : List Bool} {i count : ℕ} → Marked keys marks i count → 0 < i → Marked keys marks (i - 1 + 1) count
+marked-before {i = i} w l = let z : i - 1 + 1 ≡ i = omega arith in rw z w
+
+-- the key of one entry more, and its mark
+pub marked-more : (keys : List ℕ) (marks : List Bool) (i count key : ℕ) → i < length keys → mark-of key < marks-room → Marked keys marks (i + 1) count
+    → Marked (set keys i key) (set marks (mark-of key) true) i count
+marked-more keys marks i count key inside there w = record { room = length-set marks (mark-of key) true ∙ w .room; each = λ j low high. go j low high (eqb j i) refl }
+  where
+    here : getD (set marks (mark-of key) true) (mark-of key) false ≡ true
+    here = getD-set-same marks (mark-of key) true false (omega (arith, there, w .room))
+
+    kept : (m : ℕ) → getD marks m false ≡ true → (b : Bool) → eqb m (mark-of key) ≡ b → getD (set marks (mark-of key) true) m false ≡ true
+    kept m e true q = rw (eqb-sound m (mark-of key) q) here
+    kept m e false q = getD-set-other marks (mark-of key) m true false (λ z. false≢true (sym q ∙ eqb-complete m (mark-of key) z)) ∙ e
+
+    go : (j : ℕ) → i ≤ j → j < count → (b : Bool) → eqb j i ≡ b → getD (set marks (mark-of key) true) (mark-of (getD (set keys i key) j 0)) false ≡ true
+    go j low high true q = let z : j ≡ i = eqb-sound j i q in rw (z, getD-set-same keys i key 0 inside) here
+    go j low high false q =
+        let other : ¬ (j ≡ i) = λ z. false≢true (sym q ∙ eqb-complete j i z) in
+        rw (getD-set-other keys i j key 0 other) (kept (mark-of (getD keys j 0)) (w .each j (omega (arith, other)) high) (eqb (mark-of (getD keys j 0)) (mark-of key)) refl)
 
 -- all entries are passed
 pub keyed-done : {a : List Entry} {count : ℕ} {keys : List ℕ} {i : ℕ} → Keyed a count keys i → i ≤ 0 → calculus.distinct-test (as-table a count) ≡ true

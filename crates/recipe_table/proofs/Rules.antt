@@ -1,8 +1,8 @@
 -- The rule of an entry by its kind, and the rules of a table, by the tests that led to an answer.
 use mathlib.Core.Path.{_∙_, _≡_, refl, sym}
-use mathlib.Core.Bool.{Bool, _&&_, false, true}
+use mathlib.Core.Bool.{Bool, _&&_, and-assoc, and-false, false, true}
 use mathlib.Core.List.{List}
-use Prim.Native.Nat.{_<_, _≤_, suc, zero, ℕ}
+use Prim.Native.Nat.{_+_, _<_, _≤_, suc, zero, ℕ}
 use native.Mathlib.Omega.{arith}
 use borrow.Author.Tests.{eq-eqb, le-ltb, lt-ltb, ne-eqb}
 use lib.Dec.{eqb, ltb}
@@ -13,6 +13,7 @@ use Rattle.calculus.specs.Table as calculus
 use Rattle.recipe_table.specs.declared.Entry.{Entry}
 use Rattle.recipe_table.specs.Filled.{unused, as-entry, as-table, stands-at, first-three}
 use Rattle.recipe_table.proofs.Arrays.{entry-at}
+use Rattle.recipe_table.proofs.Turns.{entries-from, entries-turn, fails-from}
 
 plain : (k kind p q : ℕ) → kind ≤ num-type-kind → calculus.entry-test k kind p q ≡ (eqb p 0 && eqb q 0)
 unfolding calculus.entry-test
@@ -70,6 +71,29 @@ module _ (kinds kind : ℕ) (t : Bool) where
   pub kind-not : kinds ≤ kind → false ≡ (ltb kind kinds && t)
   kind-not h = rw (le-ltb kind kinds h) refl
 
+-- an entry that keeps its rule, or does not, before those that do
+module _ (kinds : ℕ) (a : List Entry) (count : ℕ) (h : count ≤ length a) where
+  abbrev keeps : ℕ → Bool
+  keeps i = ltb (getD a i unused .kind) kinds && calculus.entry-test i (getD a i unused .kind) (getD a i unused .p) (getD a i unused .q)
+
+  module _ (i : ℕ) (l : i < count) {t : Bool} (e : t ≡ keeps i) where
+    pub rule-broken : t ≡ false → false ≡ (calculus.entries-test kinds 0 (as-table a count) && calculus.distinct-test (as-table a count))
+    unfolding entries-from
+    rule-broken f =
+        let z : entries-from kinds (as-table a count) i ≡ false = entries-turn a count h kinds i l ∙ rw (← e, f) refl in
+        rw (fails-from (entries-from kinds (as-table a count)) keeps count (entries-turn a count h kinds) i (omega arith) z) refl
+
+    pub rule-kept : t ≡ true → entries-from kinds (as-table a count) (i + 1) ≡ true → entries-from kinds (as-table a count) i ≡ true
+    rule-kept f w = entries-turn a count h kinds i l ∙ rw (← e, f, w) refl
+
+  pub both-fail : false ≡ calculus.distinct-test (as-table a count) → false ≡ (calculus.entries-test kinds 0 (as-table a count) && calculus.distinct-test (as-table a count))
+  both-fail d = rw (← d) (sym (and-false (calculus.entries-test kinds 0 (as-table a count))))
+
+  pub both-hold : entries-from kinds (as-table a count) 0 ≡ true → calculus.distinct-test (as-table a count) ≡ true
+      → true ≡ (calculus.entries-test kinds 0 (as-table a count) && calculus.distinct-test (as-table a count))
+  unfolding entries-from
+  both-hold e d = rw (e, d) refl
+
 -- the first three entries
 is-at : (a : List Entry) (count k : ℕ) (x : calculus.Entry) → count ≤ length a → k < count → calculus.entry-is (as-table a count) k x ≡ stands-at a k x
 unfolding calculus.entry-is calculus.test-entry stands-at
@@ -92,18 +116,15 @@ module _ (a : List Entry) (t : Bool) (e : t ≡ calculus.same-entry (as-entry (g
 -- the table
 module _ (kinds : ℕ) (a : List Entry) (count : ℕ) (h : count ≤ length a) (l : min-entries ≤ count) where
   rules : calculus.table-test kinds (as-table a count)
-      ≡ (calculus.entries-test kinds 0 (as-table a count) && (calculus.distinct-test (as-table a count) && first-three a))
+      ≡ ((calculus.entries-test kinds 0 (as-table a count) && calculus.distinct-test (as-table a count)) && first-three a)
   unfolding calculus.table-test first-three
   rules =
-      rw (is-at a count unit-entry calculus.entry-of-unit h (omega arith), is-at a count num-entry calculus.entry-of-num h (omega arith), is-at a count setting-entry calculus.entry-of-setting h (omega arith)) refl
+      rw (is-at a count unit-entry calculus.entry-of-unit h (omega arith), is-at a count num-entry calculus.entry-of-num h (omega arith), is-at a count setting-entry calculus.entry-of-setting h (omega arith))
+      (sym (and-assoc (calculus.entries-test kinds 0 (as-table a count)) (calculus.distinct-test (as-table a count)) _))
 
-  module _ (t : Bool) (e : t ≡ calculus.entries-test kinds 0 (as-table a count)) where
+  module _ (t : Bool) (e : t ≡ (calculus.entries-test kinds 0 (as-table a count) && calculus.distinct-test (as-table a count))) where
     pub entry-broken : t ≡ false → false ≡ calculus.table-test kinds (as-table a count)
     entry-broken f = sym (rules ∙ rw (← e, f) refl)
 
-    module _ (p : t ≡ true) (u : Bool) (d : u ≡ calculus.distinct-test (as-table a count)) where
-      pub entry-twice : u ≡ false → false ≡ calculus.table-test kinds (as-table a count)
-      entry-twice f = sym (rules ∙ rw (← e, p, ← d, f) refl)
-
-      pub table-kept : u ≡ true → first-three a ≡ calculus.table-test kinds (as-table a count)
-      table-kept f = sym (rules ∙ rw (← e, p, ← d, f) refl)
+    pub table-kept : t ≡ true → first-three a ≡ calculus.table-test kinds (as-table a count)
+    table-kept f = sym (rules ∙ rw (← e, f) refl)

@@ -1,8 +1,8 @@
--- A test of all entries, by a loop: what holds where it stands, and each way on. The test is `from i` of what is left from place i on.
-use mathlib.Core.Path.{_∙_, _≡_, refl, sym}
-use mathlib.Core.Bool.{Bool, _&&_, false, not, true}
+-- A test of all entries, by a loop from the last entry down. The test is `from i` of what is left from place i on.
+use mathlib.Core.Path.{_∙_, _≡_, refl}
+use mathlib.Core.Bool.{Bool, _&&_, and-false, false, not, true}
 use mathlib.Core.List.{List, [], _∷_}
-use Prim.Native.Nat.{_+_, _<_, _≤_, ℕ}
+use Prim.Native.Nat.{_+_, _<_, _≤_, suc, zero, ℕ}
 use native.Mathlib.Numerals.{add-one}
 use native.Mathlib.Omega.{arith}
 use lib.Dec.{ltb}
@@ -13,22 +13,10 @@ use Rattle.recipe_table.specs.declared.Entry.{Entry}
 use Rattle.recipe_table.specs.Filled.{unused, as-entry, as-table}
 use Rattle.recipe_table.proofs.Arrays.{length-as-table, entry-of}
 
-pub record Passed (from : ℕ → Bool) (first end i : ℕ) : Type 0 where
-  pub inside : i ≤ end
-  pub same : from first ≡ from i
-
-pub passed-start : (from : ℕ → Bool) (first end : ℕ) → first ≤ end → Passed from first end first
-passed-start from first end h = record { inside = h; same = refl }
-
-module _ {from : ℕ → Bool} {first end i : ℕ} (w : Passed from first end i) (t u : Bool) (e : from i ≡ (u && from (i + 1))) (f : t ≡ u) where
-  pub passed-next : i < end → t ≡ true → Passed from first end (i + 1)
-  passed-next h p = record { inside = omega arith; same = w .same ∙ (e ∙ rw (← f, p) refl) }
-
-  pub passed-not : t ≡ false → false ≡ from first
-  passed-not p = sym (w .same ∙ (e ∙ rw (← f, p) refl))
-
-pub passed-end : {from : ℕ → Bool} {first end i : ℕ} → Passed from first end i → end ≤ i → from end ≡ true → true ≡ from first
-passed-end {from} {first} {end} {i} w h e = let z : i ≡ end = omega (arith, w .inside) in sym (w .same ∙ (rw z e))
+-- a test that fails from a place on fails
+pub fails-from : (from test : ℕ → Bool) (count : ℕ) → ((i : ℕ) → i < count → from i ≡ (test i && from (i + 1))) → (i : ℕ) → i ≤ count → from i ≡ false → from 0 ≡ false
+fails-from from test count turn zero l e = e
+fails-from from test count turn (suc i) l e = fails-from from test count turn i (omega arith) (turn i (omega arith) ∙ rw (add-one i, e) (and-false (test i)))
 
 -- the three tests of a table
 unfoldable pub entries-from : ℕ → calculus.Table → ℕ → Bool

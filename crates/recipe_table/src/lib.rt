@@ -1,7 +1,7 @@
 // The type table: read by value, and its rules.
 ghost use mathlib.Core.Path.{_≡_};
 ghost use mathlib.Core.Bool.{_&&_};
-ghost use Prim.Native.Nat.{_-_, _≤_, _/_};
+ghost use Prim.Native.Nat.{_-_, _<_, _≤_, _/_};
 ghost use lib.Dec.{ltb};
 ghost use lib.ListN.{length};
 ghost use Rattle.calculus.specs.Limits.{min-entries, max-entries};
@@ -9,7 +9,7 @@ ghost use Rattle.calculus.specs.Table.{entry, entry-test, entries-test, same-en
 ghost use Rattle.recipe_file.specs.File.{edition-of, entry-length};
 ghost use Rattle.recipe_file.specs.FileRule.{Between, FileRule};
 ghost use Rattle.recipe_table.specs.Entries.{table-of, type-table, table-refusal};
-ghost use Rattle.recipe_table.specs.Keys.{Coded, absent};
+ghost use Rattle.recipe_table.specs.Keys.{Coded, absent, mark-of, marks-room, Marked};
 ghost use Rattle.recipe_table.specs.Filled.{as-entry, as-table, filled, first-three};
 use numbers::Byte;
 use numbers::Cause;
@@ -29,6 +29,9 @@ pub struct Entry {
 const BYTE_VALUES: u32 = Byte::VALUES as u32;
 
 const TWO_BYTE_VALUES: u32 = BYTE_VALUES * BYTE_VALUES;
+
+// How many marks there are for keys: a prime, so that each byte of a key tells.
+const MARKS: usize = 509;
 
 impl Entry {
     // The first three entries of every table.
@@ -113,26 +116,18 @@ fn is_same(a: Entry, b: Entry) -> bool
     a.p == b.p && a.q == b.q
 }
 
-// Each entry keeps its rule.
-fn entries_stand(table: [Entry; Recipe::MAX_ENTRIES], count: usize, kinds: u8) -> bool
-    requires { ⌜ count ≤ max-entries ⌝ }
-    ensures { λ r. ⌜ r ≡ entries-test kinds 0 (as-table table count) ⌝ }
-{
-    let mut i = 0;
-    while i < count {
-        if !entry_stands(table[i], i, kinds) {
-            return false;
-        }
-        i += 1;
-    }
-    true
-}
-
 // An entry as one number.
 fn key_of(it: Entry) -> u32
     ensures { λ r. ⌜ Coded (as-entry it) r ⌝ }
 {
     (it.kind as u32) + BYTE_VALUES * (it.p as u32) + TWO_BYTE_VALUES * (it.q as u32)
+}
+
+// Where the mark of a key stands.
+fn mark_of(key: u32) -> usize
+    ensures { λ r. ⌜ (r ≡ mark-of key) × (r < marks-room) ⌝ }
+{
+    key as usize % MARKS
 }
 
 // No key from a place on is this one. The loop goes to the end, so that it compares several keys at a time.
@@ -149,19 +144,41 @@ fn is_new(keys: &[u32; Recipe::MAX_ENTRIES], from: usize, count: usize, key: u32
     fresh
 }
 
-// No two entries are equal: from the last entry down, none stands again behind it.
-fn entries_differ(table: [Entry; Recipe::MAX_ENTRIES], count: usize) -> bool
+// The same, with a mark for each key from that place on: a key without a mark is none of them.
+fn is_unmet(
+    keys: &[u32; Recipe::MAX_ENTRIES],
+    marks: &[bool; MARKS],
+    from: usize,
+    count: usize,
+    key: u32,
+) -> bool
+    requires { ⌜ ((from ≤ count) × (count ≤ max-entries)) × Marked (now keys) (now marks) from count ⌝ }
+    ensures { λ r. ⌜ r ≡ absent key (now (keys .entry)) from (count - from) ⌝ }
+{
+    if !marks[mark_of(key)] {
+        return true;
+    }
+    is_new(keys, from, count, key)
+}
+
+// Each entry keeps its rule and no two are equal: from the last entry down, none stands again behind it.
+fn entries_stand(table: [Entry; Recipe::MAX_ENTRIES], count: usize, kinds: u8) -> bool
     requires { ⌜ count ≤ max-entries ⌝ }
-    ensures { λ r. ⌜ r ≡ distinct-test (as-table table count) ⌝ }
+    ensures { λ r. ⌜ r ≡ (entries-test kinds 0 (as-table table count) && distinct-test (as-table table count)) ⌝ }
 {
     let mut keys = [0u32; Recipe::MAX_ENTRIES];
+    let mut marks = [false; MARKS];
     let mut i = count;
     while 0 < i {
         i -= 1;
-        let key = key_of(table[i]);
-        if !is_new(&keys, i + 1, count, key) {
+        if !entry_stands(table[i], i, kinds) {
             return false;
         }
+        let key = key_of(table[i]);
+        if !is_unmet(&keys, &marks, i + 1, count, key) {
+            return false;
+        }
+        marks[mark_of(key)] = true;
         keys[i] = key;
     }
     true
@@ -186,9 +203,6 @@ pub fn table_stands(table: [Entry; Recipe::MAX_ENTRIES], count: usize, kinds: u8
     ensures { λ r. ⌜ r ≡ table-test kinds (as-table table count) ⌝ }
 {
     if !entries_stand(table, count, kinds) {
-        return false;
-    }
-    if !entries_differ(table, count) {
         return false;
     }
     first_stand(table)

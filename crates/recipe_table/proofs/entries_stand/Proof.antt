@@ -1,57 +1,110 @@
--- `recipe_table::entries_stand` meets its contract. The loop's invariant: the entries passed keep their rule, so that those still to come decide.
-use Prim.Native.Nat.{_-_, _≤_, zero-le}
+-- `recipe_table::entries_stand` meets its contract. The loop's invariant: the entries passed keep their rule and differ, their keys stand in the array, and each key has its mark.
+use mathlib.Core.Path.{_≡_, refl}
+use mathlib.Core.Bool.{true}
+use Prim.Native.Nat.{_+_, _-_, _≤_}
 use native.Mathlib.Omega.{arith}
 use borrow.Author.Tests.{not-true, not-false}
 use borrow.Author.Needs.{needs}
 use lib.ListN.{length}
 use Rattle.recipe_table.specs.Filled.{as-table}
-use Rattle.recipe_table.proofs.Turns.{Passed, passed-start, passed-next, passed-not, passed-end, entries-from, entries-turn, entries-done}
-use borrow.Author.Needs.{needs}
+use Rattle.recipe_table.specs.Keys.{Marked}
+use Rattle.recipe_table.proofs.Keys.{Keyed, keyed-before, keyed-done, keyed-more, keyed-none, keyed-twice, marked-before, marked-more, marked-none}
+use Rattle.recipe_table.proofs.Rules.{both-fail, both-hold, rule-broken, rule-kept}
+use Rattle.recipe_table.proofs.Turns.{entries-done, entries-from}
 use Rattle.recipe_table.proofs.entries_stand.Statement.{statement}
 use Rattle.recipe_table.proofs.entries_stand.Tie as tie
 
 abbrev Inv-loop : tie.InvT-loop
-Inv-loop count kinds table i₀ i = Passed (entries-from kinds (as-table table count)) 0 count i
+Inv-loop count kinds table keys₀ marks₀ i₀ keys marks i = (Keyed table count keys i × Marked keys marks i count) × (entries-from kinds (as-table table count) i ≡ true)
 
 abbrev μ-loop : tie.MeasureT-loop
-μ-loop count kinds table i₀ i = count - i
+μ-loop count kinds table keys₀ marks₀ i₀ keys marks i = i
 
 inside : (c : tie.Start Inv-loop μ-loop) → c .args .count ≤ length (c .args .t1)
 inside c = omega (arith, c .pre, c .good .0 .1)
 
 loop-holds : tie.Need-loop-holds Inv-loop μ-loop
-loop-holds c = passed-start _ _ _ zero-le
+loop-holds c = ((keyed-none _ _ (inside c) _ (c .pre) refl, marked-none _ _ _ refl), entries-done _ _ (inside c) _)
+
+sub-i : tie.Need-sub-i Inv-loop μ-loop
+sub-i c = search needs
 
 mul-entry-stands : tie.Need-mul-entry-stands Inv-loop μ-loop
 mul-entry-stands c = search needs
 
 array-copy-out-entry-stands : tie.Need-array-copy-out-entry-stands Inv-loop μ-loop
-array-copy-out-entry-stands c = search needs
+array-copy-out-entry-stands c = let w = c .before .loop .inv .0 .0 in omega (arith, w .inside, w .few)
 
 entry-stands-requires : tie.Need-entry-stands-requires Inv-loop μ-loop
 entry-stands-requires c κs = search needs
 
 returns : tie.Need-returns Inv-loop μ-loop
-unfolding entries-from
 returns c =
-    let l = c .before .before .before .before in
-    passed-not (l .loop .inv) _ _ (entries-turn _ _ (inside (l .before)) _ _ (c .before .before .before .loop-test .taken)) (c .before .entry-stands .ensures) (not-true _ (c .if1 .taken))
+    let t = c .before .before .before in
+    let l = t .before in
+    rule-broken _ _ _ (inside (l .before)) _ (omega (arith, t .loop-test .taken, l .loop .inv .0 .0 .inside)) (c .before .entry-stands .ensures) (not-true _ (c .if1 .taken))
 
-add-i : tie.Need-add-i Inv-loop μ-loop
-add-i c = search needs
+mul-key-of : tie.Need-mul-key-of Inv-loop μ-loop
+mul-key-of c = search needs
+
+array-copy-out-key-of : tie.Need-array-copy-out-key-of Inv-loop μ-loop
+array-copy-out-key-of c = let w = c .before .before .before .before .loop .inv .0 .0 in omega (arith, w .inside, w .few)
+
+key-of-requires : tie.Need-key-of-requires Inv-loop μ-loop
+key-of-requires c κs = search needs
+
+add-is-unmet : tie.Need-add-is-unmet Inv-loop μ-loop
+add-is-unmet c = search needs
+
+is-unmet-requires : tie.Need-is-unmet-requires Inv-loop μ-loop
+is-unmet-requires c κs =
+    let t = c .before .before .before .before .before .before .before in
+    let l = t .before in
+    let (w, m) = l .loop .inv .0 in
+    ((omega (arith, w .inside), l .before .pre), marked-before m (t .loop-test .taken))
+
+returns-2 : tie.Need-returns-2 Inv-loop μ-loop
+returns-2 c =
+    let t = c .before .before .before .before .before .before .before .before .before in
+    let l = t .before in
+    both-fail _ _ _ (inside (l .before))
+    (keyed-twice _ _ (inside (l .before)) _ _ (keyed-before (l .loop .inv .0 .0) (t .loop-test .taken)) (c .before .before .before .before .key-of .ensures) (c .before .is-unmet .ensures) (not-true _ (c .if2 .taken)))
+
+mark-of-requires : tie.Need-mark-of-requires Inv-loop μ-loop
+mark-of-requires c κs = search needs
+
+array-write-marks : tie.Need-array-write-marks Inv-loop μ-loop
+array-write-marks c = search needs
+
+mul-keys : tie.Need-mul-keys Inv-loop μ-loop
+mul-keys c = search needs
+
+array-write-keys : tie.Need-array-write-keys Inv-loop μ-loop
+array-write-keys c = let w = c .before .before .before .before .before .before .before .before .before .before .before .loop .inv .0 .0 in omega (arith, w .inside, w .few)
 
 loop-less : tie.Need-loop-less Inv-loop μ-loop
 loop-less c = search needs
 
 loop-again : tie.Need-loop-again Inv-loop μ-loop
 loop-again c =
-    let l = c .before .before .before .before in
-    passed-next (l .loop .inv) _ _ (entries-turn _ _ (inside (l .before)) _ _ (c .before .before .before .loop-test .taken)) (c .before .entry-stands .ensures)
-    (c .before .before .before .loop-test .taken) (not-false _ (c .if1 .left))
+    let t = c .before .before .before .before .before .before .before .before .before .before in
+    let l = t .before in
+    let ((w, m), k) = l .loop .inv in
+    let below = t .loop-test .taken in
+    let (is, small) = c .mark-of .ensures in
+    let more : l .loop .i - 1 + 1 ≡ l .loop .i = omega arith in (
+      (
+        keyed-more _ _ (inside (l .before)) _ _ (keyed-before w below) (c .before .before .before .before .before .key-of .ensures) (c .before .before .is-unmet .ensures) (not-false _ (c .before .if2 .left)),
+        rw is (marked-more _ _ _ _ _ (omega (arith, w .inside, w .few, w .room)) (omega (arith, is, small)) (marked-before m below)),
+      ),
+      rule-kept _ _ _ (inside (l .before)) _ (omega (arith, w .inside)) (c .before .before .before .before .before .before .before .before .entry-stands .ensures) (not-false _ (c .before .before .before .before .before .before .before .if1 .left)) (rw more k),
+    )
 
-returns-2 : tie.Need-returns-2 Inv-loop μ-loop
-unfolding entries-from
-returns-2 c = passed-end (c .before .loop .inv) (c .loop-test .left) (entries-done _ _ (inside (c .before .before)) _)
+returns-3 : tie.Need-returns-3 Inv-loop μ-loop
+returns-3 c =
+    let l = c .before in
+    let none : l .loop .i ≡ 0 = omega arith in
+    both-hold _ _ _ (inside (l .before)) (rw none at (l .loop .inv .1)) (keyed-done (l .loop .inv .0 .0) (omega arith))
 
 pub entries-stand-spec : {M : Type 1} → statement M
 entries-stand-spec =
@@ -60,11 +113,21 @@ entries-stand-spec =
     Inv-loop
     μ-loop
     loop-holds
+    sub-i
     mul-entry-stands
     array-copy-out-entry-stands
     entry-stands-requires
     returns
-    add-i
+    mul-key-of
+    array-copy-out-key-of
+    key-of-requires
+    add-is-unmet
+    is-unmet-requires
+    returns-2
+    mark-of-requires
+    array-write-marks
+    mul-keys
+    array-write-keys
     loop-less
     loop-again
-    returns-2)
+    returns-3)

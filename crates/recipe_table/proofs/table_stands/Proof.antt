@@ -4,7 +4,7 @@ use Prim.Native.Nat.{_≤_}
 use native.Mathlib.Omega.{arith}
 use borrow.Author.Tests.{not-true, not-false}
 use lib.ListN.{length}
-use Rattle.recipe_table.proofs.Rules.{entry-broken, entry-twice, table-kept}
+use Rattle.recipe_table.proofs.Rules.{entry-broken, table-kept}
 use borrow.Author.Needs.{needs}
 use Rattle.recipe_table.proofs.table_stands.Statement.{statement}
 use Rattle.recipe_table.proofs.table_stands.Tie as tie
@@ -18,33 +18,14 @@ entries-stand-requires c κs = search needs
 returns : tie.Need-returns
 returns c = let s = c .before .before in entry-broken _ _ _ (inside s) (s .pre .low) _ (c .before .entries-stand .ensures) (not-true _ (c .if1 .taken))
 
-entries-differ-requires : tie.Need-entries-differ-requires
-entries-differ-requires c κs = search needs
-
-returns-2 : tie.Need-returns-2
-returns-2 c =
-    let f = c .before .before in
-    let s = f .before .before in
-    entry-twice _ _ _ (inside s) (s .pre .low) _ (f .before .entries-stand .ensures) (not-false _ (f .if1 .left)) _ (c .before .entries-differ .ensures) (not-true _ (c .if2 .taken))
-
 first-stand-requires : tie.Need-first-stand-requires
 first-stand-requires c κs = search needs
 
-returns-3 : tie.Need-returns-3
-returns-3 c =
-    let d = c .before in
-    let f = d .before .before in
+returns-2 : tie.Need-returns-2
+returns-2 c =
+    let f = c .before in
     let s = f .before .before in
-    c .first-stand .ensures
-    ∙ table-kept _ _ _ (inside s) (s .pre .low) _ (f .before .entries-stand .ensures) (not-false _ (f .if1 .left)) _ (d .before .entries-differ .ensures) (not-false _ (d .if2 .left))
+    c .first-stand .ensures ∙ table-kept _ _ _ (inside s) (s .pre .low) _ (f .before .entries-stand .ensures) (not-false _ (f .if1 .left))
 
 pub table-stands-spec : {M : Type 1} → statement M
-table-stands-spec =
-    tie.close
-    (tie.spec
-    entries-stand-requires
-    returns
-    entries-differ-requires
-    returns-2
-    first-stand-requires
-    returns-3)
+table-stands-spec = tie.close (tie.spec entries-stand-requires returns first-stand-requires returns-2)
