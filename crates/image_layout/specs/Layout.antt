@@ -8,7 +8,7 @@ use Prim.Native.Nat.{ℕ, zero, suc, _+_, _≤_, _<_}
 use lib.Dec.{eqb, leb, ltb}
 use lib.ListN.{length}
 use Rattle.calculus.specs.Syntax.{at}
-use Rattle.calculus.specs.Kinds.{thread-kind, open-handle-kind, future-kind}
+use Rattle.calculus.specs.Kinds.{thread-kind, open-handle-kind, future-kind, no-owner}
 use Rattle.image_layout.specs.Encoded.{Encoded, head-offset}
 use Rattle.image_layout.specs.Slice.{names, kind-at, companion-at, offset-at, length-at}
 
@@ -22,7 +22,7 @@ pub record HeadRule (kind companion size : ℕ) : Type 0 where
   -- "Kinds: 1 thread .. 5 future not yet bound"
   pub kinds : (thread-kind ≤ kind) × (kind ≤ future-kind)
   -- "Companions are 0 except for kind 3"
-  pub companions : ¬ (kind ≡ open-handle-kind) → companion ≡ 0
+  pub companions : ¬ (kind ≡ open-handle-kind) → companion ≡ no-owner
   -- "Kinds 3, 4, 5 have length 0"
   pub lengths : open-handle-kind ≤ kind → size ≡ 0
 
@@ -48,7 +48,7 @@ kind-test kind = leb thread-kind kind && leb kind future-kind
 
 -- "Companions are 0 except for kind 3"
 unfoldable pub companion-test : ℕ → ℕ → Bool
-companion-test kind companion = eqb kind open-handle-kind || eqb companion 0
+companion-test kind companion = eqb kind open-handle-kind || eqb companion no-owner
 
 -- "Kinds 3, 4, 5 have length 0"
 unfoldable pub length-test : ℕ → ℕ → Bool

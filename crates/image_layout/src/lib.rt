@@ -104,12 +104,12 @@ fn head_agrees(kind: u8, companion: u8, size: usize) -> bool
         return false;
     }
     if kind < Image::OPEN_HANDLE {
-        return companion == 0;
+        return companion == Image::NO_OWNER;
     }
     if kind == Image::OPEN_HANDLE {
         return size == 0;
     }
-    if companion != 0 {
+    if companion != Image::NO_OWNER {
         return false;
     }
     size == 0
