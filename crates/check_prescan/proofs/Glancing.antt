@@ -214,7 +214,7 @@ module _ {forms : ℕ} {T : Table} {names : ℕ} {l : List ℕ} {here n waits : 
       by : (b : Bool) → ltb here (length l) ≡ b → cond b NoTerm (Nodes n) ≡ part-of tags l
       by true h = part-over tags l here n (seen-end (g .seen) e) (λ z. absurd (omega (arith, z, ltb-sound here (length l) h)))
       by false h =
-          part-is tags l here n (seen-end (g .seen) e) (omega (arith, ltb-false here (length l) h, g .seen .inside)) refl
+          part-is tags l here n (seen-end (g .seen) e) (omega (arith, ltb-false here (length l) h, g .seen .inside))
           (all-forms (tree-at l 0) (shaped-at (scan-stands l 0 here n (omega arith) (seen-end (g .seen) e) .good)))
 
   module _ (some : 0 < waits) where

@@ -109,6 +109,17 @@ module _ (forms : ℕ) (l : List ℕ) where
       is none q = refl
       is (got t r) q = absurd (refused-ends q)
 
+  -- where a term has a form that the edition lacks
+  pub part-other : (GoodAt l 0 → forms-below forms (tree-at l 0) ≡ false) → NoTerm ≡ part-of forms l
+  unfolding part-of of-edition tree-at
+  part-other f = is (read-term l) refl
+    where
+      is : (g : Got) → read-term l ≡ g → NoTerm ≡ exactly (of-edition forms g)
+      is none s = refl
+      is (got t r) s =
+          let b : forms-below forms t ≡ false = ap (forms-below forms) (sym (is-tree l t r s)) ∙ f (record { inside = zero-le; good = is-good l t r s }) in
+          rw b refl
+
   module _ (e n : ℕ) (q : Ends e n ≡ extent-at l 0) where
     -- where the term ends with the bytes
     part-ends : e ≡ length l → cond (forms-below forms (tree-at l 0)) (Nodes n) NoTerm ≡ part-of forms l
@@ -126,11 +137,8 @@ module _ (forms : ℕ) (l : List ℕ) where
             by false = refl
         whole t (b ∷ r) s m = absurd (omega arith)
 
-    pub part-is : e ≡ length l → {b : Bool} → b ≡ forms-below forms (tree-at l 0) → b ≡ true → Nodes n ≡ part-of forms l
-    part-is f d t = ap (λ x. cond x (Nodes n) NoTerm) (sym t ∙ d) ∙ part-ends f
-
-    pub part-other : e ≡ length l → {b : Bool} → b ≡ forms-below forms (tree-at l 0) → b ≡ false → NoTerm ≡ part-of forms l
-    part-other f d t = ap (λ x. cond x (Nodes n) NoTerm) (sym t ∙ d) ∙ part-ends f
+    pub part-is : e ≡ length l → forms-below forms (tree-at l 0) ≡ true → Nodes n ≡ part-of forms l
+    part-is f t = ap (λ x. cond x (Nodes n) NoTerm) (sym t) ∙ part-ends f
 
     pub part-over : (e ≡ length l → ⊥) → NoTerm ≡ part-of forms l
     unfolding extent-at part-of of-edition

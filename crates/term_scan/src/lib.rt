@@ -15,11 +15,10 @@ ghost use Rattle.calculus.specs.Limits.{max-nesting, max-nodes};
 ghost use Rattle.calculus.specs.Image.{nodes};
 ghost use Rattle.calculus.specs.Verdict.{scoped};
 ghost use Rattle.term.specs.Forms.{to-name};
-ghost use Rattle.term.specs.Reader.{GoodAt, tree-at};
+ghost use Rattle.term.specs.Reader.{GoodAt};
 ghost use Rattle.term.specs.Expressions.{nesting, term-at};
 ghost use Rattle.term_walk.specs.Frames.{max-waits};
 ghost use Rattle.term_scan.specs.Extents.{extent-at, in-scope, part-of, small};
-ghost use Rattle.term.specs.Tree.{forms-below};
 ghost use Rattle.term_scan.specs.Scopes.{bound-of, operand-scoped};
 
 // Where a term ends and how many nodes it has, or that there is none.
@@ -66,40 +65,28 @@ pub fn scan(s: &[u8], at: usize) -> Extent
     scan_small(s, at, s.len() - at)
 }
 
-// Whether a term has only the first so many node forms.
-pub fn forms_within(s: &[u8], at: usize, forms: u8) -> bool
-    requires { ⌜ GoodAt (now s) at ⌝ }
-    ensures { λ r. ⌜ r ≡ forms-below forms (tree-at (now (s .entry)) at) ⌝ }
+// Document 01, cause 5: whether a part is exactly one term, in an edition with so many node forms.
+pub fn scan_part(s: &[u8], forms: u8) -> Part
+    ensures { λ r. ⌜ r ≡ part-of forms (now (s .entry)) ⌝ }
 {
+    let mut here: usize = 0;
+    let mut nodes: usize = 0;
     let mut waits: usize = 1;
-    let mut here = at;
     while 0 < waits {
         let Front::Is(node) = term::node_at(s, here) else {
-            return false;
+            return Part::NoTerm;
         };
         let tag = node.tag;
         let size = node.size;
         let subterms = node.subterms;
         if forms <= tag {
-            return false;
+            return Part::NoTerm;
         }
         here += size;
+        nodes += 1;
         waits = waits - 1 + (subterms as usize);
     }
-    true
-}
-
-// Document 01, cause 5: whether a part is exactly one term, in an edition with so many node forms.
-pub fn scan_part(s: &[u8], forms: u8) -> Part
-    ensures { λ r. ⌜ r ≡ part-of forms (now (s .entry)) ⌝ }
-{
-    let Extent::Ends(end, nodes) = scan(s, 0) else {
-        return Part::NoTerm;
-    };
-    if end != s.len() {
-        return Part::NoTerm;
-    }
-    if !forms_within(s, 0, forms) {
+    if here != s.len() {
         return Part::NoTerm;
     }
     Part::Nodes(nodes)

@@ -1,57 +1,117 @@
--- `term_scan::scan_part` meets its contract: nothing stands after a term that ends with the bytes, and the edition has its forms.
+-- `term_scan::scan_part` meets its contract. The loop's invariant: the terms still to come give the answer (proofs/Editions.antt). The measure is what is
+-- still unread.
 use mathlib.Core.Path.{_≡_, sym, _∙_}
-use Prim.Native.Nat.{zero-le}
+use mathlib.Core.List.{List}
+use Prim.Native.Nat.{_-_, _<_, ℕ}
+use native.Mathlib.Omega.{arith}
 use borrow.Author.Needs.{needs}
-use borrow.Author.Tests.{not-false, not-true}
-use Rattle.term_scan.specs.declared.Extent.the-variants.{Ends}
-use Rattle.term_scan.specs.Extents.{extent-at}
-use Rattle.term_scan.proofs.Answers.{part-is, part-other, part-over, part-refused, scan-stands}
+use lib.ListN.{length}
+use Rattle.term.specs.declared.Front.the-variants.{Is}
+use Rattle.term.specs.declared.Node.{Node}
+use Rattle.term.specs.Reader.{node-at}
+use Rattle.term_scan.proofs.Many.{More}
+use Rattle.term_scan.proofs.Editions.{Asking, asking-bad, asking-done, asking-node, asking-on, asking-out, asking-over, asking-start}
 use Rattle.term_scan.proofs.scan_part.Statement.{statement}
 use Rattle.term_scan.proofs.scan_part.Tie as tie
 
-abbrev AtEnd : Type 0
-AtEnd = tie.After-known-told
+abbrev Inv-loop : tie.InvT-loop
+Inv-loop s forms here₀ nodes₀ waits₀ here nodes waits = Asking forms s here nodes waits
 
-ends : (c : AtEnd) → let k = c .before .end .given .0 in Ends (k .0) (k .1 .0) ≡ extent-at (c .before .before .before .before .before .args .s .now) 0
-ends c = sym (c .before .end .given .1) ∙ c .before .before .before .scan .ensures
+abbrev μ-loop : tie.MeasureT-loop
+μ-loop s forms here₀ nodes₀ waits₀ here nodes waits = length s - here
 
-scan-requires : tie.Need-scan-requires
-scan-requires c κs = search needs
+abbrev AtLoop : Type 0
+AtLoop = tie.At-loop Inv-loop μ-loop
 
-enum-known-end : tie.Need-enum-known-end
-enum-known-end c = search needs
+-- where the head is a node
+abbrev AtNode : Type 0
+AtNode = tie.After-known-told Inv-loop μ-loop
 
-enum-told : tie.Need-enum-told
+abbrev loop : AtNode → AtLoop
+loop c = c .before .before .before .before .before
+
+abbrev all : AtLoop → List ℕ
+all p = p .before .before .args .s .now
+
+abbrev head : AtNode → Node
+head c = c .before .node .given .0 .0
+
+some : (c : AtNode) → 0 < loop c .loop .waits
+some c = c .before .before .before .before .loop-test .taken
+
+is-head : (c : AtNode) → node-at (all (loop c)) (loop c .loop .here) ≡ Is (head c)
+is-head c = sym (c .before .before .before .node-at .ensures) ∙ c .before .node .given .1
+
+more : (c : AtNode) → More (all (loop c)) 0 (loop c .loop .here) (loop c .loop .nodes) (loop c .loop .waits) (head c)
+more c = asking-node (loop c .loop .inv) (some c) (is-head c)
+
+loop-holds : tie.Need-loop-holds Inv-loop μ-loop
+loop-holds c = asking-start _ _
+
+node-at-requires : tie.Need-node-at-requires Inv-loop μ-loop
+node-at-requires c κs = c .before .loop .inv .seen .inside
+
+enum-known-node : tie.Need-enum-known-node Inv-loop μ-loop
+enum-known-node c = search needs
+
+enum-told : tie.Need-enum-told Inv-loop μ-loop
 enum-told c = search needs
 
-returns : tie.Need-returns
-returns c = part-refused _ _ (sym (c .enum-told .given .1) ∙ c .before .before .scan .ensures)
+returns : tie.Need-returns Inv-loop μ-loop
+returns c =
+    asking-bad (c .before .before .before .before .loop .inv) (c .before .before .before .loop-test .taken)
+    (sym (c .before .before .node-at .ensures) ∙ c .enum-told .given .1)
 
-returns-2 : tie.Need-returns-2
-returns-2 c = part-over _ _ _ _ (ends (c .before)) (c .if1 .taken)
+returns-2 : tie.Need-returns-2 Inv-loop μ-loop
+returns-2 c = let n = c .before in asking-out (loop n .loop .inv) (some n) (is-head n) (c .if1 .taken)
 
-forms-within-requires : tie.Need-forms-within-requires
-forms-within-requires c κs = scan-stands _ _ _ _ zero-le (ends (c .before)) .good
+add-here : tie.Need-add-here Inv-loop μ-loop
+add-here c = omega (arith, more (c .before) .seen .inside)
 
-returns-3 : tie.Need-returns-3
-returns-3 c =
-    let e = c .before .before in
-    part-other _ _ _ _ (ends (e .before)) (e .if1 .left) (c .before .forms-within .ensures) (not-true _ (c .if2 .taken))
+add-nodes : tie.Need-add-nodes Inv-loop μ-loop
+add-nodes c = let m = more (c .before) in omega (arith, m .seen .inside, m .seen .passed)
 
-returns-4 : tie.Need-returns-4
-returns-4 c =
-    let e = c .before .before in
-    part-is _ _ _ _ (ends (e .before)) (e .if1 .left) (c .before .forms-within .ensures) (not-false _ (c .if2 .left))
+sub-waits : tie.Need-sub-waits Inv-loop μ-loop
+sub-waits c = omega (arith, some (c .before))
+
+cast-waits : tie.Need-cast-waits Inv-loop μ-loop
+cast-waits c = omega (arith, more (c .before) .node .few)
+
+add-waits : tie.Need-add-waits Inv-loop μ-loop
+add-waits c =
+    let m = more (c .before) in
+    omega (arith, m .seen .inside, m .seen .passed, m .seen .few, loop (c .before) .before .before .good .0 .1)
+
+loop-less : tie.Need-loop-less Inv-loop μ-loop
+loop-less c = let m = more (c .before) in omega (arith, m .node .inside, m .node .onward)
+
+loop-again : tie.Need-loop-again Inv-loop μ-loop
+loop-again c = let n = c .before in asking-on (loop n .loop .inv) (some n) (is-head n) (c .if1 .left)
+
+returns-3 : tie.Need-returns-3 Inv-loop μ-loop
+returns-3 c = asking-over (c .before .before .loop .inv) (omega (arith, c .before .loop-test .left)) (c .if2 .taken)
+
+returns-4 : tie.Need-returns-4 Inv-loop μ-loop
+returns-4 c = asking-done (c .before .before .loop .inv) (omega (arith, c .before .loop-test .left)) (c .if2 .left)
 
 pub scan-part-spec : {M : Type 1} → statement M
 scan-part-spec =
     tie.close
     (tie.spec
-    scan-requires
-    enum-known-end
+    Inv-loop
+    μ-loop
+    loop-holds
+    node-at-requires
+    enum-known-node
     enum-told
     returns
     returns-2
-    forms-within-requires
+    add-here
+    add-nodes
+    sub-waits
+    cast-waits
+    add-waits
+    loop-less
+    loop-again
     returns-3
     returns-4)
