@@ -141,6 +141,9 @@ fn walk_at(
         let body = walk_at(table, s, next, env, marks, above + 1, under);
         return close_lambda(entry, arg as u8, body, marks[above]);
     }
+    if tag != Node::APPLICATION {
+        return Walked::Nothing;
+    }
     let Walked::Has(function, second, first) = walk_at(table, s, next, env, marks, above, floor)
     else {
         return Walked::Nothing;

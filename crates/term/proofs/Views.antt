@@ -112,14 +112,19 @@ pub lambda-one : {l : List ℕ} {at : ℕ} {h : Node} → NodeAt l at h → h .t
 unfolding form-of forms
 lambda-one n t = sym (n .form .shape) ∙ ap subterms-of t
 
+-- an application has two
+pub application-two : {l : List ℕ} {at : ℕ} {h : Node} → NodeAt l at h → h .tag ≡ application-tag → h .subterms ≡ 2
+unfolding form-of forms
+application-two n t = sym (n .form .shape) ∙ ap subterms-of t
+
 -- a node with subterms that is no lambda is an application
-pub rest-application : {l : List ℕ} {at : ℕ} {h : Node} → NodeAt l at h → (h .subterms ≡ 0 → ⊥) → (h .tag ≡ lambda-tag → ⊥) → (h .tag ≡ application-tag) × (h .subterms ≡ 2)
+pub rest-application : {l : List ℕ} {at : ℕ} {h : Node} → NodeAt l at h → (h .subterms ≡ 0 → ⊥) → (h .tag ≡ lambda-tag → ⊥) → h .tag ≡ application-tag
 rest-application {h = h} n not-0 not-lambda = by (h .subterms) refl (n .form) (n .few)
   where
-    by : (k : ℕ) → h .subterms ≡ k → HasForm (h .tag) k → k ≤ 2 → (h .tag ≡ application-tag) × (h .subterms ≡ 2)
+    by : (k : ℕ) → h .subterms ≡ k → HasForm (h .tag) k → k ≤ 2 → h .tag ≡ application-tag
     by zero e f few = absurd (not-0 e)
     by (suc zero) e f few = absurd (not-lambda (one-tag (λ tag. tag ≡ lambda-tag) refl (h .tag) f))
-    by (suc (suc zero)) e f few = (two-tag (λ tag. tag ≡ application-tag) refl (h .tag) f, e)
+    by (suc (suc zero)) e f few = two-tag (λ tag. tag ≡ application-tag) refl (h .tag) f
     by (suc (suc (suc k))) e f few = absurd (omega arith)
 
 pub leaf-from : {l : List ℕ} {at : ℕ} {h : Node} → node-at l at ≡ Is h → GoodAt l at → h .subterms ≡ 0 → LeafAt l at h

@@ -11,7 +11,7 @@ use Rattle.calculus.specs.Limits.{max-nesting}
 use Rattle.term.specs.declared.Front.the-variants.{Is}
 use Rattle.term.specs.declared.Node.{Node}
 use Rattle.term.specs.Reader.{node-at}
-use Rattle.term.proofs.Views.{app-from, AppAt, lambda-one, leaf-from, LeafAt, node-there, NodeAt, not-bad, one-from, OneAt, past-first, rest-application, two-from}
+use Rattle.term.proofs.Views.{app-from, AppAt, application-two, lambda-one, leaf-from, LeafAt, node-there, NodeAt, not-bad, one-from, OneAt, past-first, rest-application, two-from}
 use Rattle.term.proofs.node_at.Reads as node-at-reads
 use Rattle.check_linearity.specs.Theory.Levels.{floor-below}
 use Rattle.check_types.proofs.entry_at.Reads as entry-at-reads
@@ -131,16 +131,15 @@ module _ (t : ℕ) where
 
   -- where it is an application
   abbrev AtTwo : Type 0
-  AtTwo = lts.Else2 (calls t) (given t) reads.Post
+  AtTwo = lts.Else3 (calls t) (given t) reads.Post
 
   abbrev apply : AtTwo → AtNode
-  apply c = c .before .before
+  apply c = c .before .before .before
 
   two : (c : AtTwo) → AppAt (all (apply c)) (at (apply c)) (node (apply c))
   two c =
       let n = apply c in
-      let (tag, subterms) = rest-application (here n) (c .before .if1 .left) (c .if2 .left) in
-      app-from (two-from (is-node n) (ready n .good) subterms) tag
+      app-from (two-from (is-node n) (ready n .good) (application-two (here n) (c .if3 .left))) (c .if3 .left)
 
   -- where the first of them has its type
   abbrev AtFirst : Type 0
@@ -221,6 +220,9 @@ module _ (t : ℕ) where
       walked-lambda _ _ _ _ _ _ _ _ (one (opened m)) _ (m .before .before .entry-at .ensures) _ _ _ _ (room m) (space m) (ready (lambda (opened m)) .low)
       (m .before .floor-under .ensures) (m .new-mark .ensures) _ (c .before .before .walk-at .ensures) (c .close-lambda .ensures)
 
+  returns-4 : lts.Need-returns-4 (calls t) (given t) reads.Post
+  returns-4 c = absurd (c .if3 .taken (rest-application (here (c .before .before .before)) (c .before .before .if1 .left) (c .before .if2 .left)))
+
   walk-at-requires-2 : lts.Need-walk-at-requires-2 (calls t) (given t) reads.Post
   walk-at-requires-2 c κs = let e = c .before .before in let n = apply e in (falls-at n, ready-function (ready n) (two e))
 
@@ -230,8 +232,8 @@ module _ (t : ℕ) where
   enum-told-2 : lts.Need-enum-told-2 (calls t) (given t) reads.Post
   enum-told-2 c = search needs
 
-  returns-4 : lts.Need-returns-4 (calls t) (given t) reads.Post
-  returns-4 c = walked-no-first _ _ _ _ _ _ _ _ (two (c .before .before .before .before .before)) _ _ (c .before .before .walk-at2 .ensures) (c .enum-told2 .given .1)
+  returns-5 : lts.Need-returns-5 (calls t) (given t) reads.Post
+  returns-5 c = walked-no-first _ _ _ _ _ _ _ _ (two (c .before .before .before .before .before)) _ _ (c .before .before .walk-at2 .ensures) (c .enum-told2 .given .1)
 
   walk-at-requires-3 : lts.Need-walk-at-requires-3 (calls t) (given t) reads.Post
   walk-at-requires-3 c κs =
@@ -252,8 +254,8 @@ module _ (t : ℕ) where
   close-application-requires : lts.Need-close-application-requires (calls t) (given t) reads.Post
   close-application-requires c κs = search needs
 
-  returns-5 : lts.Need-returns-5 (calls t) (given t) reads.Post
-  returns-5 c =
+  returns-6 : lts.Need-returns-6 (calls t) (given t) reads.Post
+  returns-6 c =
       let f = c .before .before .before .before .before in
       walked-application _ _ _ _ _ _ _ _ (two (back f)) _ _ (f .before .before .before .walk-at2 .ensures) _ _ _ (f .before .function .given .1) _ _ (c .before .before .walk-at3 .ensures)
       (c .before .entry-at2 .ensures) (c .close-application .ensures)
@@ -280,12 +282,13 @@ pub +walk-at-spec : {M : Type 1} → statement M
     (element-copy-out-close-lambda t)
     (close-lambda-requires t)
     (returns-3 t)
+    (returns-4 t)
     (walk-at-requires-2 t)
     (enum-known-function t)
     (enum-told-2 t)
-    (returns-4 t)
+    (returns-5 t)
     (walk-at-requires-3 t)
     (cast-entry-at t)
     (entry-at-requires-2 t)
     (close-application-requires t)
-    (returns-5 t)
+    (returns-6 t)
