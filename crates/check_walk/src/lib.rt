@@ -141,6 +141,7 @@ fn walk_at(
         let body = walk_at(table, s, next, env, marks, above + 1, under);
         return close_lambda(entry, arg as u8, body, marks[above]);
     }
+    // No other form has a typing rule.
     if tag != Node::APPLICATION {
         return Walked::Nothing;
     }
