@@ -15,7 +15,6 @@ use Rattle.term.specs.Expressions.{nesting, term-at}
 use Rattle.term.proofs.Fronts.{is-good}
 use Rattle.term.proofs.Expressions.{edition-got}
 use Rattle.recipe_file.specs.File.{bays, edition-of, term-bytes}
-use Rattle.recipe_file.specs.FileRule.{HasBay}
 use Rattle.recipe_table.specs.Entries.{type-table}
 use Rattle.check_spec.specs.Bays.{bay-reading, bay-term}
 use Rattle.check_bays.specs.declared.Test.the-variants.{Nesting, Scope}
@@ -31,9 +30,6 @@ good-of forms l (got t []) r e = is-good l t [] (edition-got forms (read-term l)
 good-of forms l (got t (x ∷ rest)) r e = absurd (false≢true e)
 
 module _ {s : List ℕ} (t : Terms s) {bay : ℕ} (b : bay < bays s) where
-  pub has-bay : HasBay s bay
-  has-bay = record { laid = t .laid; below = b }
-
   module _ {l : List ℕ} (e : l ≡ term-bytes s bay) where
     pub good-part : GoodAt l 0
     unfolding bay-single

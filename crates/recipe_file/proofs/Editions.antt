@@ -4,7 +4,6 @@ use mathlib.Core.List.{List, [], _∷_}
 use Prim.Native.Nat.{_+_, _-_, _<_, _≤_, suc, zero, ℕ}
 use native.Mathlib.Omega.{arith}
 use lib.ListN.{getD, length}
-use Rattle.calculus.specs.Kinds.{many-type-kind}
 use Rattle.calculus.specs.Limits.{byte-values, max-bays}
 use Rattle.recipe_file.specs.declared.Edition.{Edition}
 use Rattle.recipe_file.specs.Editions.{edition-1, editions}
@@ -15,8 +14,6 @@ pub record EditionRule (e : Edition) : Type 0 where
   pub behind-table : table-part < e .terms
   -- "Byte 3 is n"
   pub one-byte : e .terms + max-bays < byte-values
-  -- each kind has its rule
-  pub kinds-ruled : e .kinds ≤ suc many-type-kind
 
 -- each edition of a list does
 abbrev AllKeep : List Edition → Type 0
@@ -24,7 +21,7 @@ AllKeep [] = Unit {0}
 AllKeep (e ∷ es) = EditionRule e × AllKeep es
 
 all-keep : AllKeep editions
-all-keep = (record { behind-table = omega arith; one-byte = omega arith; kinds-ruled = omega arith }, tt)
+all-keep = (record { behind-table = omega arith; one-byte = omega arith }, tt)
 
 keeps-at : (es : List Edition) (i : ℕ) → AllKeep es → EditionRule (getD es i edition-1)
 keeps-at [] i k = all-keep .0

@@ -17,9 +17,6 @@ name-length = 2
 abbrev pub constant-length : ℕ
 constant-length = 2
 
-abbrev pub unit-length : ℕ
-unit-length = 1
-
 -- from the application to the body of a lambda that is applied
 abbrev pub to-body : ℕ
 to-body = application-length + lambda-length
