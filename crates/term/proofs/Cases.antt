@@ -1,6 +1,6 @@
 -- Terms of document 01's bay cases, and damaged ones, as antt computes them.
 use mathlib.Core.Path.{_≡_, refl, sym}
-use mathlib.Core.Bool.{Bool, _&&_, false, true}
+use mathlib.Core.Bool.{Bool, _&&_, false, not, true}
 use mathlib.Core.List.{List, [], _∷_}
 use Prim.Native.Nat.{_*_, _+_, ℕ}
 use native.Mathlib.Omega.{arith}
@@ -10,7 +10,8 @@ use Rattle.calculus.specs.Syntax.{num, op, exch, handle, app, const, Exp, lam, 
 use Rattle.term.specs.declared.Front.the-variants.{Is}
 use Rattle.term.specs.Numbers.{value-of}
 use Rattle.term.specs.Forms.{form-of, forms, num-tag, to-nothing}
-use Rattle.term.specs.Reader.{node-of, one-term, read, read-term}
+use Rattle.term.specs.Tree.{forms-below}
+use Rattle.term.specs.Reader.{node-of, of-edition, one-term, read, read-term}
 use Rattle.term.specs.Expressions.{bytes, const-bytes, exp-of, leaf-exp, leaf-forms, op-tag, term-at, term-of, two-exp}
 use Rattle.term.proofs.Nodes.{head-node}
 
@@ -76,6 +77,11 @@ are-terms = tt
 are-damaged : T (every-is false damaged)
 unfolding one-term read-term read form-of forms value-of word
 are-damaged = tt
+
+-- an edition has the first so many forms: without the tenth, case B is no term for the name in it, and case C, which has none, is one
+by-edition : T (one-term (of-edition 10 (read-term bytes-B)) && (not (one-term (of-edition 9 (read-term bytes-B))) && one-term (of-edition 9 (read-term bytes-C))))
+unfolding one-term of-edition forms-below read-term read form-of forms value-of word
+by-edition = tt
 
 -- document 02, T-01, "Refusal 5 no longer has a cause in a num's size": any two bytes after its tag are a num, whatever follows
 every-num : (low high : ℕ) (rest : List ℕ) → node-of (num-tag ∷ low ∷ high ∷ rest) ≡ Is (record { tag = num-tag; arg = low + 256 * high; size = 3; subterms = 0; binders = 0; refers = to-nothing })

@@ -1,5 +1,5 @@
 // Terms in bytes that nobody has checked: where a term ends, how many nodes it has, how deep it nests, and whether what it names is there. The loops
-// read one node after the other and count the subterms still to come, so that no input is too deep for them.
+// are walks (crate term_walk): they read one node after the other and know the terms still to come, so that no input is too deep for them.
 use numbers::Image;
 use numbers::Recipe;
 use term::Front;
