@@ -35,6 +35,11 @@ static const uint8_t *vent_expression(const uint8_t *image, unsigned name) {
     return image + vent_two_bytes(vent_head(image, name) + 2);
 }
 
+/* Whether a thread of type num whose expression begins with that tag is not done. */
+static int vent_goes_on(uint8_t tag) {
+    return tag == FIKAREHU_TAG_APPLICATION || tag == FIKAREHU_TAG_CASE_PAIR || tag == FIKAREHU_TAG_CASE_LIST;
+}
+
 /* The vent of a bay. Its setting is the cell with the bay's number. */
 static struct vent read_vent(const uint8_t *image, unsigned bay) {
     const unsigned names = vent_two_bytes(image);
@@ -60,7 +65,7 @@ static struct vent read_vent(const uint8_t *image, unsigned bay) {
     if (node[0] == FIKAREHU_TAG_NUM) {
         vent.state = VENT_OPENING;
         vent.opening = vent_two_bytes(node + 1);
-    } else if (node[0] == FIKAREHU_TAG_APPLICATION) {
+    } else if (vent_goes_on(node[0])) {
         vent.state = VENT_AWAITS_THREAD;
     }
     return vent;

@@ -31,9 +31,9 @@ extern "C" {
 #endif
 
 /* This header's version. */
-#define FIKAREHU_VERSION "0.3.0"
+#define FIKAREHU_VERSION "0.4.0"
 #define FIKAREHU_VERSION_MAJOR 0
-#define FIKAREHU_VERSION_MINOR 3
+#define FIKAREHU_VERSION_MINOR 4
 #define FIKAREHU_VERSION_PATCH 0
 
 /* The limits of a recipe. */
@@ -80,7 +80,12 @@ enum {
     FIKAREHU_TYPE_NUM = 1,
     FIKAREHU_TYPE_CELL = 2,
     FIKAREHU_TYPE_ONCE = 3,  /* a function usable once */
-    FIKAREHU_TYPE_MANY = 4   /* a function usable many times */
+    FIKAREHU_TYPE_MANY = 4,  /* a function usable many times */
+    /* edition 2 */
+    FIKAREHU_TYPE_ONCE_PAIR = 5,
+    FIKAREHU_TYPE_MANY_PAIR = 6,
+    FIKAREHU_TYPE_ONCE_LIST = 7,
+    FIKAREHU_TYPE_MANY_LIST = 8
 };
 
 /* The numbers of the first three entries of every type table: unit, num, cell of num. */
@@ -101,7 +106,12 @@ enum {
     FIKAREHU_TAG_EXCH = 6,
     FIKAREHU_TAG_THREAD = 7,
     FIKAREHU_TAG_HANDLE = 8,
-    FIKAREHU_TAG_NAME = 9
+    FIKAREHU_TAG_NAME = 9,
+    /* edition 2, and any image */
+    FIKAREHU_TAG_PAIR = 10,
+    FIKAREHU_TAG_LIST = 11,      /* the front of a list, and the rest */
+    FIKAREHU_TAG_CASE_PAIR = 12, /* takes a pair apart */
+    FIKAREHU_TAG_CASE_LIST = 13  /* takes a list apart */
 };
 
 /* The refusals: 1 to 11 by a check or a load, 12 by a load or a step, 13 to 17 by a step. */
@@ -114,8 +124,9 @@ enum {
     FIKAREHU_REFUSED_TERM_SIZE = 6,    /* nesting or nodes above the limit */
     FIKAREHU_REFUSED_SCOPE = 7,        /* index with no lambda, name not below b, type number not below t */
     FIKAREHU_REFUSED_ANNOTATION = 8,   /* lambda's type no function, constant's type no instance of Fig. 8
-                                          (handle as document 01 has it) */
-    FIKAREHU_REFUSED_TYPE = 9,         /* application of a non-function, argument or body of another type */
+                                          (handle as document 01 has it), pair's no pair, list front's no list */
+    FIKAREHU_REFUSED_TYPE = 9,         /* application of a non-function, argument, body, component or
+                                          subject of another type */
     FIKAREHU_REFUSED_LINEARITY = 10,   /* a once-variable not used exactly once, or free under a many-lambda */
     FIKAREHU_REFUSED_BAY_ONCE = 11,    /* a bay's type has multiplicity once */
     FIKAREHU_REFUSED_BUFFER = 12,      /* out buffer under 13,826 bytes */
@@ -123,10 +134,11 @@ enum {
     FIKAREHU_REFUSED_NO_THREAD = 14,   /* number is no thread */
     FIKAREHU_REFUSED_ROOM = 15,        /* a rule applies, outcome above 256 names or 4,096 nodes */
     FIKAREHU_REFUSED_USED_HANDLE = 16, /* used handle applied */
-    FIKAREHU_REFUSED_WRONG_KIND = 17   /* two values meet, neither a rule, nor waiting, nor 16 */
+    FIKAREHU_REFUSED_WRONG_KIND = 17   /* two values meet, neither a rule, nor waiting, nor 16; a case of
+                                          another kind of value */
 };
 
-/* The rules, in Fig. 5's order. */
+/* The rules: Fig. 5's in its order, and the two that take a pair or a list apart. */
 enum {
     FIKAREHU_BETA = 1,
     FIKAREHU_THREAD_NEW = 2,
@@ -134,7 +146,9 @@ enum {
     FIKAREHU_HANDLE_NEW = 4,
     FIKAREHU_HANDLE_BIND = 5,
     FIKAREHU_CELL_NEW = 6,
-    FIKAREHU_CELL_EXCH = 7
+    FIKAREHU_CELL_EXCH = 7,
+    FIKAREHU_CASE_PAIR = 8,
+    FIKAREHU_CASE_LIST = 9
 };
 
 /* The answer of a check. */
@@ -163,7 +177,7 @@ enum {
 /* The answer of a step. */
 struct fikarehu_stepped {
     uint32_t outcome;   /* FIKAREHU_DONE, _RULE, _WAITING or _REFUSED */
-    uint32_t number;    /* 0 when done, the rule 1 to 7, the awaited name, or the refusal 12 to 17 */
+    uint32_t number;    /* 0 when done, the rule 1 to 9, the awaited name, or the refusal 12 to 17 */
     uint64_t length;    /* the new image's length after a rule, else 0 */
 };
 

@@ -91,6 +91,74 @@ static void refused_files(void) {
     expect_refusal("case E", &scratch, FIKAREHU_REFUSED_BAY_ONCE);
 }
 
+/* 3 num and num, many; 4 list of num, many; 5 num once to unit; 6 the once pair of 5 and num; 7 from 6 to unit;
+ * 8 list of num, once; 9 num to num */
+static const uint8_t table_2[] = {0, 0, 0, 1, 0, 0, 2, 1, 0, 6, 1, 1, 8, 1, 0, 3, 1, 0, 5, 5, 1, 4, 6, 0, 7, 1, 0, 4, 1, 1};
+
+#define PAIR 10, 3, 4, 1, 0, 4, 2, 0
+
+static void edition_2_files(void) {
+    make_2(&scratch, table_a, sizeof table_a, TERM(3), 1);
+    expect_accepted("case A in edition 2", &scratch, 1, 0);
+    make_2(&scratch, table_2, sizeof table_2, TERM(PAIR), 3);
+    expect_accepted("a pair", &scratch, 3, 3);
+    make_2(&scratch, table_2, sizeof table_2, TERM(12, PAIR, 0, 0), 1);
+    expect_accepted("a pair taken apart", &scratch, 1, 1);
+    make_2(&scratch, table_2, sizeof table_2, TERM(1, 7, 12, 0, 0, 2, 0, 1, 0, 0), 1);
+    expect_accepted("a handle out of a pair, bound to what is with it", &scratch, 1, 7);
+    make_2(&scratch, table_2, sizeof table_2, TERM(1, 7, 12, 0, 0, 3), 1);
+    expect_refusal("a handle out of a pair, left", &scratch, FIKAREHU_REFUSED_LINEARITY);
+    make_2(&scratch, table_2, sizeof table_2, TERM(12, PAIR, 0, 2), 1);
+    expect_refusal("a third variable", &scratch, FIKAREHU_REFUSED_SCOPE);
+    make_2(&scratch, table_2, sizeof table_2, TERM(12, 0, 0, 3), 1);
+    expect_refusal("a variable in the subject", &scratch, FIKAREHU_REFUSED_SCOPE);
+    make_2(&scratch, table_2, sizeof table_2, TERM(10, 10, 4, 1, 0, 4, 2, 0), 1);
+    expect_refusal("a pair of no type", &scratch, FIKAREHU_REFUSED_SCOPE);
+    make_2(&scratch, table_2, sizeof table_2, TERM(10, 4, 4, 1, 0, 4, 2, 0), 1);
+    expect_refusal("a pair that is a list", &scratch, FIKAREHU_REFUSED_ANNOTATION);
+    make_2(&scratch, table_2, sizeof table_2, TERM(11, 3, 4, 1, 0, 4, 2, 0), 1);
+    expect_refusal("a list front that is a pair", &scratch, FIKAREHU_REFUSED_ANNOTATION);
+    make_2(&scratch, table_2, sizeof table_2, TERM(11, 4, 4, 1, 0, 4, 2, 0), 1);
+    expect_refusal("a num for the rest of a list", &scratch, FIKAREHU_REFUSED_TYPE);
+    make_2(&scratch, table_2, sizeof table_2, TERM(13, PAIR, 3), 1);
+    expect_refusal("a pair taken apart as a list", &scratch, FIKAREHU_REFUSED_TYPE);
+    make_2(&scratch, table_2, sizeof table_2, TERM(10, 6, 1, 5, 3, 4, 2, 0), 1);
+    expect_refusal("a bay with a once pair", &scratch, FIKAREHU_REFUSED_BAY_ONCE);
+    make_2(&scratch, table_2, sizeof table_2, TERM(14, 3, 3), 1);
+    expect_refusal("tag 14", &scratch, FIKAREHU_REFUSED_NO_TERM);
+    make_2(&scratch, table_2, sizeof table_2, TERM(3), 1);
+    scratch.bytes[2] = EDITION_2 + 1;
+    expect_refusal("edition 3", &scratch, FIKAREHU_REFUSED_OPENING);
+}
+
+static void edition_2_entries(void) {
+    uint8_t table[15];
+    static const struct {
+        uint8_t entry[3];
+        uint32_t refusal;
+    } entries[] = {{{5, 3, 0}, 0}, {{6, 3, 0}, 4}, {{6, 0, 3}, 4}, {{7, 3, 0}, 0}, {{8, 3, 0}, 4},
+                   {{8, 1, 1}, 4}, {{7, 1, 1}, 4}, {{8, 1, 0}, 0}, {{6, 4, 1}, 4}, {{9, 1, 1}, 4}};
+    memcpy(table, table_7, 12);
+    for (size_t i = 0; i < sizeof entries / sizeof entries[0]; i++) {
+        memcpy(table + 12, entries[i].entry, 3);
+        make_2(&scratch, table, sizeof table, TERM(3), 1);
+        if (entries[i].refusal == 0) {
+            expect_accepted("an entry of edition 2", &scratch, 1, 0);
+        } else {
+            expect_refusal("an entry of edition 2", &scratch, entries[i].refusal);
+        }
+        scratch.bytes[2] = EDITION_1;
+        expect_refusal("an entry of edition 2 in edition 1", &scratch, FIKAREHU_REFUSED_TYPE_ENTRY);
+    }
+}
+
+static void edition_1_refuses_as_before(void) {
+    for (uint8_t tag = FIKAREHU_TAG_PAIR; tag <= FIKAREHU_TAG_CASE_LIST; tag++) {
+        make(&scratch, table_a, sizeof table_a, TERM(tag, 3, 3, 3), 1);
+        expect_refusal("a tag of edition 2", &scratch, FIKAREHU_REFUSED_NO_TERM);
+    }
+}
+
 /* Identities applied to unit, of that nesting. */
 static size_t nested(uint8_t *term, size_t nesting) {
     size_t at = 0;
@@ -127,6 +195,11 @@ static void worst_files(void) {
     expect_refusal("applications closed by units", &scratch, FIKAREHU_REFUSED_TERM_SIZE);
     make_lambdas(&scratch);
     expect_accepted("99 lambdas in ten bays, 256 entries", &scratch, LAMBDA_BAYS, OUTER_TYPE);
+    make_cases(&scratch);
+    expect_accepted("98 cases in two bays", &scratch, CASE_BAYS, 0);
+    make_full(&scratch, FIKAREHU_TAG_CASE_LIST, FIKAREHU_TAG_CASE_LIST);
+    scratch.bytes[2] = EDITION_2;
+    expect_refusal("cases and nothing else", &scratch, FIKAREHU_REFUSED_NO_TERM);
     nesting_at_the_limit();
 }
 
@@ -168,6 +241,9 @@ static void too_long(void) {
 int main(void) {
     accepted_files();
     refused_files();
+    edition_2_files();
+    edition_2_entries();
+    edition_1_refuses_as_before();
     no_bytes();
     every_beginning();
     too_long();

@@ -11,6 +11,9 @@ enum { MOST_TABLE = FIKAREHU_ENTRY_LENGTH * FIKAREHU_MAX_ENTRIES };
 static const uint8_t table_a[] = {0, 0, 0, 1, 0, 0, 2, 1, 0};
 static const uint8_t table_unit[] = {0, 0, 0, 1, 0, 0, 2, 1, 0, 4, 0, 0};
 
+/* Byte 2 of a file. */
+enum { EDITION_1 = 1, EDITION_2 = 2 };
+
 struct file {
     uint8_t bytes[16 * FIKAREHU_MAX_FILE];
     size_t length;
@@ -29,7 +32,7 @@ static void make(struct file *file, const uint8_t *table, size_t table_len, cons
                  size_t bays) {
     size_t at = 4 + 4 * (bays + 1);
     must(at + table_len + bays * term_len <= sizeof file->bytes, "the file is too long");
-    memcpy(file->bytes, (const uint8_t[]){0x4C, 0x46, 0x01, (uint8_t)(bays + 1)}, 4);
+    memcpy(file->bytes, (const uint8_t[]){0x4C, 0x46, EDITION_1, (uint8_t)(bays + 1)}, 4);
     put_pair(file, 0, at, table_len);
     memcpy(file->bytes + at, table, table_len);
     at += table_len;
@@ -63,6 +66,31 @@ static inline void make_lambdas(struct file *file) {
     }
     term[2 * LAMBDAS] = FIKAREHU_TAG_UNIT;
     make(file, table, sizeof table, term, sizeof term, LAMBDA_BAYS);
+}
+
+/* A file as `make` makes it, of edition 2. */
+static inline void make_2(struct file *file, const uint8_t *table, size_t table_len, const uint8_t *term,
+                          size_t term_len, size_t bays) {
+    make(file, table, table_len, term, term_len, bays);
+    file->bytes[2] = EDITION_2;
+}
+
+/* Case A's table, and with it a many pair of unit and unit: type 3. */
+static const uint8_t table_pair[] = {0, 0, 0, 1, 0, 0, 2, 1, 0, FIKAREHU_TYPE_MANY_PAIR, 0, 0};
+
+/* The deepest cases: the body of each is the next; the components of the last one's pair are at the limit. */
+enum { CASES = FIKAREHU_MAX_NESTING - 2, CASE_LENGTH = 5, CASE_BAYS = 2 };
+
+static inline void make_cases(struct file *file) {
+    static const uint8_t level[CASE_LENGTH] = {FIKAREHU_TAG_CASE_PAIR, FIKAREHU_TAG_PAIR, 3, FIKAREHU_TAG_UNIT,
+                                               FIKAREHU_TAG_UNIT};
+    uint8_t term[CASE_LENGTH * CASES + 2];
+    for (size_t at = 0; at < CASES; at++) {
+        memcpy(term + CASE_LENGTH * at, level, sizeof level);
+    }
+    term[CASE_LENGTH * CASES] = FIKAREHU_TAG_VARIABLE;
+    term[CASE_LENGTH * CASES + 1] = 2 * CASES - 1;
+    make_2(file, table_pair, sizeof table_pair, term, sizeof term, CASE_BAYS);
 }
 
 /* A file of 8,192 bytes whose one term fills it with that byte, its last byte another one. */

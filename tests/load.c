@@ -73,9 +73,21 @@ static void refused_recipes(void) {
 /* The image of the lambdas: two names for each bay; a setting has three bytes. */
 enum { LAMBDA_IMAGE = FIKAREHU_FIRST_HEAD + LAMBDA_BAYS * (2 * FIKAREHU_HEAD_LENGTH + 3 + 2 * LAMBDAS + 1) };
 
+/* The deepest cases, each with its pair and the two variables that it binds. */
+static void deepest_cases(void) {
+    static struct file file;
+    make_cases(&file);
+    uint8_t *out = out_end() - FIKAREHU_MAX_IMAGE;
+    fill(out, FIKAREHU_MAX_IMAGE);
+    struct fikarehu_loaded loaded = fikarehu_load(file.bytes, file.length, out, FIKAREHU_MAX_IMAGE);
+    CHECK(loaded.refusal == 0 && loaded.bays == CASE_BAYS, "cases: refusal %u, %u bays", loaded.refusal, loaded.bays);
+    CHECK(kept(out, loaded.length, FIKAREHU_MAX_IMAGE), "cases: written beyond the image");
+}
+
 /* The files that take most of the stack. */
 static void worst_recipes(void) {
     static struct file file;
+    deepest_cases();
     make_full(&file, FIKAREHU_TAG_APPLICATION, FIKAREHU_TAG_APPLICATION);
     expect_refusal("applications and nothing else", file.bytes, file.length, FIKAREHU_MAX_IMAGE,
                    FIKAREHU_REFUSED_NO_TERM);
@@ -92,11 +104,31 @@ static void worst_recipes(void) {
     CHECK(kept(out, loaded.length, FIKAREHU_MAX_IMAGE), "lambdas: written beyond the image");
 }
 
+/* An edition 2 file: its term is copied byte for byte. */
+static void edition_2(void) {
+    static struct file file;
+    static const uint8_t term[] = {12, 10, 3, 3, 3, 0, 1};
+    static const uint8_t image[] = {2, 0, 2, 0, 0x0E, 0, 3, 0, 1, 0, 0x11, 0, 7, 0, 4, 0, 0, 12, 10, 3, 3, 3, 0, 1};
+    make_2(&file, table_pair, sizeof table_pair, term, sizeof term, 1);
+    uint8_t *out = out_end() - FIKAREHU_MAX_IMAGE;
+    fill(out, FIKAREHU_MAX_IMAGE);
+    struct fikarehu_loaded loaded = fikarehu_load(file.bytes, file.length, out, FIKAREHU_MAX_IMAGE);
+    CHECK(loaded.refusal == 0 && loaded.bays == 1 && loaded.types[0] == 0, "edition 2: refusal %u, %u bays",
+          loaded.refusal, loaded.bays);
+    CHECK(loaded.length == sizeof image, "edition 2: length %llu", (unsigned long long)loaded.length);
+    CHECK(memcmp(out, image, sizeof image) == 0, "edition 2: another image");
+    CHECK(kept(out, sizeof image, FIKAREHU_MAX_IMAGE), "edition 2: written beyond the image");
+    file.bytes[2] = EDITION_1;
+    expect_refusal("edition 1 with a pair type", file.bytes, file.length, FIKAREHU_MAX_IMAGE,
+                   FIKAREHU_REFUSED_TYPE_ENTRY);
+}
+
 static void *on_a_thread(void *nothing) {
     case_a_into(FIKAREHU_MAX_IMAGE);
     case_a_into(FIKAREHU_MAX_IMAGE + 1);
     case_a_into(ROOM);
     refused_recipes();
+    edition_2();
     worst_recipes();
     return nothing;
 }

@@ -87,6 +87,48 @@ static void every_rule(void) {
     case_b();
 }
 
+/* The rules that take a pair or a list apart; index 0 is the second component. */
+static void taking_apart(void) {
+    expect_rule("rule 8", BYTES(1, 0, 1, 0, 8, 0, 12, 0, 12, 10, 9, 3, 4, 7, 0, 2, 0, 0, 0, 1), 0, FIKAREHU_CASE_PAIR,
+                BYTES(1, 0, 1, 0, 8, 0, 5, 0, 2, 4, 7, 0, 3));
+    expect_rule("rule 9", BYTES(1, 0, 1, 0, 8, 0, 12, 0, 13, 11, 9, 3, 4, 7, 0, 2, 0, 0, 0, 1), 0, FIKAREHU_CASE_LIST,
+                BYTES(1, 0, 1, 0, 8, 0, 5, 0, 2, 4, 7, 0, 3));
+    expect_rule("rule 3 at a subject", BYTES(2, 0, 1, 0, 14, 0, 5, 0, 1, 0, 19, 0, 4, 0, 12, 9, 1, 0, 0, 10, 0, 3, 3), 0,
+                FIKAREHU_FUTURE_DEREF,
+                BYTES(2, 0, 1, 0, 14, 0, 7, 0, 1, 0, 21, 0, 4, 0, 12, 10, 0, 3, 3, 0, 0, 10, 0, 3, 3));
+    expect_rule("the first component first", BYTES(1, 0, 1, 0, 8, 0, 14, 0, 10, 0, 2, 1, 9, 0, 0, 3, 2, 1, 9, 0, 0, 3), 0,
+                FIKAREHU_BETA, BYTES(1, 0, 1, 0, 8, 0, 9, 0, 10, 0, 3, 2, 1, 9, 0, 0, 3));
+    expect_rule("the subject before the body",
+                BYTES(1, 0, 1, 0, 8, 0, 13, 0, 13, 2, 1, 9, 0, 0, 3, 2, 1, 9, 0, 0, 3), 0, FIKAREHU_BETA,
+                BYTES(1, 0, 1, 0, 8, 0, 8, 0, 13, 3, 2, 1, 9, 0, 0, 3));
+}
+
+/* Subjects that are no pair for 12 and no front for 13. */
+static void other_subjects(void) {
+    expect("a pair, done", BYTES(1, 0, 1, 0, 8, 0, 5, 0, 10, 7, 3, 9, 0), 0, FIKAREHU_MAX_IMAGE, FIKAREHU_DONE, 0);
+    expect("a front, done", BYTES(1, 0, 1, 0, 8, 0, 5, 0, 11, 7, 3, 9, 0), 0, FIKAREHU_MAX_IMAGE, FIKAREHU_DONE, 0);
+    expect("a pair in a cell", BYTES(2, 0, 1, 0, 14, 0, 1, 0, 2, 0, 15, 0, 4, 0, 3, 10, 0, 3, 3), 0, FIKAREHU_MAX_IMAGE,
+           FIKAREHU_DONE, 0);
+    expect("waiting for itself at a case", BYTES(1, 0, 1, 0, 8, 0, 4, 0, 12, 9, 0, 3), 0, FIKAREHU_MAX_IMAGE,
+           FIKAREHU_WAITING, 0);
+    expect("waiting for a future at a case",
+           BYTES(3, 0, 1, 0, 20, 0, 4, 0, 5, 0, 24, 0, 0, 0, 3, 1, 24, 0, 0, 0, 13, 9, 1, 3), 0, FIKAREHU_MAX_IMAGE,
+           FIKAREHU_WAITING, 1);
+    expect_refusal("an open handle taken apart",
+                   BYTES(3, 0, 1, 0, 20, 0, 4, 0, 5, 0, 24, 0, 0, 0, 3, 1, 24, 0, 0, 0, 13, 9, 2, 3), 0,
+                   FIKAREHU_REFUSED_WRONG_KIND);
+    expect_refusal("a used handle taken apart", BYTES(2, 0, 1, 0, 14, 0, 4, 0, 4, 0, 18, 0, 0, 0, 12, 9, 1, 3), 0,
+                   FIKAREHU_REFUSED_WRONG_KIND);
+    expect_refusal("a cell taken apart", BYTES(2, 0, 1, 0, 14, 0, 4, 0, 2, 0, 18, 0, 4, 0, 12, 9, 1, 3, 10, 0, 3, 3), 0,
+                   FIKAREHU_REFUSED_WRONG_KIND);
+    expect_refusal("unit taken apart", BYTES(1, 0, 1, 0, 8, 0, 3, 0, 12, 3, 3), 0, FIKAREHU_REFUSED_WRONG_KIND);
+    expect_refusal("a pair taken apart as a list", BYTES(1, 0, 1, 0, 8, 0, 6, 0, 13, 10, 0, 3, 3, 3), 0,
+                   FIKAREHU_REFUSED_WRONG_KIND);
+    expect_refusal("a front taken apart as a pair", BYTES(1, 0, 1, 0, 8, 0, 6, 0, 12, 11, 0, 3, 3, 3), 0,
+                   FIKAREHU_REFUSED_WRONG_KIND);
+    expect_refusal("a pair applied", BYTES(1, 0, 1, 0, 8, 0, 6, 0, 2, 10, 0, 3, 3, 3), 0, FIKAREHU_REFUSED_WRONG_KIND);
+}
+
 static void other_answers(void) {
     expect("done", BYTES(1, 0, 1, 0, 8, 0, 1, 0, 3), 0, FIKAREHU_MAX_IMAGE, FIKAREHU_DONE, 0);
     expect("num 65535, done", BYTES(1, 0, 1, 0, 8, 0, 3, 0, 4, 0xFF, 0xFF), 0, FIKAREHU_MAX_IMAGE, FIKAREHU_DONE, 0);
@@ -113,6 +155,12 @@ static void broken_images(void) {
     expect_refusal("name 1 of one", BYTES(1, 0, 1, 0, 8, 0, 2, 0, 9, 1), 0, FIKAREHU_REFUSED_IMAGE);
     expect_refusal("a num cut", BYTES(1, 0, 1, 0, 8, 0, 2, 0, 4, 0xE9), 0, FIKAREHU_REFUSED_IMAGE);
     expect_refusal("a cell with no value", BYTES(1, 0, 2, 0, 8, 0, 3, 0, 2, 3, 3), 0, FIKAREHU_REFUSED_IMAGE);
+    expect_refusal("a cell with a case", BYTES(1, 0, 2, 0, 8, 0, 3, 0, 12, 3, 3), 0, FIKAREHU_REFUSED_IMAGE);
+    expect_refusal("a cell with a pair that goes on", BYTES(1, 0, 2, 0, 8, 0, 6, 0, 10, 0, 2, 3, 3, 3), 0,
+                   FIKAREHU_REFUSED_IMAGE);
+    expect_refusal("a third variable in a case", BYTES(1, 0, 1, 0, 8, 0, 4, 0, 12, 3, 0, 2), 0, FIKAREHU_REFUSED_IMAGE);
+    expect_refusal("a variable in the subject", BYTES(1, 0, 1, 0, 8, 0, 4, 0, 13, 0, 0, 3), 0, FIKAREHU_REFUSED_IMAGE);
+    expect_refusal("tag 14", BYTES(1, 0, 1, 0, 8, 0, 3, 0, 14, 3, 3), 0, FIKAREHU_REFUSED_IMAGE);
     expect_refusal("a future without a handle", BYTES(1, 0, 5, 0, 8, 0, 0, 0), 0, FIKAREHU_REFUSED_IMAGE);
 }
 
@@ -167,6 +215,55 @@ static void deepest(void) {
     expect("lambdas", large, large_image(2 * (FIKAREHU_MAX_NODES - 1) + 1), 0, FIKAREHU_MAX_IMAGE, FIKAREHU_DONE, 0);
 }
 
+/* Thousands of levels: pairs to the left, fronts to the right, cases in subjects and in bodies. */
+static void deepest_compounds(void) {
+    size_t half = FIKAREHU_MAX_NODES / 2 - 1;
+    for (size_t level = 0; level < half; level++) {
+        memcpy(large + 8 + 2 * level, (const uint8_t[]){FIKAREHU_TAG_PAIR, 1}, 2);
+    }
+    memset(large + 8 + 2 * half, FIKAREHU_TAG_UNIT, half + 1);
+    expect("pairs to the left", large, large_image(3 * half + 1), 0, FIKAREHU_MAX_IMAGE, FIKAREHU_DONE, 0);
+    for (size_t level = 0; level < half; level++) {
+        memcpy(large + 8 + 3 * level, (const uint8_t[]){FIKAREHU_TAG_LIST, 1, FIKAREHU_TAG_UNIT}, 3);
+    }
+    large[8 + 3 * half] = FIKAREHU_TAG_UNIT;
+    expect("fronts to the right", large, large_image(3 * half + 1), 0, FIKAREHU_MAX_IMAGE, FIKAREHU_DONE, 0);
+    memset(large + 8, FIKAREHU_TAG_CASE_PAIR, half);
+    memset(large + 8 + half, FIKAREHU_TAG_UNIT, half + 1);
+    expect_refusal("cases in subjects", large, large_image(2 * half + 1), 0, FIKAREHU_REFUSED_WRONG_KIND);
+    for (size_t level = 0; level < half; level++) {
+        memcpy(large + 8 + 2 * level, (const uint8_t[]){FIKAREHU_TAG_CASE_LIST, FIKAREHU_TAG_UNIT}, 2);
+    }
+    large[8 + 2 * half] = FIKAREHU_TAG_UNIT;
+    expect_refusal("cases in bodies", large, large_image(2 * half + 1), 0, FIKAREHU_REFUSED_WRONG_KIND);
+}
+
+/* case (v, unit) of (x, y) ⇒ (x, (x, .. unit)), v of 65 nodes: the length of its expression. */
+static size_t copying(size_t uses) {
+    enum { LAMBDAS_IN_V = 64 };
+    uint8_t *at = large + 8;
+    memcpy(at, (const uint8_t[]){FIKAREHU_TAG_CASE_PAIR, FIKAREHU_TAG_PAIR, 0}, 3);
+    memset(at + 3, FIKAREHU_TAG_LAMBDA, 2 * LAMBDAS_IN_V);
+    at += 3 + 2 * LAMBDAS_IN_V;
+    memset(at, FIKAREHU_TAG_UNIT, 2);
+    at += 2;
+    for (size_t use = 0; use < uses; use++, at += 4) {
+        memcpy(at, (const uint8_t[]){FIKAREHU_TAG_PAIR, 0, FIKAREHU_TAG_VARIABLE, 1}, 4);
+    }
+    *at = FIKAREHU_TAG_UNIT;
+    return (size_t)(at + 1 - (large + 8));
+}
+
+/* The outcome has uses + 1 nodes of the body, and 65 for each use. */
+static void room(void) {
+    uint8_t *out = out_end() - FIKAREHU_MAX_IMAGE;
+    size_t length = large_image(copying(62));
+    struct fikarehu_stepped stepped = fikarehu_step(place(large, length), length, 0, out, FIKAREHU_MAX_IMAGE);
+    CHECK(stepped.outcome == FIKAREHU_RULE && stepped.number == FIKAREHU_CASE_PAIR, "4,093 nodes: outcome %u, number %u",
+          stepped.outcome, stepped.number);
+    expect_refusal("4,159 nodes", large, large_image(copying(63)), 0, FIKAREHU_REFUSED_ROOM);
+}
+
 /* Slices far past the limits, full of applications. */
 static void too_large(void) {
     static const size_t lengths[] = {FIKAREHU_MAX_NODES + 1, FIKAREHU_MAX_IMAGE - 8, FIKAREHU_MAX_IMAGE - 7, 65535};
@@ -180,11 +277,15 @@ static void too_large(void) {
 
 static void *everything(void *nothing) {
     every_rule();
+    taking_apart();
+    other_subjects();
     other_answers();
     broken_images();
     no_threads();
     short_buffers();
     deepest();
+    deepest_compounds();
+    room();
     too_large();
     return nothing;
 }

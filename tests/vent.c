@@ -22,14 +22,20 @@ struct run {
     uint64_t length;
 };
 
-static void load(struct run *run, const uint8_t *table, size_t table_len, const uint8_t *term, size_t term_len) {
+static void load_edition(struct run *run, uint8_t edition, const uint8_t *table, size_t table_len, const uint8_t *term,
+                         size_t term_len) {
     static struct file file;
     make(&file, table, table_len, term, term_len, 1);
+    file.bytes[2] = edition;
     run->image = run->buffers[0];
     run->other = run->buffers[1];
     struct fikarehu_loaded loaded = fikarehu_load(file.bytes, file.length, run->image, FIKAREHU_MAX_IMAGE);
     CHECK(loaded.refusal == 0, "refused %u", loaded.refusal);
     run->length = loaded.length;
+}
+
+static void load(struct run *run, const uint8_t *table, size_t table_len, const uint8_t *term, size_t term_len) {
+    load_edition(run, EDITION_1, table, table_len, term, term_len);
 }
 
 /* A step by that rule, and the vent after it. */
@@ -86,6 +92,18 @@ static void a_future(void) {
     step(&run, 1, FIKAREHU_HANDLE_BIND, VENT_NEVER, 2);
 }
 
+/* exch setting0 (thread (λx. case (430, x) of (y, z) ⇒ y)), the pair of type 6: a thread at a case is not done */
+static void a_case(void) {
+    static const uint8_t table[] = {0, 0, 0, 1, 0, 0, 2, 1, 0, 4, 1, 1, 4, 2, 3, 4, 3, 1, 6, 1, 1};
+    static const uint8_t term[] = {2, 2, 6, 4, 9, 0, 2, 7, 5, 1, 3, 12, 10, 6, 4, 0xAE, 1, 0, 0, 0, 1};
+    static struct run run;
+    load_edition(&run, EDITION_2, table, sizeof table, term, sizeof term);
+    step(&run, 1, FIKAREHU_THREAD_NEW, VENT_OPENING, 0);
+    step(&run, 1, FIKAREHU_CELL_EXCH, VENT_AWAITS_THREAD, 2);
+    step(&run, 2, FIKAREHU_BETA, VENT_AWAITS_THREAD, 2);
+    step(&run, 2, FIKAREHU_CASE_PAIR, VENT_OPENING, 430);
+}
+
 /* The vent of bay 0 in an image from outside, which must keep the rules of images. */
 static void expect_image(const char *what, const uint8_t *image, size_t length, enum vent_state state, unsigned number) {
     static uint8_t out[FIKAREHU_MAX_IMAGE];
@@ -103,6 +121,8 @@ static void images(void) {
                  2);
     expect_image("a cell for a num", BYTES(2, 0, 2, 0, 14, 0, 2, 0, 2, 0, 16, 0, 1, 0, 9, 1, 3), VENT_NO_NUM, 1);
     expect_image("the highest num", BYTES(1, 0, 2, 0, 8, 0, 3, 0, 4, 0xFF, 0xFF), VENT_OPENING, 65535);
+    expect_image("a thread at a case", BYTES(2, 0, 2, 0, 14, 0, 2, 0, 1, 0, 16, 0, 4, 0, 9, 1, 13, 3, 0, 1), VENT_AWAITS_THREAD, 1);
+    expect_image("a pair for a num", BYTES(2, 0, 2, 0, 14, 0, 2, 0, 1, 0, 16, 0, 4, 0, 9, 1, 10, 0, 3, 3), VENT_NO_NUM, 1);
     expect_image("unit for a num", BYTES(1, 0, 2, 0, 8, 0, 1, 0, 3), VENT_NO_NUM, 0);
 }
 
@@ -134,6 +154,7 @@ int main(void) {
     a_thread();
     a_chain();
     a_future();
+    a_case();
     images();
     longest(0);
     longest(1);

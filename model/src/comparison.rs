@@ -25,7 +25,7 @@ const RUN_STEPS: usize = 40;
 pub struct Counts {
     pub verdicts: [u64; 12],
     pub loads: [u64; 13],
-    pub rules: [u64; 8],
+    pub rules: [u64; 10],
     pub done: u64,
     pub waiting: u64,
     pub step_refusals: [u64; 18],
@@ -42,7 +42,7 @@ impl Counts {
         let number = answer.number as usize;
         match answer.outcome {
             DONE => self.done += 1,
-            RULE => self.rules[number.min(7)] += 1,
+            RULE => self.rules[number.min(9)] += 1,
             WAITING => self.waiting += 1,
             _ => self.step_refusals[number.min(17)] += 1,
         }
@@ -239,7 +239,8 @@ fn pattern<'p>(bytes: &'p [u8], draw: &mut Draw, length: usize) -> &'p [u8] {
     &bytes[first..first + length]
 }
 
-/// Accepted exactly when every term has a derivation by Fig. 9 with a type of multiplicity many.
+/// Accepted exactly when every term has a derivation by Figs. 9 and 10 with a type of multiplicity
+/// many.
 fn derivations_agree(file: &[u8], answer: &VerdictAnswer) -> Result<(), Difference> {
     let (table, terms) = match read_recipe(file) {
         Some(found) => found,

@@ -1,6 +1,7 @@
 //! The example recipes: each a file of bytes and a text that says what it does.
 
 use crate::causes;
+use crate::editions::{self, Edition};
 use crate::format::{hexadecimal, Recipe};
 use crate::generate::tables::GrowingTable;
 use crate::limits;
@@ -11,7 +12,7 @@ use crate::table::entry;
 use crate::tool::judge;
 use crate::tool::show::shown;
 use crate::tool::text::spelling::UNICODE;
-use crate::types::{Constant, Multiplicity};
+use crate::types::{Constant, Multiplicity, Shape};
 use std::fmt::Write;
 
 /// An example: its name, what it does, and its recipe.
@@ -32,7 +33,11 @@ const SETTING: u8 = 2;
 
 impl Types {
     fn new() -> Types {
-        Types(GrowingTable::new(*limits::ENTRIES.end()))
+        Types::of(editions::FIRST)
+    }
+
+    fn of(edition: Edition) -> Types {
+        Types(GrowingTable::new(edition, *limits::ENTRIES.end()))
     }
 
     fn many(&mut self, p: u8, q: u8) -> u8 {
@@ -49,9 +54,24 @@ impl Types {
         self.0.cell(contents).expect("an example has few types")
     }
 
+    fn pair(&mut self, multiplicity: Multiplicity, p: u8, q: u8) -> u8 {
+        let made = self.0.pair(multiplicity, p, q);
+        made.expect("an example has few types")
+    }
+
+    fn list(&mut self, contents: u8) -> u8 {
+        let made = self.0.list(Multiplicity::Many, contents);
+        made.expect("an example has few types")
+    }
+
     fn recipe(self, terms: Vec<Term>) -> Recipe {
+        let edition = self.0.edition().number;
         let entries = self.0.into_entries();
-        Recipe { entries, terms }
+        Recipe {
+            edition,
+            entries,
+            terms,
+        }
     }
 }
 
@@ -83,6 +103,19 @@ fn constant(c: Constant, whole: u8) -> Term {
     vec![Node::Constant(c, whole)]
 }
 
+fn pair(whole: u8, first: Term, second: Term) -> Term {
+    [vec![Node::Pair(whole)], first, second].concat()
+}
+
+fn front(whole: u8, first: Term, rest: Term) -> Term {
+    [vec![Node::Front(whole)], first, rest].concat()
+}
+
+/// In the body the second component is variable 0 and the first one variable 1.
+fn case(shape: Shape, subject: Term, body: Term) -> Term {
+    [vec![Node::Case(shape)], subject, body].concat()
+}
+
 /// The number of the exch constant's type for the settings.
 fn setting_exch(types: &mut Types) -> u8 {
     let rest = types.many(NUM, NUM);
@@ -91,10 +124,12 @@ fn setting_exch(types: &mut Types) -> u8 {
 
 /// exch (setting of the bay) value
 fn set(exch: u8, bay: u8, value: u16) -> Term {
-    apply(
-        apply(constant(Constant::Exch, exch), setting(bay)),
-        num(value),
-    )
+    set_to(exch, bay, num(value))
+}
+
+/// exch (setting of the bay) e
+fn set_to(exch: u8, bay: u8, e: Term) -> Term {
+    apply(apply(constant(Constant::Exch, exch), setting(bay)), e)
 }
 
 /// Every example, in the order of the folder's list.
@@ -106,6 +141,9 @@ pub fn all() -> Vec<Example> {
         dosing(),
         mutex(),
         kept_handle(),
+        reading_with_hour(),
+        queue(),
+        handle_in_pair(),
         recursion(),
         waiting(),
         waiting_for_ever(),
@@ -242,12 +280,12 @@ fn handled(t: &HandleTypes, body: Term) -> Term {
     apply(constant(Constant::Handle, t.handle), function)
 }
 
-/// λx. handle (λs. λbind. (exch putr bind) x), putr being variable 0 where it stands: of type
-/// `put`, with exch of type `exch`.
-fn put_term(t: &HandleTypes, put: u8, exch: u8) -> Term {
+/// λx. handle (λs. λbind. (exch putr bind) e), putr being variable 0 where it stands: of type
+/// `put`, with exch of type `exch`. In e, x is variable 2 and s is variable 1.
+fn put_term(t: &HandleTypes, put: u8, exch: u8, e: Term) -> Term {
     let putr = apply(constant(Constant::Exch, exch), variable(3));
     let former = apply(putr, variable(0));
-    lambda(put, handled(t, apply(former, variable(2))))
+    lambda(put, handled(t, apply(former, e)))
 }
 
 fn kept_handle() -> Example {
@@ -271,7 +309,8 @@ fn kept_handle() -> Example {
     );
     let with_put = types.many(put, UNIT);
     let with_cell = types.many(cell, UNIT);
-    let port = apply(lambda(with_put, both), put_term(&t, put, exch));
+    let putting = put_term(&t, put, exch, variable(2));
+    let port = apply(lambda(with_put, both), putting);
     // under s, bind and the former setting: bind is 1
     let kept = apply(constant(Constant::Cell, new_cell), variable(1));
     let with_former = types.once(NUM, UNIT);
@@ -282,6 +321,84 @@ fn kept_handle() -> Example {
     let all = apply(lambda(with_cell, port), kept);
     let term = handled(&t, apply(lambda(with_former, all), vent));
     example("kept-handle", text, types.recipe(vec![term]))
+}
+
+fn reading_with_hour() -> Example {
+    let text =
+        "A reading with its hour, document 02's T-03: a pair of nums. Bay 0 takes it apart, \
+                opens its vent to the reading, 25.0 percent, and is done with the hour.";
+    let mut types = Types::of(editions::SECOND);
+    let exch = setting_exch(&mut types);
+    let reading = types.pair(Multiplicity::Many, NUM, NUM);
+    let with_former = types.many(NUM, NUM);
+    // under the reading and its hour; the hour is 1 below the lambda
+    let opened = set_to(exch, 0, variable(1));
+    let body = apply(lambda(with_former, variable(1)), opened);
+    let term = case(Shape::Pair, pair(reading, num(250), num(7)), body);
+    example("reading-with-hour", text, types.recipe(vec![term]))
+}
+
+fn queue() -> Example {
+    let text = "A queue of readings, the port of section 5 of the paper: a list that ends in a \
+                future. Putting a reading takes the handle out of the cell, puts a new one in, and \
+                binds the list's end to the reading and a new end. A thread takes the first two \
+                readings from the list, waits while they are not there, and sets the vent of bay 0 \
+                to each: to 25.0, then to 40.0 percent.";
+    let mut types = Types::of(editions::SECOND);
+    let exch_setting = setting_exch(&mut types);
+    let list = types.list(NUM);
+    let t = handle_types(&mut types, list);
+    let cell = types.cell(t.bind);
+    let new_cell = types.many(t.bind, cell);
+    let exchanged = types.many(t.bind, t.bind);
+    let exch = types.many(cell, exchanged);
+    let put = types.many(NUM, UNIT);
+    let then = types.many(UNIT, UNIT);
+    let with_put = types.many(put, UNIT);
+    let with_cell = types.many(cell, UNIT);
+    // under the thread that takes: put is 1
+    let both = apply(
+        lambda(then, apply(variable(2), num(400))),
+        apply(variable(1), num(250)),
+    );
+    let taken = apply(lambda(put, both), taking_thread(&mut types, exch_setting));
+    let putting = put_term(&t, put, exch, front(list, variable(2), variable(1)));
+    let port = apply(lambda(with_put, taken), putting);
+    let kept = apply(constant(Constant::Cell, new_cell), variable(0));
+    let term = handled(&t, apply(lambda(with_cell, port), kept));
+    example("queue", text, types.recipe(vec![term]))
+}
+
+/// thread (λself. case s of x :: r ⇒ (λformer. case r of y :: q ⇒ exch setting0 y) (exch setting0 x)), s
+/// being variable 3 where it stands.
+fn taking_thread(types: &mut Types, exch_setting: u8) -> Term {
+    let body = types.many(NUM, NUM);
+    let thread = types.many(body, NUM);
+    let second = case(
+        Shape::List,
+        variable(1),
+        set_to(exch_setting, 0, variable(1)),
+    );
+    let first = apply(lambda(body, second), set_to(exch_setting, 0, variable(1)));
+    let takes = case(Shape::List, variable(4), first);
+    apply(constant(Constant::Thread, thread), lambda(body, takes))
+}
+
+fn handle_in_pair() -> Example {
+    let text = "A once pair with a handle in it: it is usable once, for the handle is. The vent of \
+                bay 0 takes a reading that is still to come; who takes the pair apart has the handle \
+                and the reading, and binds it. The vent opens to 25.0 percent.";
+    let mut types = Types::of(editions::SECOND);
+    let exch_setting = setting_exch(&mut types);
+    let t = handle_types(&mut types, NUM);
+    let whole = types.pair(Multiplicity::Once, t.bind, NUM);
+    let with_former = types.once(NUM, UNIT);
+    // under s, bind and the former setting: bind is 1
+    let made = pair(whole, variable(1), num(250));
+    let bound = case(Shape::Pair, made, apply(variable(1), variable(0)));
+    let vent = set_to(exch_setting, 0, variable(1));
+    let term = handled(&t, apply(lambda(with_former, bound), vent));
+    example("handle-in-pair", text, types.recipe(vec![term]))
 }
 
 fn recursion() -> Example {

@@ -1,13 +1,16 @@
 //! Document 01, "The recipe file": opening bytes, pairs, parts; and writing a file.
 
+use crate::editions::Edition;
 use crate::limits;
 use crate::nodes::{write_term, Node};
 use crate::table::Entry;
 
-/// The first two bytes, the edition, and n from 2 to 17.
-pub fn opening_is_sound(file: &[u8]) -> bool {
+/// The edition that byte 2 says, or `None` for cause 2: the first two bytes, a known edition, and n
+/// from 2 to 17.
+pub fn edition_of(file: &[u8]) -> Option<Edition> {
+    let edition = Edition::of(file[2])?;
     let n = usize::from(file[3]);
-    file[..2] == limits::OPENING && file[2] == limits::EDITION && limits::PARTS.contains(&n)
+    (file[..2] == limits::OPENING && limits::PARTS.contains(&n)).then_some(edition)
 }
 
 /// A pair: the offset and the length of a part.
@@ -59,10 +62,10 @@ pub fn table_and_terms(file: &[u8]) -> Option<(&[u8], Vec<&[u8]>)> {
     (whole && limits::ENTRIES.contains(&entries)).then(|| (*table, terms.to_vec()))
 }
 
-/// A file with these parts, whatever they hold, laid out as document 01 says.
-pub fn write_parts(parts: &[Vec<u8>]) -> Vec<u8> {
+/// A file with that edition byte and these parts, whatever they hold, laid out as document 01 says.
+pub fn write_parts(edition: u8, parts: &[Vec<u8>]) -> Vec<u8> {
     let mut file = limits::OPENING.to_vec();
-    file.push(limits::EDITION);
+    file.push(edition);
     file.push(parts.len() as u8);
     let mut offset = first_offset(parts.len());
     for part in parts {
@@ -76,9 +79,10 @@ pub fn write_parts(parts: &[Vec<u8>]) -> Vec<u8> {
     file
 }
 
-/// A recipe before it is bytes: its type entries and one term for each bay.
+/// A recipe before it is bytes: its edition, its type entries and one term for each bay.
 #[derive(Debug, Clone, PartialEq, Eq)]
 pub struct Recipe {
+    pub edition: u8,
     pub entries: Vec<Entry>,
     pub terms: Vec<Vec<Node>>,
 }
@@ -92,7 +96,7 @@ impl Recipe {
     }
 
     pub fn write(&self) -> Vec<u8> {
-        write_parts(&self.parts())
+        write_parts(self.edition, &self.parts())
     }
 
     /// "1,024 nodes over all terms"

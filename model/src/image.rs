@@ -4,7 +4,7 @@ use crate::config::{Component, Configuration};
 use crate::expression::Expression;
 use crate::kinds::{CELL, FUTURE, OPEN_HANDLE, THREAD, USED_HANDLE};
 use crate::limits;
-use crate::nodes::{read_term, standings, write_term, Node};
+use crate::nodes::{read_term, standings, write_term, Node, FORMS};
 use std::rc::Rc;
 
 /// "heads of six bytes: kind, companion byte, offset, length"
@@ -133,7 +133,7 @@ fn read_expressions(heads: &[Head], image: &[u8]) -> Option<Vec<Option<Vec<Node>
             return Some(None);
         }
         let bytes = image.get(head.offset..head.offset + head.length)?;
-        read_term(bytes).map(Some)
+        read_term(&FORMS, bytes).map(Some)
     };
     heads.iter().map(read).collect()
 }
@@ -142,7 +142,7 @@ fn read_expressions(heads: &[Head], image: &[u8]) -> Option<Vec<Option<Vec<Node>
 fn variables_are_bound(term: &[Node]) -> bool {
     let standing = standings(term);
     term.iter().zip(standing).all(|(node, here)| match node {
-        Node::Variable(index) => usize::from(*index) < here.lambdas,
+        Node::Variable(index) => usize::from(*index) < here.variables,
         _ => true,
     })
 }

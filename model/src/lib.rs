@@ -11,6 +11,7 @@ pub mod comparison;
 pub mod config;
 pub mod context;
 pub mod draw;
+pub mod editions;
 pub mod examples;
 pub mod expression;
 #[cfg(feature = "library")]
@@ -29,6 +30,7 @@ pub mod rows;
 pub mod rules;
 pub mod run;
 pub mod step;
+pub mod subjects;
 pub mod table;
 pub mod tags;
 pub mod timing;

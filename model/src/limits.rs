@@ -4,8 +4,6 @@ use std::ops::RangeInclusive;
 
 /// Bytes 0 and 1 of a recipe file.
 pub const OPENING: [u8; 2] = [0x4C, 0x46];
-/// Byte 2 of a recipe file.
-pub const EDITION: u8 = 1;
 /// "file 12 to 8,192 bytes"
 pub const MIN_FILE: usize = 12;
 pub const MAX_FILE: usize = 8_192;

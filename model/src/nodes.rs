@@ -1,30 +1,40 @@
-//! Document 01, the table of node forms; a term as the list of its nodes, root first.
+//! Documents 01 and 02, the table of node forms; a term as the list of its nodes, root first.
 
 use crate::tags;
-use crate::types::Constant;
+use crate::types::{Constant, Shape};
 
-/// What follows a tag: the number of bytes, and the number of subterms.
+/// What follows a tag: the number of bytes, the number of subterms, and how many variables more the
+/// last subterm has.
 pub struct NodeForm {
     pub after: usize,
     pub subterms: usize,
+    pub binders: usize,
 }
 
-const fn form(after: usize, subterms: usize) -> NodeForm {
-    NodeForm { after, subterms }
+const fn form(after: usize, subterms: usize, binders: usize) -> NodeForm {
+    NodeForm {
+        after,
+        subterms,
+        binders,
+    }
 }
 
-/// The ten node forms, by tag.
-pub const FORMS: [NodeForm; 10] = [
-    form(1, 0),
-    form(1, 1),
-    form(0, 2),
-    form(0, 0),
-    form(2, 0),
-    form(1, 0),
-    form(1, 0),
-    form(1, 0),
-    form(1, 0),
-    form(1, 0),
+/// The node forms, by tag.
+pub static FORMS: [NodeForm; 14] = [
+    form(1, 0, 0),
+    form(1, 1, 1),
+    form(0, 2, 0),
+    form(0, 0, 0),
+    form(2, 0, 0),
+    form(1, 0, 0),
+    form(1, 0, 0),
+    form(1, 0, 0),
+    form(1, 0, 0),
+    form(1, 0, 0),
+    form(1, 2, 0),
+    form(1, 2, 0),
+    form(0, 2, 2),
+    form(0, 2, 2),
 ];
 
 /// A node with what stands after its tag.
@@ -37,6 +47,9 @@ pub enum Node {
     Num(u16),
     Constant(Constant, u8),
     Name(u8),
+    Pair(u8),
+    Front(u8),
+    Case(Shape),
 }
 
 impl Node {
@@ -52,17 +65,38 @@ impl Node {
             Node::Constant(Constant::Thread, _) => tags::THREAD,
             Node::Constant(Constant::Handle, _) => tags::HANDLE,
             Node::Name(_) => tags::NAME,
+            Node::Pair(_) => tags::PAIR,
+            Node::Front(_) => tags::LIST,
+            Node::Case(Shape::Pair) => tags::CASE_PAIR,
+            Node::Case(Shape::List) => tags::CASE_LIST,
         }
     }
 
+    fn form(self) -> &'static NodeForm {
+        &FORMS[usize::from(self.tag())]
+    }
+
     pub fn subterms(self) -> usize {
-        FORMS[usize::from(self.tag())].subterms
+        self.form().subterms
+    }
+
+    /// The variables that the last subterm has more.
+    pub fn binders(self) -> usize {
+        self.form().binders
     }
 
     /// The type number that the node carries, if it carries one.
     pub fn type_number(self) -> Option<u8> {
         match self {
-            Node::Lambda(t) | Node::Constant(_, t) => Some(t),
+            Node::Lambda(t) | Node::Constant(_, t) | Node::Pair(t) | Node::Front(t) => Some(t),
+            _ => None,
+        }
+    }
+
+    /// The place of that type number.
+    pub fn type_number_mut(&mut self) -> Option<&mut u8> {
+        match self {
+            Node::Lambda(t) | Node::Constant(_, t) | Node::Pair(t) | Node::Front(t) => Some(t),
             _ => None,
         }
     }
@@ -79,38 +113,42 @@ impl Node {
             tags::EXCH => Node::Constant(Constant::Exch, after[0]),
             tags::THREAD => Node::Constant(Constant::Thread, after[0]),
             tags::HANDLE => Node::Constant(Constant::Handle, after[0]),
-            _ => Node::Name(after[0]),
+            tags::NAME => Node::Name(after[0]),
+            tags::PAIR => Node::Pair(after[0]),
+            tags::LIST => Node::Front(after[0]),
+            tags::CASE_PAIR => Node::Case(Shape::Pair),
+            _ => Node::Case(Shape::List),
         }
     }
 
     pub fn write(self, out: &mut Vec<u8>) {
         out.push(self.tag());
         match self {
-            Node::Application | Node::Unit => {}
+            Node::Application | Node::Unit | Node::Case(_) => {}
             Node::Num(value) => out.extend_from_slice(&value.to_le_bytes()),
-            Node::Variable(x) | Node::Lambda(x) | Node::Constant(_, x) | Node::Name(x) => {
-                out.push(x)
-            }
+            Node::Variable(x) | Node::Name(x) => out.push(x),
+            Node::Lambda(t) | Node::Constant(_, t) | Node::Pair(t) | Node::Front(t) => out.push(t),
         }
     }
 }
 
-/// The node at the front of the bytes, and the bytes after it: `None` for an unknown tag or a cut.
-pub fn read_node(bytes: &[u8]) -> Option<(Node, &[u8])> {
+/// The node at the front of the bytes, and the bytes after it: `None` for a tag without a form or a
+/// cut.
+pub fn read_node<'b>(forms: &[NodeForm], bytes: &'b [u8]) -> Option<(Node, &'b [u8])> {
     let (&tag, after_tag) = bytes.split_first()?;
-    let form = FORMS.get(usize::from(tag))?;
+    let form = forms.get(usize::from(tag))?;
     let after = after_tag.get(..form.after)?;
     Some((Node::read(tag, after), &after_tag[form.after..]))
 }
 
-/// The bytes read as exactly one term: `None` for an unknown tag, a cut, or bytes over. A loop that
-/// counts the subterms still to come, for the bytes are unchecked.
-pub fn read_term(bytes: &[u8]) -> Option<Vec<Node>> {
+/// The bytes read as exactly one term of these forms: `None` for an unknown tag, a cut, or bytes
+/// over. A loop that counts the subterms still to come, for the bytes are unchecked.
+pub fn read_term(forms: &[NodeForm], bytes: &[u8]) -> Option<Vec<Node>> {
     let mut nodes = Vec::new();
     let mut rest = bytes;
     let mut pending = 1;
     while pending > 0 {
-        let (node, after) = read_node(rest)?;
+        let (node, after) = read_node(forms, rest)?;
         pending = pending - 1 + node.subterms();
         nodes.push(node);
         rest = after;
@@ -127,11 +165,11 @@ pub fn write_term(nodes: &[Node]) -> Vec<u8> {
     out
 }
 
-/// Where a node stands: its nesting (the root being 1) and the number of lambdas around it.
+/// Where a node stands: its nesting (the root being 1) and the number of variables bound around it.
 #[derive(Debug, Clone, Copy, PartialEq, Eq)]
 pub struct Standing {
     pub nesting: usize,
-    pub lambdas: usize,
+    pub variables: usize,
 }
 
 /// Where each node of a term stands, in the order of the nodes.
@@ -139,7 +177,7 @@ pub fn standings(nodes: &[Node]) -> Vec<Standing> {
     let mut result = Vec::with_capacity(nodes.len());
     let mut coming = vec![Standing {
         nesting: 1,
-        lambdas: 0,
+        variables: 0,
     }];
     for node in nodes {
         let here = match coming.pop() {
@@ -147,11 +185,14 @@ pub fn standings(nodes: &[Node]) -> Vec<Standing> {
             None => break,
         };
         result.push(here);
-        let below = Standing {
+        let below = |binders: usize| Standing {
             nesting: here.nesting + 1,
-            lambdas: here.lambdas + usize::from(matches!(node, Node::Lambda(_))),
+            variables: here.variables + binders,
         };
-        coming.extend(std::iter::repeat(below).take(node.subterms()));
+        if let Some(others) = node.subterms().checked_sub(1) {
+            coming.push(below(node.binders()));
+            coming.extend(std::iter::repeat(below(0)).take(others));
+        }
     }
     result
 }

@@ -1,10 +1,11 @@
-//! Fig. 5: the seven rules on configurations, and what stands in their way.
+//! Fig. 5: the seven rules on configurations, the two that take a pair or a list apart, and what
+//! stands in their way.
 
 use crate::config::{Component, Configuration};
-use crate::context::{find, Context, Found};
-use crate::expression::{apply, Expression};
+use crate::context::{find, Context, Found, Place};
+use crate::expression::{apply, Case, Expression};
 use crate::rules;
-use crate::types::Constant;
+use crate::types::{Constant, Shape};
 use std::rc::Rc;
 
 /// What a thread of a configuration can do, room left aside.
@@ -18,16 +19,15 @@ pub enum Move {
     Waiting(u8),
     /// A used handle is applied.
     UsedHandle,
-    /// Two values meet that nothing fits.
+    /// Two values meet, or a case and its subject, that nothing fits.
     WrongValue,
 }
 
-/// A thread x ← F[f v] about to move.
-struct Meeting<'a> {
+/// A thread x ← F[e] about to move at its place e.
+struct Mover<'a> {
     configuration: &'a Configuration,
     thread: usize,
     context: Context,
-    argument: Rc<Expression>,
 }
 
 /// The move of that thread.
@@ -36,33 +36,31 @@ pub fn move_of(configuration: &Configuration, thread: usize) -> Move {
         Component::Thread(expression) => expression,
         _ => unreachable!("only a thread moves"),
     };
-    match find(expression) {
-        Found::Value => Move::Done,
-        Found::Meeting {
-            context,
-            function,
-            argument,
-        } => {
-            let meeting = Meeting {
-                configuration,
-                thread,
-                context,
-                argument,
-            };
-            meeting.with_function(&function)
-        }
+    let (context, place) = match find(expression) {
+        Found::Value => return Move::Done,
+        Found::Place(context, place) => (context, place),
+    };
+    let mover = Mover {
+        configuration,
+        thread,
+        context,
+    };
+    match place {
+        Place::Meeting(function, argument) => mover.apply(&function, &argument),
+        Place::Case(case) => mover.take_apart(&case),
     }
 }
 
-impl Meeting<'_> {
-    fn with_function(&self, function: &Expression) -> Move {
+impl Mover<'_> {
+    /// f v
+    fn apply(&self, function: &Expression, v: &Rc<Expression>) -> Move {
         match function {
-            Expression::Lambda(_, x, body) => self.beta(body.substitute(*x, &self.argument)),
-            Expression::Constant(Constant::Thread, _) => self.thread_new(),
-            Expression::Constant(Constant::Handle, _) => self.handle_new(),
-            Expression::Constant(Constant::Cell, _) => self.cell_new(),
-            Expression::Name(y) => self.apply_name(*y),
-            Expression::Application(exch, first) => self.exchange(exch, first),
+            Expression::Lambda(_, x, body) => self.beta(body.substitute(*x, v)),
+            Expression::Constant(Constant::Thread, _) => self.thread_new(v),
+            Expression::Constant(Constant::Handle, _) => self.handle_new(v),
+            Expression::Constant(Constant::Cell, _) => self.cell_new(v),
+            Expression::Name(y) => self.apply_name(*y, v),
+            Expression::Application(exch, first) => self.exchange(exch, first, v),
             _ => Move::WrongValue,
         }
     }
@@ -85,20 +83,20 @@ impl Meeting<'_> {
     }
 
     /// (THREAD.NEW) E[thread v] → E[y] | y ← v y
-    fn thread_new(&self) -> Move {
+    fn thread_new(&self, v: &Rc<Expression>) -> Move {
         let y = Rc::new(Expression::Name(self.new_name()));
         let mut next = self.goes_on(y.clone());
-        let expression = apply(self.argument.clone(), y);
+        let expression = apply(v.clone(), y);
         next.components.push(Component::Thread(expression));
         Move::Rule(rules::THREAD_NEW, next)
     }
 
     /// (HANDLE.NEW) E[handle v] → E[v y z] | z h y, y taking m and z taking m + 1
-    fn handle_new(&self) -> Move {
+    fn handle_new(&self, v: &Rc<Expression>) -> Move {
         let y = self.new_name();
         let future = Rc::new(Expression::Name(y));
         let handle = Rc::new(Expression::Name(y.wrapping_add(1)));
-        let applied = apply(apply(self.argument.clone(), future), handle);
+        let applied = apply(apply(v.clone(), future), handle);
         let mut next = self.goes_on(applied);
         next.components.push(Component::Future);
         next.components.push(Component::OpenHandle(y));
@@ -106,22 +104,22 @@ impl Meeting<'_> {
     }
 
     /// (CELL.NEW) E[cell v] → E[y] | y c v
-    fn cell_new(&self) -> Move {
+    fn cell_new(&self, v: &Rc<Expression>) -> Move {
         let y = Rc::new(Expression::Name(self.new_name()));
         let mut next = self.goes_on(y);
-        next.components.push(Component::Cell(self.argument.clone()));
+        next.components.push(Component::Cell(v.clone()));
         Move::Rule(rules::CELL_NEW, next)
     }
 
     /// A name at the function of an application: F[[] v].
-    fn apply_name(&self, y: u8) -> Move {
+    fn apply_name(&self, y: u8, v: &Rc<Expression>) -> Move {
         match self.configuration.get(y) {
             Component::Thread(e) => {
-                let replaced = |value| apply(value, self.argument.clone());
+                let replaced = |value| apply(value, v.clone());
                 self.future_deref(y, e, replaced)
             }
             Component::Future => Move::Waiting(y),
-            Component::OpenHandle(future) => self.handle_bind(y, *future),
+            Component::OpenHandle(future) => self.handle_bind(y, *future, v),
             Component::UsedHandle => Move::UsedHandle,
             Component::Cell(_) => Move::WrongValue,
         }
@@ -141,9 +139,9 @@ impl Meeting<'_> {
     }
 
     /// (HANDLE.BIND) E[z v] | z h y → E[unit] | y ← v | z h •
-    fn handle_bind(&self, z: u8, y: u8) -> Move {
+    fn handle_bind(&self, z: u8, y: u8, v: &Rc<Expression>) -> Move {
         let next = self.goes_on(Rc::new(Expression::Unit));
-        let next = next.with(usize::from(y), Component::Thread(self.argument.clone()));
+        let next = next.with(usize::from(y), Component::Thread(v.clone()));
         Move::Rule(
             rules::HANDLE_BIND,
             next.with(usize::from(z), Component::UsedHandle),
@@ -151,28 +149,58 @@ impl Meeting<'_> {
     }
 
     /// The first argument of a full exch: F[exch [] v].
-    fn exchange(&self, exch: &Rc<Expression>, first: &Expression) -> Move {
+    fn exchange(&self, exch: &Rc<Expression>, first: &Expression, v: &Rc<Expression>) -> Move {
         let y = match *first {
             Expression::Name(y) => y,
             _ => return Move::WrongValue,
         };
         match self.configuration.get(y) {
             Component::Thread(e) => {
-                let full = |value| apply(apply(exch.clone(), value), self.argument.clone());
+                let full = |value| apply(apply(exch.clone(), value), v.clone());
                 self.future_deref(y, e, full)
             }
             Component::Future => Move::Waiting(y),
-            Component::Cell(old) => self.cell_exch(y, old.clone()),
+            Component::Cell(old) => self.cell_exch(y, old.clone(), v),
             Component::OpenHandle(_) | Component::UsedHandle => Move::WrongValue,
         }
     }
 
     /// (CELL.EXCH) E[exch y v₁] | y c v₂ → E[v₂] | y c v₁
-    fn cell_exch(&self, y: u8, old: Rc<Expression>) -> Move {
+    fn cell_exch(&self, y: u8, old: Rc<Expression>, v: &Rc<Expression>) -> Move {
         let next = self.goes_on(old);
         Move::Rule(
-            7,
-            next.with(usize::from(y), Component::Cell(self.argument.clone())),
+            rules::CELL_EXCH,
+            next.with(usize::from(y), Component::Cell(v.clone())),
         )
+    }
+
+    /// A case of a value: F[case [] of .. ⇒ e] needs the value as F[exch [] v] does.
+    fn take_apart(&self, case: &Case) -> Move {
+        match (case.shape, &*case.subject) {
+            (Shape::Pair, Expression::Pair(_, v1, v2)) => {
+                self.taken_apart(rules::CASE_PAIR, case, v1, v2)
+            }
+            (Shape::List, Expression::Front(_, v1, v2)) => {
+                self.taken_apart(rules::CASE_LIST, case, v1, v2)
+            }
+            (_, Expression::Name(y)) => self.name_as_subject(*y, case),
+            _ => Move::WrongValue,
+        }
+    }
+
+    /// (PAIR.CASE) E[case (v₁, v₂) of (x, y) ⇒ e] → E[e[v₁/x][v₂/y]], and (LIST.CASE) for v₁ :: v₂
+    fn taken_apart(&self, rule: u8, case: &Case, v1: &Rc<Expression>, v2: &Rc<Expression>) -> Move {
+        let body = case.body.substitute(case.x, v1);
+        Move::Rule(rule, self.goes_on(body.substitute(case.y, v2)))
+    }
+
+    fn name_as_subject(&self, y: u8, case: &Case) -> Move {
+        match self.configuration.get(y) {
+            Component::Thread(e) => self.future_deref(y, e, |value| case.of(value)),
+            Component::Future => Move::Waiting(y),
+            Component::Cell(_) | Component::OpenHandle(_) | Component::UsedHandle => {
+                Move::WrongValue
+            }
+        }
     }
 }

@@ -3,6 +3,7 @@
 
 pub mod antt;
 pub mod checks;
+pub mod compounds;
 pub mod loads;
 pub mod quota;
 pub mod steps;

@@ -2,7 +2,7 @@
 
 use crate::causes;
 use crate::config::{Component, Configuration};
-use crate::context::{find, Found};
+use crate::context::{find, Found, Place};
 use crate::expression::Expression;
 use crate::image::read_image;
 use crate::limits;
@@ -91,7 +91,8 @@ impl Run {
     fn note(&mut self, before: &Configuration, thread: usize, rule: u8) -> Result<(), String> {
         let expression = before.components[thread].expression();
         let function = match expression.map(find) {
-            Some(Found::Meeting { function, .. }) => function,
+            Some(Found::Place(_, Place::Meeting(function, _))) => function,
+            Some(Found::Place(_, Place::Case(_))) => return Ok(()),
             _ => return Err("a rule without a place".to_owned()),
         };
         match (&*function, rule) {
@@ -156,7 +157,7 @@ impl Run {
     }
 
     /// A derivation under the names that stand in the value; that a name of a once type stands in
-    /// it once and under no many-lambda is what a derivation of Fig. 9 says.
+    /// it once and under no many-lambda is what a derivation of Figs. 9 and 10 says.
     fn value_has(&self, value: &Expression, wanted: &Rc<Type>) -> bool {
         let names = (0..=u8::MAX).zip(&self.types);
         let standing = names.filter(|(y, _)| crate::typing::occurs(Subject::Name(*y), value));

@@ -1,5 +1,6 @@
 //! Document 01, "The type table": entries of three bytes, read as types.
 
+use crate::editions::Edition;
 use crate::limits;
 use crate::types::{Multiplicity, Type};
 use std::rc::Rc;
@@ -17,6 +18,10 @@ pub const NUM: u8 = 1;
 pub const CELL: u8 = 2;
 pub const ONCE: u8 = 3;
 pub const MANY: u8 = 4;
+pub const ONCE_PAIR: u8 = 5;
+pub const MANY_PAIR: u8 = 6;
+pub const ONCE_LIST: u8 = 7;
+pub const MANY_LIST: u8 = 8;
 
 /// "Entries 0, 1, 2 are unit, num, cell of num."
 pub const UNIT_ENTRY: u8 = 0;
@@ -37,13 +42,22 @@ impl Entry {
         [self.kind, self.p, self.q]
     }
 
-    /// The rule that an entry keeps by itself, at its own number.
-    pub fn keeps_its_rule(self, own: usize) -> bool {
-        let names_lower = |x: u8| usize::from(x) < own;
+    /// "5 and 7 of multiplicity once", and 3; all other kinds are many.
+    pub fn is_once(self) -> bool {
+        matches!(self.kind, ONCE | ONCE_PAIR | ONCE_LIST)
+    }
+
+    /// The rule that an entry keeps by itself; `lower` are the entries before it.
+    pub fn keeps_its_rule(self, lower: &[Entry]) -> bool {
+        let named = |x: u8| lower.get(usize::from(x));
+        let is_type = |x: u8| named(x).is_some();
+        let is_many = |x: u8| named(x).map_or(false, |e| !e.is_once());
         match self.kind {
             UNIT | NUM => self.p == 0 && self.q == 0,
-            CELL => names_lower(self.p) && self.q == 0,
-            ONCE | MANY => names_lower(self.p) && names_lower(self.q),
+            CELL | ONCE_LIST => is_type(self.p) && self.q == 0,
+            ONCE | MANY | ONCE_PAIR => is_type(self.p) && is_type(self.q),
+            MANY_PAIR => is_many(self.p) && is_many(self.q),
+            MANY_LIST => is_many(self.p) && self.q == 0,
             _ => false,
         }
     }
@@ -63,10 +77,12 @@ pub struct Table {
 
 impl Table {
     /// The types of the entries, or `None` when one of them breaks a rule of the table.
-    pub fn read(entries: &[Entry]) -> Option<Table> {
+    pub fn read(edition: Edition, entries: &[Entry]) -> Option<Table> {
         let first = entries.iter().take(3).eq(FIRST_ENTRIES.iter());
-        let rules = entries.iter().enumerate();
-        let kept = rules.into_iter().all(|(own, e)| e.keeps_its_rule(own));
+        let keeps = |(own, e): (usize, &Entry)| {
+            edition.has_kind(e.kind) && e.keeps_its_rule(&entries[..own])
+        };
+        let kept = entries.iter().enumerate().all(keeps);
         (first && kept && all_different(entries)).then(|| Table::of_sound(entries))
     }
 
@@ -74,12 +90,17 @@ impl Table {
         let mut types: Vec<Rc<Type>> = Vec::new();
         for e in entries {
             let named = |x: u8| types[usize::from(x)].clone();
+            let multiplicity = match e.is_once() {
+                true => Multiplicity::Once,
+                false => Multiplicity::Many,
+            };
             types.push(Rc::new(match e.kind {
                 UNIT => Type::Unit,
                 NUM => Type::Num,
                 CELL => Type::Cell(named(e.p)),
-                ONCE => Type::Function(Multiplicity::Once, named(e.p), named(e.q)),
-                _ => Type::Function(Multiplicity::Many, named(e.p), named(e.q)),
+                ONCE | MANY => Type::Function(multiplicity, named(e.p), named(e.q)),
+                ONCE_PAIR | MANY_PAIR => Type::Pair(multiplicity, named(e.p), named(e.q)),
+                _ => Type::List(multiplicity, named(e.p)),
             }));
         }
         Table { types }

@@ -1,4 +1,4 @@
-//! Fig. 8: linear types as trees, their multiplicities, and the types of the constants.
+//! Figs. 8 and 10: linear types as trees, their multiplicities, and the types of the constants.
 
 use std::rc::Rc;
 
@@ -9,7 +9,8 @@ pub enum Multiplicity {
     Many,
 }
 
-/// α, β ::= unit | num | α ref | α →κ β, where num is document 01's second base type.
+/// α, β ::= unit | num | α ref | α →κ β | α ×κ β | α listκ, where num is document 01's second base
+/// type.
 ///
 /// `Rc` compares by address first, so that a comparison of shared trees stops early.
 #[derive(Debug, Clone, PartialEq, Eq)]
@@ -18,6 +19,15 @@ pub enum Type {
     Num,
     Cell(Rc<Type>),
     Function(Multiplicity, Rc<Type>, Rc<Type>),
+    Pair(Multiplicity, Rc<Type>, Rc<Type>),
+    List(Multiplicity, Rc<Type>),
+}
+
+/// What a case takes apart.
+#[derive(Debug, Clone, Copy, PartialEq, Eq)]
+pub enum Shape {
+    Pair,
+    List,
 }
 
 /// The constants of Fig. 1 that carry a type in the file. (unit and num carry none.)
@@ -30,10 +40,12 @@ pub enum Constant {
 }
 
 impl Type {
-    /// |α| of Fig. 8; num is treated like unit.
+    /// |α| of Fig. 8, κ for a pair or a list; num is treated like unit.
     pub fn multiplicity(&self) -> Multiplicity {
         match self {
-            Type::Function(multiplicity, _, _) => *multiplicity,
+            Type::Function(multiplicity, _, _)
+            | Type::Pair(multiplicity, _, _)
+            | Type::List(multiplicity, _) => *multiplicity,
             Type::Unit | Type::Num | Type::Cell(_) => Multiplicity::Many,
         }
     }
@@ -44,6 +56,16 @@ impl Type {
 
     pub fn is_once(&self) -> bool {
         self.multiplicity() == Multiplicity::Once
+    }
+
+    /// The types of the two components of a pair, or of a list's front and its rest: the rest has
+    /// the list's own type.
+    pub fn components(self: &Rc<Type>, shape: Shape) -> Option<(Rc<Type>, Rc<Type>)> {
+        match (shape, &**self) {
+            (Shape::Pair, Type::Pair(_, alpha, beta)) => Some((alpha.clone(), beta.clone())),
+            (Shape::List, Type::List(_, alpha)) => Some((alpha.clone(), self.clone())),
+            _ => None,
+        }
     }
 
     /// The parameter and the result of a function type.

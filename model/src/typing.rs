@@ -1,9 +1,9 @@
-//! Fig. 9, the rules for expressions, as a search for a derivation. The environment is split at
-//! each application; nothing is counted.
+//! Figs. 9 and 10, the rules for expressions, as a search for a derivation. The environment is split
+//! wherever an expression has two parts; nothing is counted.
 
-use crate::expression::{Expression, Variable};
+use crate::expression::{Case, Expression, Variable};
 use crate::table::Table;
-use crate::types::{is_instance, Multiplicity, Type};
+use crate::types::{is_instance, Multiplicity, Shape, Type};
 use std::rc::Rc;
 
 /// What an environment gives a type: a variable, or a name of the configuration.
@@ -69,13 +69,19 @@ pub fn occurs(subject: Subject, e: &Expression) -> bool {
         Expression::Variable(x) => Subject::Variable(*x) == subject,
         Expression::Name(y) => Subject::Name(*y) == subject,
         Expression::Lambda(_, x, body) => Subject::Variable(*x) != subject && occurs(subject, body),
-        Expression::Application(e1, e2) => occurs(subject, e1) || occurs(subject, e2),
+        Expression::Application(e1, e2)
+        | Expression::Pair(_, e1, e2)
+        | Expression::Front(_, e1, e2) => occurs(subject, e1) || occurs(subject, e2),
+        Expression::Case(case) => {
+            let bound = [Subject::Variable(case.x), Subject::Variable(case.y)].contains(&subject);
+            occurs(subject, &case.subject) || (!bound && occurs(subject, &case.body))
+        }
         Expression::Unit | Expression::Num(_) | Expression::Constant(_, _) => false,
     }
 }
 
-/// The α with Γ ⊢ e : α, if there is a derivation. A lambda and a constant have the type that
-/// their type number names in the table.
+/// The α with Γ ⊢ e : α, if there is a derivation. A lambda, a constant, a pair and a front have the
+/// type that their type number names in the table.
 pub fn derive(table: &Table, gamma: &Environment, e: &Expression) -> Option<Rc<Type>> {
     match e {
         Expression::Unit => constant(gamma, Rc::new(Type::Unit)),
@@ -99,7 +105,43 @@ pub fn derive(table: &Table, gamma: &Environment, e: &Expression) -> Option<Rc<T
             let (alpha, beta) = function.function()?;
             (*alpha == argument).then(|| beta.clone())
         }
+        Expression::Pair(number, e1, e2) => {
+            let whole = table.get(*number)?;
+            compound(table, gamma, Shape::Pair, whole, (e1, e2))
+        }
+        Expression::Front(number, e1, e2) => {
+            let whole = table.get(*number)?;
+            compound(table, gamma, Shape::List, whole, (e1, e2))
+        }
+        Expression::Case(case) => taken_apart(table, gamma, case),
     }
+}
+
+/// Γ₁ ⊢ e₁ : α and Γ₂ ⊢ e₂ : β give Γ₁ · Γ₂ ⊢ (e₁, e₂) : α ×κ β, and Γ₂ ⊢ e₂ : α listκ gives
+/// Γ₁ · Γ₂ ⊢ e₁ :: e₂ : α listκ; κ is either, whatever the environments hold.
+fn compound(
+    table: &Table,
+    gamma: &Environment,
+    shape: Shape,
+    whole: &Rc<Type>,
+    (e1, e2): (&Expression, &Expression),
+) -> Option<Rc<Type>> {
+    let (alpha, beta) = whole.components(shape)?;
+    let (gamma1, gamma2) = gamma.split(e1, e2)?;
+    let first = derive(table, &gamma1, e1)?;
+    let second = derive(table, &gamma2, e2)?;
+    (first == alpha && second == beta).then(|| whole.clone())
+}
+
+/// Γ₁ ⊢ e₁ : α ×κ β and Γ₂, x:α, y:β ⊢ e₂ : γ give Γ₁ · Γ₂ ⊢ case e₁ of (x, y) ⇒ e₂ : γ; for a list
+/// y is of the list's own type.
+fn taken_apart(table: &Table, gamma: &Environment, case: &Case) -> Option<Rc<Type>> {
+    let (gamma1, gamma2) = gamma.split(&case.subject, &case.body)?;
+    let subject = derive(table, &gamma1, &case.subject)?;
+    let (alpha, beta) = subject.components(case.shape)?;
+    let inner = gamma2.with(Subject::Variable(case.x), alpha);
+    let inner = inner.with(Subject::Variable(case.y), beta);
+    derive(table, &inner, &case.body)
 }
 
 /// once(Γ) = ∅ gives Γ ⊢ c : TypeOf(c).

@@ -1,12 +1,13 @@
 //! Document 01's causes 1 to 11, each tried over the whole file; the lowest number wins.
 
 use crate::causes;
-use crate::expression::{Expression, Variable};
-use crate::format::{opening_is_sound, table_and_terms};
+use crate::editions::Edition;
+use crate::expression::{Case, Expression, Variable};
+use crate::format::{edition_of, table_and_terms};
 use crate::limits;
 use crate::nodes::{read_term, standings, Node};
 use crate::table::{entries_of, Table};
-use crate::types::{is_instance, Multiplicity, Type};
+use crate::types::{is_instance, Multiplicity, Shape, Type};
 use crate::typing::{derive, Environment, Subject};
 use std::rc::Rc;
 
@@ -41,10 +42,10 @@ fn examine(file: &[u8]) -> Result<Vec<u8>, u32> {
         !limits::FILE_BYTES.contains(&file.len()),
         causes::FILE_LENGTH,
     )?;
-    refuse_if(!opening_is_sound(file), causes::OPENING)?;
+    let edition = edition_of(file).ok_or(causes::OPENING)?;
     let (table, terms) = table_and_terms(file).ok_or(causes::LAYOUT)?;
-    let table = Table::read(&entries_of(table)).ok_or(causes::TYPE_ENTRY)?;
-    let terms = read_terms(&terms).ok_or(causes::NO_TERM)?;
+    let table = Table::read(edition, &entries_of(table)).ok_or(causes::TYPE_ENTRY)?;
+    let terms = read_terms(edition, &terms).ok_or(causes::NO_TERM)?;
     refuse_if(above_the_limits(&terms), causes::TERM_SIZE)?;
     refuse_if_any_unfit(&table, &terms)?;
     let numbers = terms.iter().map(|term| {
@@ -66,16 +67,18 @@ fn refuse_if(fits: bool, number: u32) -> Result<(), u32> {
 
 /// The table and the terms of a file that causes 1 to 6 do not refuse.
 pub fn read_recipe(file: &[u8]) -> Option<(Table, Vec<Vec<Node>>)> {
-    let sound = limits::FILE_BYTES.contains(&file.len()) && opening_is_sound(file);
-    let (table, terms) = sound.then(|| table_and_terms(file))??;
-    let table = Table::read(&entries_of(table))?;
-    let terms = read_terms(&terms)?;
+    let sound = limits::FILE_BYTES.contains(&file.len());
+    let edition = sound.then(|| edition_of(file))??;
+    let (table, terms) = table_and_terms(file)?;
+    let table = Table::read(edition, &entries_of(table))?;
+    let terms = read_terms(edition, &terms)?;
     (!above_the_limits(&terms)).then_some((table, terms))
 }
 
 /// Cause 5: "a part is not exactly one term".
-fn read_terms(parts: &[&[u8]]) -> Option<Vec<Vec<Node>>> {
-    parts.iter().map(|part| read_term(part)).collect()
+fn read_terms(edition: Edition, parts: &[&[u8]]) -> Option<Vec<Vec<Node>>> {
+    let read = |part: &&[u8]| read_term(edition.forms(), part);
+    parts.iter().map(read).collect()
 }
 
 /// Cause 6: "nesting or nodes above the limit".
@@ -115,40 +118,51 @@ pub fn refuse_if_any_unfit(table: &Table, terms: &[Vec<Node>]) -> Result<(), u32
     )
 }
 
-/// Cause 7: "index with no lambda, name not below b, type number not below t".
+/// Cause 7: "index with no lambda, name not below b, type number not below t". A case binds too.
 fn names_nothing(table: &Table, bays: usize, term: &[Node]) -> bool {
     let standing = standings(term);
     term.iter().zip(standing).any(|(node, here)| match node {
-        Node::Variable(index) => usize::from(*index) >= here.lambdas,
+        Node::Variable(index) => usize::from(*index) >= here.variables,
         Node::Name(k) => usize::from(*k) >= bays,
-        Node::Lambda(t) | Node::Constant(_, t) => table.get(*t).is_none(),
-        Node::Application | Node::Unit | Node::Num(_) => false,
+        _ => node.type_number().map_or(false, |t| table.get(t).is_none()),
     })
 }
 
-/// Cause 8: "lambda's type no function, constant's type no instance of Fig. 8 (handle as above)".
+/// Cause 8: "lambda's type no function, constant's type no instance of Fig. 8 (handle as above)",
+/// and "where node 10's type is no pair or node 11's no list".
 fn has_unfit_type(table: &Table, term: &[Node]) -> bool {
-    let unfit = |node: &Node| match node {
-        Node::Lambda(t) => table
-            .get(*t)
-            .map_or(true, |whole| whole.function().is_none()),
-        Node::Constant(c, t) => table.get(*t).map_or(true, |whole| !is_instance(*c, whole)),
-        _ => false,
-    };
-    term.iter().any(unfit)
+    term.iter().any(|node| {
+        let whole = node.type_number().map(|t| table.get(t));
+        match whole {
+            Some(Some(whole)) => !fits(*node, whole),
+            Some(None) => true,
+            None => false,
+        }
+    })
 }
 
+/// Whether a node that carries a type may carry this one.
+fn fits(node: Node, whole: &Rc<Type>) -> bool {
+    match node {
+        Node::Lambda(_) => whole.function().is_some(),
+        Node::Constant(c, _) => is_instance(c, whole),
+        Node::Pair(_) => whole.components(Shape::Pair).is_some(),
+        Node::Front(_) => whole.components(Shape::List).is_some(),
+        _ => true,
+    }
+}
+
+/// The variables in scope with their types.
+type Scope = Vec<(Variable, Rc<Type>)>;
+
 /// The type that a term would have if once and many did not matter: `None` where cause 9 fits,
-/// "application of a non-function, argument or body of another type".
+/// "application of a non-function, argument or body of another type", "a component or subject of
+/// another type".
 pub fn type_of(table: &Table, term: &Expression) -> Option<Rc<Type>> {
     type_under(table, &mut Vec::new(), term)
 }
 
-fn type_under(
-    table: &Table,
-    scope: &mut Vec<(Variable, Rc<Type>)>,
-    e: &Expression,
-) -> Option<Rc<Type>> {
+fn type_under(table: &Table, scope: &mut Scope, e: &Expression) -> Option<Rc<Type>> {
     match e {
         Expression::Variable(x) => {
             let bound = scope.iter().rev().find(|(y, _)| y == x)?;
@@ -172,7 +186,40 @@ fn type_under(
         Expression::Num(_) => Some(Rc::new(Type::Num)),
         Expression::Constant(_, t) => table.get(*t).cloned(),
         Expression::Name(_) => Some(setting_type()),
+        Expression::Pair(t, e1, e2) => compound_type(table, scope, Shape::Pair, *t, (e1, e2)),
+        Expression::Front(t, e1, e2) => compound_type(table, scope, Shape::List, *t, (e1, e2)),
+        Expression::Case(case) => {
+            let more = variables_of_case(table, scope, case)?;
+            scope.extend(more);
+            let body_type = type_under(table, scope, &case.body);
+            scope.truncate(scope.len() - 2);
+            body_type
+        }
     }
+}
+
+/// The type of a pair or a front: the one that it carries, if its components are as that says.
+fn compound_type(
+    table: &Table,
+    scope: &mut Scope,
+    shape: Shape,
+    t: u8,
+    (e1, e2): (&Expression, &Expression),
+) -> Option<Rc<Type>> {
+    let whole = table.get(t)?;
+    let components = (type_under(table, scope, e1)?, type_under(table, scope, e2)?);
+    (whole.components(shape)? == components).then(|| whole.clone())
+}
+
+/// The two variables that the body of a case has more, with the types that its subject gives them.
+fn variables_of_case(
+    table: &Table,
+    scope: &mut Scope,
+    case: &Case,
+) -> Option<[(Variable, Rc<Type>); 2]> {
+    let subject = type_under(table, scope, &case.subject)?;
+    let (first, second) = subject.components(case.shape)?;
+    Some([(case.x, first), (case.y, second)])
 }
 
 /// "Each bay k has a setting: a cell of num"
@@ -181,18 +228,45 @@ pub fn setting_type() -> Rc<Type> {
 }
 
 /// Cause 10: "a once-variable not used exactly once, or free under a many-lambda". The lambda
-/// that binds the variable does not count as one it is free under.
+/// that binds the variable does not count as one it is free under. Cause 9 does not fit the term.
 fn misuses_once(table: &Table, e: &Expression) -> bool {
+    misuses_under(table, &mut Vec::new(), e)
+}
+
+fn misuses_under(table: &Table, scope: &mut Scope, e: &Expression) -> bool {
     match e {
         Expression::Lambda(t, x, body) => {
-            let once = table.get(*t).and_then(|whole| whole.function());
-            let once = once.map_or(false, |(parameter, _)| parameter.is_once());
-            let misused = once && (uses(*x, body) != 1 || free_under_many(table, *x, body));
-            misused || misuses_once(table, body)
+            let whole = table.get(*t).and_then(|whole| whole.function());
+            let bound = whole.map(|(parameter, _)| (*x, parameter.clone()));
+            binder_misuses(table, scope, bound.into_iter().collect(), body)
         }
-        Expression::Application(e1, e2) => misuses_once(table, e1) || misuses_once(table, e2),
+        Expression::Application(e1, e2)
+        | Expression::Pair(_, e1, e2)
+        | Expression::Front(_, e1, e2) => {
+            misuses_under(table, scope, e1) || misuses_under(table, scope, e2)
+        }
+        Expression::Case(case) => {
+            let bound = variables_of_case(table, scope, case).into_iter().flatten();
+            misuses_under(table, scope, &case.subject)
+                || binder_misuses(table, scope, bound.collect(), &case.body)
+        }
         _ => false,
     }
+}
+
+/// Whether one of the variables bound here is a misused once-variable, or one further in.
+fn binder_misuses(table: &Table, scope: &mut Scope, bound: Scope, body: &Expression) -> bool {
+    let misused = |(x, alpha): &(Variable, Rc<Type>)| {
+        alpha.is_once() && (uses(*x, body) != 1 || free_under_many(table, *x, body))
+    };
+    if bound.iter().any(misused) {
+        return true;
+    }
+    let outside = scope.len();
+    scope.extend(bound);
+    let inside = misuses_under(table, scope, body);
+    scope.truncate(outside);
+    inside
 }
 
 /// How often the variable stands in the term.
@@ -200,20 +274,29 @@ fn uses(x: Variable, e: &Expression) -> usize {
     match e {
         Expression::Variable(y) => usize::from(*y == x),
         Expression::Lambda(_, _, body) => uses(x, body),
-        Expression::Application(e1, e2) => uses(x, e1) + uses(x, e2),
+        Expression::Application(e1, e2)
+        | Expression::Pair(_, e1, e2)
+        | Expression::Front(_, e1, e2) => uses(x, e1) + uses(x, e2),
+        Expression::Case(case) => uses(x, &case.subject) + uses(x, &case.body),
         _ => 0,
     }
 }
 
-/// Whether the variable stands under some many-lambda of this body of its own lambda.
+/// Whether the variable stands under some many-lambda of this body of its own binder. A case is no
+/// lambda.
 fn free_under_many(table: &Table, x: Variable, e: &Expression) -> bool {
     match e {
         Expression::Lambda(t, _, body) => {
             let many = table.get(*t).map(|whole| whole.multiplicity()) == Some(Multiplicity::Many);
             (many && uses(x, body) > 0) || free_under_many(table, x, body)
         }
-        Expression::Application(e1, e2) => {
+        Expression::Application(e1, e2)
+        | Expression::Pair(_, e1, e2)
+        | Expression::Front(_, e1, e2) => {
             free_under_many(table, x, e1) || free_under_many(table, x, e2)
+        }
+        Expression::Case(case) => {
+            free_under_many(table, x, &case.subject) || free_under_many(table, x, &case.body)
         }
         _ => false,
     }
@@ -232,7 +315,7 @@ pub fn settings(bays: usize) -> Environment {
     })
 }
 
-/// The other way to the same answer: the type of each term by a derivation of Fig. 9, if every
+/// The other way to the same answer: the type of each term by a derivation of Figs. 9 and 10, if every
 /// term has one and it is of multiplicity many.
 pub fn derived_types(table: &Table, terms: &[Vec<Node>]) -> Option<Vec<Rc<Type>>> {
     let gamma = settings(terms.len());

@@ -81,9 +81,9 @@ fn places_in_the_bytes() {
     let (number, place, offset, found) = told("4C46");
     assert_eq!((number, place, offset), (1, Place::File, 0));
     assert_eq!(found, "the file has 2 bytes");
-    let (number, place, offset, found) = told(&whole.replace("4C4601", "4C4602"));
+    let (number, place, offset, found) = told(&whole.replace("4C4601", "4C4603"));
     assert_eq!((number, place, offset), (2, Place::Opening, 2));
-    assert_eq!(found, "the edition is 02, not 01");
+    assert_eq!(found, "the edition is 03, not 01 or 02");
     let (number, place, offset, found) = told(&whole.replace("15000100", "16000100"));
     assert_eq!((number, place, offset), (3, Place::Pair(1), 8));
     assert_eq!(

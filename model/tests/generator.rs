@@ -1,12 +1,25 @@
 //! The generator reaches what it should reach; the plain check gives the model's answers.
 
 use model::answers::{Implementation, Model, Plain};
+use model::causes;
+use model::command::on_deep_stack;
 use model::draw::Draw;
 use model::format::hexadecimal;
+use model::generate::images;
 use model::generate::instances::constants_at_every_type;
 use model::generate::recipes::{file, largest, well_typed};
+use model::image::read_image;
+use model::limits;
+use model::load::{load, Loaded};
 use model::nodes::{standings, Node};
+use model::rows::compounds::is_cause;
+use model::rules;
+use model::step::{step, Outcome};
+use model::subjects::{self, case_at, subject_of, Subject};
+use model::tool::faults::fault;
+use model::types::Shape;
 use model::verdict::verdict;
+use std::collections::BTreeMap;
 
 #[test]
 fn well_typed_recipes_are_accepted() {
@@ -34,26 +47,27 @@ fn every_verdict_comes_and_half_are_accepted() {
 fn every_constant_and_number_of_bays_comes() {
     let mut draw = Draw::new(3);
     let mut bays = [false; 17];
-    let mut tags = [false; 10];
-    let mut kinds = [false; 5];
+    let mut tags = [0; 14];
+    let mut kinds = [0; 9];
     let mut under_once = 0;
     for _ in 0..4_000 {
         let recipe = well_typed(&mut draw);
         bays[recipe.terms.len()] = true;
         for node in recipe.terms.iter().flatten() {
-            tags[usize::from(node.tag())] = true;
-            if let Node::Lambda(t) | Node::Constant(_, t) = node {
-                let entry = recipe.entries[usize::from(*t)];
-                kinds[usize::from(entry.kind)] = true;
+            tags[usize::from(node.tag())] += 1;
+            if let Some(t) = node.type_number() {
+                let entry = recipe.entries[usize::from(t)];
+                kinds[usize::from(entry.kind)] += 1;
                 let parameter = recipe.entries[usize::from(entry.p)];
-                under_once +=
-                    usize::from(parameter.kind == model::table::ONCE && *node == Node::Lambda(*t));
+                under_once += usize::from(parameter.is_once() && *node == Node::Lambda(t));
             }
         }
     }
     assert!(bays[1..].iter().all(|b| *b), "{bays:?}");
-    assert!(tags.iter().all(|b| *b), "{tags:?}");
-    assert!(kinds[3] && kinds[4]);
+    println!("tags {tags:?}, kinds {kinds:?}");
+    assert!(tags.iter().all(|count| *count > 100), "{tags:?}");
+    let carried = &kinds[usize::from(model::table::ONCE)..];
+    assert!(carried.iter().all(|count| *count > 20), "{kinds:?}");
     assert!(under_once > 1_000, "once-variables: {under_once}");
 }
 
@@ -87,6 +101,122 @@ fn every_constant_has_instances_and_near_ones() {
         }
     }
     let came: Vec<usize> = (0..12).filter(|number| counts[*number] > 0).collect();
-    assert_eq!(came, [0, 7, 8, 11], "{counts:?}");
+    let rare = [causes::TYPE_ENTRY as usize];
+    let came: Vec<usize> = came.into_iter().filter(|n| !rare.contains(n)).collect();
+    assert_eq!(came, [0, 7, 8, 9, 11], "{counts:?}");
     assert!(counts[0] > 10, "{counts:?}");
+}
+
+#[test]
+fn pairs_lists_and_cases_are_refused_often_and_by_every_cause() {
+    let mut draw = Draw::new(6);
+    let mut counts: BTreeMap<u32, usize> = BTreeMap::new();
+    for _ in 0..12_000 {
+        let made = file(&mut draw);
+        let found = fault(&made).filter(|fault| is_cause(&made, fault));
+        if let Some(fault) = found {
+            *counts.entry(fault.number).or_default() += 1;
+        }
+    }
+    println!("refused by a pair, a list or a case: {counts:?}");
+    for cause in [4, 7, 8, 9, 10, 11] {
+        let count = counts.get(&cause).copied().unwrap_or(0);
+        assert!(count >= 15, "{cause}: {counts:?}");
+    }
+}
+
+const WRONG: Outcome = Outcome::Refused(causes::WRONG_KIND);
+
+/// What a step must answer, room left aside.
+fn due(shape: Shape, subject: Subject, outcome: Outcome) -> bool {
+    if outcome == Outcome::Refused(causes::ROOM) {
+        return true;
+    }
+    match (shape, subject) {
+        (Shape::Pair, Subject::Pair) => matches!(outcome, Outcome::Rule(rules::CASE_PAIR, _)),
+        (Shape::List, Subject::Front) => matches!(outcome, Outcome::Rule(rules::CASE_LIST, _)),
+        (_, Subject::DoneThread) => matches!(outcome, Outcome::Rule(rules::FUTURE_DEREF, _)),
+        (_, Subject::UnfinishedThread | Subject::Future) => {
+            matches!(outcome, Outcome::Waiting(_))
+        }
+        _ => outcome == WRONG,
+    }
+}
+
+#[test]
+fn images_have_cases_of_every_subject() {
+    on_deep_stack(|| {
+        let mut draw = Draw::new(7);
+        let mut out = vec![0; limits::MAX_IMAGE];
+        let mut counts: BTreeMap<(u8, Subject), usize> = BTreeMap::new();
+        for _ in 0..4_000 {
+            let image = images::image(&mut draw);
+            let configuration = match read_image(&image) {
+                Some(configuration) => configuration,
+                None => continue,
+            };
+            for thread in 0..configuration.names().min(8) {
+                let case = match case_at(&configuration, thread as u64) {
+                    Some(case) => case,
+                    None => continue,
+                };
+                let subject = subject_of(&configuration, &case);
+                let outcome = step(&image, thread as u64, &mut out);
+                assert!(due(case.shape, subject, outcome), "{subject:?} {outcome:?}");
+                let tag = Node::Case(case.shape).tag();
+                *counts.entry((tag, subject)).or_default() += 1;
+            }
+        }
+        println!("{counts:?}");
+        assert_eq!(counts.len(), 2 * subjects::ALL.len(), "{counts:?}");
+        assert!(counts.values().all(|count| *count >= 15), "{counts:?}");
+    });
+}
+
+#[test]
+fn runs_take_pairs_and_lists_apart_and_wait_for_them() {
+    on_deep_stack(|| {
+        let mut draw = Draw::new(8);
+        let mut out = vec![0; limits::MAX_IMAGE];
+        let mut counts: BTreeMap<(Subject, String), usize> = BTreeMap::new();
+        for _ in 0..1_500 {
+            let made = well_typed(&mut draw).write();
+            let mut image = match load(&made, &mut out) {
+                Loaded::Accepted(_, length) => out[..length].to_vec(),
+                Loaded::Refused(_) => continue,
+            };
+            for _ in 0..30 {
+                let configuration = read_image(&image).expect("an image of a run");
+                let thread = images::thread_number(&mut draw, &image);
+                let case = case_at(&configuration, thread);
+                let outcome = step(&image, thread, &mut out);
+                if let Some(case) = case {
+                    let answer = match outcome {
+                        Outcome::Rule(rule, _) => format!("rule {rule}"),
+                        Outcome::Waiting(_) => "waiting".to_owned(),
+                        other => format!("{other:?}"),
+                    };
+                    let subject = subject_of(&configuration, &case);
+                    *counts.entry((subject, answer)).or_default() += 1;
+                }
+                if let Outcome::Rule(_, length) = outcome {
+                    image = out[..length].to_vec();
+                }
+            }
+        }
+        println!("{counts:?}");
+        for (subject, answer, least) in [
+            (Subject::Pair, "rule 8", 200),
+            (Subject::Front, "rule 9", 40),
+            (Subject::DoneThread, "rule 3", 60),
+            (Subject::UnfinishedThread, "waiting", 30),
+            (Subject::Future, "waiting", 60),
+        ] {
+            let count = counts.get(&(subject, answer.to_owned())).copied();
+            assert!(
+                count.unwrap_or(0) >= least,
+                "{subject:?} {answer}: {counts:?}"
+            );
+        }
+    });
 }

@@ -1,72 +1,18 @@
 //! The comparison finds the impostors that document 01 names to the testers, and those that know
 //! a change of document 02 only by half.
 
-use model::answers::{
-    Implementation, LoadedAnswer, Model, SteppedAnswer, VerdictAnswer, DONE, REFUSED, RULE, WAITING,
-};
+mod impostor;
+
+use impostor::*;
+use model::answers::{SteppedAnswer, VerdictAnswer, DONE, REFUSED, RULE, WAITING};
 use model::causes;
-use model::command::on_deep_stack;
-use model::comparison::Comparison;
 use model::format::{table_and_terms, write_parts};
 use model::image::read_image;
-use model::nodes::{read_term, write_term, Node};
+use model::nodes::{read_term, write_term, Node, FORMS};
 use model::table::ONCE;
 use model::tags;
 use model::types::Constant;
 use std::sync::Mutex;
-
-type Check = fn(&[u8]) -> VerdictAnswer;
-type Load = fn(&[u8], &mut [u8]) -> LoadedAnswer;
-type Step = fn(&[u8], u64, &mut [u8]) -> SteppedAnswer;
-
-/// An implementation put together from three functions.
-struct Impostor {
-    check: Check,
-    load: Load,
-    step: Step,
-}
-
-impl Implementation for Impostor {
-    fn check(&self, recipe: &[u8]) -> VerdictAnswer {
-        (self.check)(recipe)
-    }
-
-    fn load(&self, recipe: &[u8], out: &mut [u8]) -> Option<LoadedAnswer> {
-        Some((self.load)(recipe, out))
-    }
-
-    fn step(&self, image: &[u8], thread: u64, out: &mut [u8]) -> Option<SteppedAnswer> {
-        Some((self.step)(image, thread, out))
-    }
-}
-
-fn check(recipe: &[u8]) -> VerdictAnswer {
-    Model.check(recipe)
-}
-
-fn load(recipe: &[u8], out: &mut [u8]) -> LoadedAnswer {
-    Model.load(recipe, out).unwrap_or_default()
-}
-
-fn step(image: &[u8], thread: u64, out: &mut [u8]) -> SteppedAnswer {
-    Model.step(image, thread, out).unwrap_or_default()
-}
-
-/// "image breaks a rule or limit"
-const BROKEN: SteppedAnswer = SteppedAnswer {
-    outcome: REFUSED,
-    number: causes::IMAGE,
-    length: 0,
-};
-
-const HONEST: Impostor = Impostor { check, load, step };
-
-fn is_found(impostor: &Impostor) -> bool {
-    on_deep_stack(|| {
-        let mut comparison = Comparison::new(impostor);
-        comparison.compare(9, 300).is_err()
-    })
-}
 
 #[test]
 fn the_honest_one_passes() {
@@ -206,13 +152,13 @@ fn with_nums(recipe: &[u8], change: fn(u16) -> u16) -> Option<Vec<u8>> {
     let (table, terms) = table_and_terms(recipe)?;
     let mut parts = vec![table.to_vec()];
     for term in terms {
-        let nodes = read_term(term)?.into_iter().map(|node| match node {
+        let nodes = read_term(&FORMS, term)?.into_iter().map(|node| match node {
             Node::Num(value) => Node::Num(change(value)),
             other => other,
         });
         parts.push(write_term(&nodes.collect::<Vec<Node>>()));
     }
-    Some(write_parts(&parts))
+    Some(write_parts(recipe[2], &parts))
 }
 
 /// T-01, "A num may be 0 to 65,535".
@@ -279,7 +225,7 @@ fn has_once_contents(recipe: &[u8], wanted: Constant) -> bool {
         Node::Constant(c, whole) => *c == wanted && entry(contents(*whole))[0] == ONCE,
         _ => false,
     };
-    let nodes = terms.into_iter().filter_map(read_term);
+    let nodes = terms.into_iter().filter_map(|term| read_term(&FORMS, term));
     nodes.flatten().any(|node| narrowed(&node))
 }
 

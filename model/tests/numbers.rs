@@ -39,12 +39,13 @@ const RECIPE: &[(&str, u64)] = numbers!(limits: MIN_FILE MAX_FILE MIN_PARTS MAX_
 const IMAGE: &[(&str, u64)] =
     numbers!(limits: MAX_NAMES MAX_NODES FIRST_HEAD HEAD_LENGTH MAX_NODE_LENGTH MAX_IMAGE);
 const KINDS: &[(&str, u64)] = numbers!(kinds: THREAD CELL OPEN_HANDLE USED_HANDLE FUTURE);
-const TYPES: &[(&str, u64)] = numbers!(table: UNIT NUM CELL ONCE MANY);
+const TYPES: &[(&str, u64)] = numbers!(table: UNIT NUM CELL ONCE MANY ONCE_PAIR MANY_PAIR
+    ONCE_LIST MANY_LIST);
 const ENTRIES: &[(&str, u64)] = numbers!(table: UNIT_ENTRY NUM_ENTRY SETTING_ENTRY);
-const TAGS: &[(&str, u64)] =
-    numbers!(tags: VARIABLE LAMBDA APPLICATION UNIT NUM CELL EXCH THREAD HANDLE NAME);
-const RULES: &[(&str, u64)] =
-    numbers!(rules: BETA THREAD_NEW FUTURE_DEREF HANDLE_NEW HANDLE_BIND CELL_NEW CELL_EXCH);
+const TAGS: &[(&str, u64)] = numbers!(tags: VARIABLE LAMBDA APPLICATION UNIT NUM CELL EXCH THREAD HANDLE NAME PAIR LIST
+    CASE_PAIR CASE_LIST);
+const RULES: &[(&str, u64)] = numbers!(rules: BETA THREAD_NEW FUTURE_DEREF HANDLE_NEW HANDLE_BIND CELL_NEW CELL_EXCH CASE_PAIR
+    CASE_LIST);
 const CAUSES: &[(&str, u64)] = numbers!(causes: FILE_LENGTH OPENING LAYOUT TYPE_ENTRY NO_TERM
     TERM_SIZE SCOPE ANNOTATION TYPE LINEARITY BAY_ONCE BUFFER IMAGE NO_THREAD ROOM USED_HANDLE
     WRONG_KIND);
@@ -196,10 +197,10 @@ fn every_limit_kind_rule_and_cause_of_the_rattle_sources_is_in_the_header() {
     for (whole, value) in in_rattle() {
         let (owner, name) = whole.split_once("::").unwrap_or(("", ""));
         let public = ["Recipe", "Image", "Type", "Rule", "Cause", "Stepped"].contains(&owner);
-        // The companion of a name without one is 0 (document 01): neither limit nor kind.
-        let companion = whole == "Image::NO_OWNER";
+        // The companion of a name without one is 0 (document 01), and how many variables a term can have around it follows from its nesting: neither is a limit or a kind.
+        let inside = ["Image::NO_OWNER", "Recipe::MAX_VARIABLES"].contains(&whole.as_str());
         assert!(
-            !public || companion || listed(owner, name),
+            !public || inside || listed(owner, name),
             "{whole} = {value} has no name in the header"
         );
     }

@@ -4,6 +4,7 @@
 use model::command::on_deep_stack;
 use model::draw::Draw;
 use model::examples;
+use model::format::{bytes_of_hexadecimal, write_parts};
 use model::generate::recipes;
 use model::tags;
 use model::tool::judge::NAME;
@@ -103,6 +104,90 @@ fn a_num_is_any_two_byte_number() {
     }
 }
 
+#[test]
+fn pairs_and_lists_have_a_text() {
+    // 3: num ×ω num; the case takes the pair apart and is its second component
+    let table = "000000 010000 020100 060101";
+    let term = "0C 0A 03 04 FA 00 04 07 00 00 00";
+    let due = write_parts(
+        2,
+        &[bytes_of_hexadecimal(table), bytes_of_hexadecimal(term)],
+    );
+    for text in [
+        "bay 0 = case (250, 7) of (x, y) ⇒ y",
+        "bay 0 = case (250, 7)[num *w num] of (x, y) => y",
+        "edition 2 bay 0 : num = case ((250), 7) of (reading, hour) ⇒ hour",
+        "types t0 = unit t1 = num t2 = num ref t3 = num ×ω num\n\
+         bay 0 = case (250, 7)[t3] of (x, x) ⇒ x",
+    ] {
+        assert_eq!(bytes(text), due, "{text}");
+    }
+    // 3: num listω, 4: 3 to 3, 5: 4 to 3; a list that ends in a thread's future
+    let table = "000000 010000 020100 080100 040303 040403";
+    let term = "0D 0B 03 04 01 00 02 07 05 01 04 00 00 00 01";
+    let due = write_parts(
+        2,
+        &[bytes_of_hexadecimal(table), bytes_of_hexadecimal(term)],
+    );
+    for text in [
+        "bay 0 = case (1 :: thread[(num listω →ω num listω) →ω num listω] (λl:num listω. l))\n\
+         of x :: r ⇒ x",
+        "bay 0 = case (1 :: thread[(num listw -w> num listw) -w> num listw] (\\l:num listw. l))\n\
+         [num listw] of x::r=>x",
+    ] {
+        assert_eq!(bytes(text), due, "{text}");
+    }
+}
+
+#[test]
+fn a_pair_without_its_type_is_once_where_a_component_is() {
+    let short = bytes("bay 0 = λ f:num →1 num. case (f, 1) of (g, n) ⇒ g n");
+    let long = bytes("bay 0 = λ f:num →1 num. case (f, 1)[(num →1 num) ×1 num] of (g, n) ⇒ g n");
+    assert_eq!(short, long);
+    let once = bytes("bay 0 = case (1, 2)[num ×1 num] of (x, y) ⇒ x");
+    assert_ne!(once, bytes("bay 0 = case (1, 2) of (x, y) ⇒ x"));
+}
+
+#[test]
+fn signs_of_types_bind_as_the_page_says() {
+    for (text, same) in [
+        ("num ×ω num →ω unit", "(num ×ω num) →ω unit"),
+        ("num ×ω num ×ω unit →ω num", "(num ×ω (num ×ω unit)) →ω num"),
+        (
+            "num ref listω ×ω num listω →ω unit",
+            "(((num ref) listω) ×ω (num listω)) →ω unit",
+        ),
+        (
+            "num →ω num ×1 num list1 →1 num",
+            "num →ω ((num ×1 (num list1)) →1 num)",
+        ),
+    ] {
+        let recipe = |written: &str| made(format!("bay 0 = λx[{written}]. unit").as_bytes(), true);
+        assert_eq!(recipe(text), recipe(same), "{text}");
+    }
+}
+
+#[test]
+fn the_edition_is_the_least_or_what_the_text_says() {
+    let edition = |text: &str| made(text.as_bytes(), true).expect("a text")[2];
+    assert_eq!(edition("bay 0 = unit"), 1);
+    assert_eq!(edition("edition 2 bay 0 = unit"), 2);
+    assert_eq!(edition("edition 1 bay 0 = unit"), 1);
+    assert_eq!(edition("bay 0 = (1, 2)"), 2);
+    assert_eq!(edition("bay 0 = λx:num listω. unit"), 2);
+    assert_eq!(
+        edition("types t0 = unit t1 = num t2 = num ref t3 = num ×1 num bay 0 = unit"),
+        2
+    );
+    assert_eq!(edition("edition 1 bay 0 = (1, 2)"), 1);
+    assert_eq!(edition("edition 7 bay 0 = unit"), 7);
+    let told = complaint("edition 1 bay 0 = (1, 2)");
+    assert!(
+        told.contains("refused 4") && told.contains("there is no kind 6 in edition 1"),
+        "{told}"
+    );
+}
+
 /// The complaint, without whose verdict it is.
 fn complaint(text: &str) -> String {
     let told = made(text.as_bytes(), false).expect_err(text);
@@ -143,6 +228,38 @@ const ERRORS: &[(&str, &str)] = &[
     (
         "bay 0 = exch setting0",
         ":1:14: expected '[' and the type of exch, found 'setting0'",
+    ),
+    (
+        "bay 0 = λx:num × num. x",
+        ":1:16: expected the sign of a pair type: ×1 or ×ω (*1 or *w)",
+    ),
+    (
+        "bay 0 = case unit",
+        ":2:1: expected 'of' or an argument, found the end of the text",
+    ),
+    (
+        "bay 0 = case unit of x, y ⇒ x",
+        ":1:23: expected '::', found ','",
+    ),
+    (
+        "bay 0 = case unit of (x :: y) ⇒ x",
+        ":1:25: expected ',', found '::'",
+    ),
+    (
+        "bay 0 = case unit of (x, y) = x",
+        ":1:29: expected '⇒', found '='",
+    ),
+    (
+        "bay 0 = (1, 2",
+        ":2:1: expected ')' or an argument, found the end of the text",
+    ),
+    (
+        "bay 0 = λof:num. 3",
+        ":1:10: expected the name of a variable, found 'of'",
+    ),
+    (
+        "edition bay 0 = unit",
+        ":1:9: expected the number of an edition, found 'bay'",
     ),
     (
         "bay 0 = λx:num → num. x",
@@ -219,8 +336,8 @@ fn errors_have_line_and_column_and_say_what_was_expected() {
 #[test]
 fn a_refusal_is_told_at_its_place_in_the_text() {
     let text = "bay 0 = unit\nbay 1 = (λx:num. x)\n  unit\n";
-    let expected = ":3:3: refused 9: application of a non-function, argument or body of another \
-                    type; the argument should be num, and unit is unit";
+    let expected = ":3:3: refused 9: application of a non-function, argument, body, component or \
+                    subject of another type; the argument should be num, and unit is unit";
     assert_eq!(complaint(text), expected);
     let text = "bay 0 =\n  λf:num →1 unit. unit";
     assert!(
@@ -270,6 +387,46 @@ const REFUSALS: &[(&str, &str, &str)] = &[
         "; the argument should be num ref, and x is num",
     ),
     (
+        "bay 0 = (1, unit)[num ×ω num]",
+        ":1:13: refused 9: ",
+        "; the second component should be num, and unit is unit",
+    ),
+    (
+        "bay 0 = (1 :: 2)[num listω]",
+        ":1:15: refused 9: ",
+        "; the rest should be num listω, and 2 is num",
+    ),
+    (
+        "bay 0 = (1 :: 2)[num ×ω num]",
+        ":1:9: refused 8: ",
+        "; the list front's type is num ×ω num, no list",
+    ),
+    (
+        "bay 0 = (1, 2)[num]",
+        ":1:9: refused 8: ",
+        "; the pair's type is num, no pair",
+    ),
+    (
+        "bay 0 = case (1, 2) of x :: r ⇒ unit",
+        ":1:14: refused 9: ",
+        "; (1, 2)[num ×ω num] is taken apart, and is num ×ω num, no list",
+    ),
+    (
+        "bay 0 = λp:(num →1 unit) ×1 num. case p of (bind, n) ⇒ n",
+        ":1:34: refused 10: ",
+        "; the once-variable bind, of type num →1 unit, is used 0 times",
+    ),
+    (
+        "bay 0 = λf:num →1 num. case (f 1, f 2) of (x, y) ⇒ x",
+        ":1:9: refused 10: ",
+        "; the once-variable f, of type num →1 num, is used 2 times",
+    ),
+    (
+        "bay 0 = unit\nbay 1 = (1, 2)[num ×1 num]",
+        ":2:9: refused 11: ",
+        "; the bay's type is num ×1 num, usable once",
+    ),
+    (
         "bay 0 = unit\nbay 1 = λ1 vent:num. vent",
         ":2:9: refused 11: ",
         "; the bay's type is num →1 num, usable once; the λ1 vent at 2:9 should be λvent",
@@ -302,6 +459,17 @@ fn no_text_is_too_deep_or_too_long() {
         assert!(complaint(&types).ends_with("nested too deep"));
         let arrows = "bay 0 = λx:".to_owned() + &"unit →ω ".repeat(100_000);
         assert!(complaint(&arrows).ends_with("nested too deep"));
+        for part in ["case ", "(1, ", "case 1 of (x, y) ⇒ "] {
+            let nested = "bay 0 = ".to_owned() + &part.repeat(100_000);
+            let told = complaint(&nested);
+            let ends = [
+                "nested too deep",
+                "this is more than a recipe file can hold",
+            ];
+            assert!(ends.iter().any(|end| told.ends_with(end)), "{told}");
+        }
+        let pairs = "bay 0 = λx:".to_owned() + &"unit ×ω ".repeat(100_000);
+        assert!(complaint(&pairs).ends_with("nested too deep"));
         let long = "bay 0 = unit ".to_owned() + &"unit ".repeat(100_000);
         assert!(complaint(&long).ends_with("this is more than a recipe file can hold"));
         let many = (0..17)
@@ -323,7 +491,7 @@ fn damaged_texts_get_an_answer() {
                 let at = draw.below(text.len());
                 match draw.below(3) {
                     0 => text[at] = draw.byte(),
-                    1 => text[at] = draw.pick(b"()[].:=@0123456789 \nabct"),
+                    1 => text[at] = draw.pick(b"()[].:=@,*>0123456789 \nabct"),
                     _ => {
                         text.remove(at);
                     }

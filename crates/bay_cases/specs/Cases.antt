@@ -12,14 +12,14 @@ use Rattle.calculus.specs.Lists.{tabulate, each-below, sum-below}
 use Rattle.calculus.specs.Bytes.{two-byte-values, two-bytes, word}
 use Rattle.calculus.specs.Names.{uses}
 use Rattle.calculus.specs.Image.{nodes, expression-test, is-settled, is-awaited, handle-for, component-test, each-test, limits-test, image-test}
-use Rattle.calculus.specs.Table.{test-entry, entry-test, entries-test, same-entry, new-to, distinct-test, entry-is, table-test, cell-reading, function-reading, read-entry, read-at, read-deep, type-at}
-use Rattle.calculus.specs.Verdict.{on-function, on-once-function, on-cell, is-many, scoped-const, scoped, annotated-const, annotated, const-number, on-number, result-number, applied-number, lambda-number, type-number, outside-many, linear-parameter, linear, every, verdict}
+use Rattle.calculus.specs.Table.{test-entry, entry-test, entry-stands, entries-test, same-entry, new-to, distinct-test, entry-is, table-test, one-part, two-parts, read-entry, read-at, read-deep, type-at, is-many}
+use Rattle.calculus.specs.Verdict.{on-function, on-once-function, on-cell, scoped-const, scoped, annotated-const, annotated, const-number, on-number, result-number, applied-number, lambda-number, both-number, case-number, with-components, type-number, outside-many, linear-variable, linear, every, verdict}
 use Rattle.buffer.specs.Theory.TwoBytes.{number-of-bytes}
 use Rattle.term.specs.Numbers.{value-of, little-endian}
 use Rattle.term.specs.Forms.{form-of, forms}
 use Rattle.term.specs.Reader.{one-term, read, read-term, of-edition}
 use Rattle.term.specs.Tree.{forms-below}
-use Rattle.term.specs.Expressions.{exp-of, leaf-exp, leaf-forms, nesting, bytes, const-bytes, op-tag, term-of, two-exp}
+use Rattle.term.specs.Expressions.{exp-of, leaf-exp, leaf-forms, nesting, bytes, const-bytes, op-tag, both-tag, case-tag, term-of, two-exp, two-forms}
 use Rattle.recipe_file.specs.Editions.{edition-1}
 use Rattle.recipe_file.specs.File.{edition-of, bays, parts, offset-of, length-of, part, table-bytes, term-bytes, outside, cause-1, opens, cause-2, pairs-test, table-length-test, cause-3}
 use Rattle.recipe_file.specs.Whole.{file-of, joined, pairs-of}
@@ -28,7 +28,7 @@ use Rattle.check_spec.specs.Bays.{bay-term, bay-terms, cause-5, cause-6}
 use Rattle.check_spec.specs.Verdict.{bay-type-number, bay-type-numbers, number-in, refusal, verdict-of}
 use Rattle.calculus.specs.Limits.{max-image-length}
 use Rattle.calculus.specs.Reduction.{substitute, plug}
-use Rattle.calculus.specs.Step.{beside, place-app, place, when-done, step-call, step-exchange, step-meeting, step-place, step-of}
+use Rattle.calculus.specs.Step.{beside, within, place, when-done, step-call, step-exchange, step-meeting, step-place, step-redex, step-case, step-subject, step-of}
 use Rattle.calculus.specs.Reply.{reply-of}
 use Rattle.calculus.specs.Recipe.{loaded, bay-types, with-type}
 use Rattle.image_layout.specs.Encoded.{head, heads, expressions, image-bytes}
@@ -55,7 +55,7 @@ pub record Row : Type 0 where
   pub answers : List Outcome
   pub images : List (List ℕ)
 
-abbrev refused-row : List ℕ → ℕ → Row
+abbrev pub refused-row : List ℕ → ℕ → Row
 refused-row file refusal = record { file = file; refusal = refusal; types = []; threads = []; starting = []; answers = []; images = [] }
 
 -- an out buffer that is just long enough
@@ -70,7 +70,7 @@ unfoldable pub run-of : Row → List Step
 run-of r = steps (type-at (type-table (r .file))) (image-loaded (r .file) out) (types-loaded (r .file)) (map call (r .threads))
 
 -- the row with what is computed in place of what is claimed
-unfoldable computed : Row → Row
+unfoldable pub computed : Row → Row
 computed r = record {
   file = r .file;
   refusal = loaded-of (r .file) (length out) .refusal;
@@ -82,13 +82,13 @@ computed r = record {
 }
 
 -- the tables: that of three entries, "T5" and "T7", and others by what they are for
-abbrev T3 : List ℕ
+abbrev pub T3 : List ℕ
 T3 = 0x00 ∷ 0x00 ∷ 0x00 ∷ 0x01 ∷ 0x00 ∷ 0x00 ∷ 0x02 ∷ 0x01 ∷ 0x00 ∷ []
 
 abbrev T5 : List ℕ
 T5 = T3 ++ (0x04 ∷ 0x01 ∷ 0x01 ∷ 0x04 ∷ 0x02 ∷ 0x03 ∷ [])
 
-abbrev T7 : List ℕ
+abbrev pub T7 : List ℕ
 T7 = T3 ++ (0x03 ∷ 0x01 ∷ 0x00 ∷ 0x04 ∷ 0x03 ∷ 0x00 ∷ 0x04 ∷ 0x01 ∷ 0x04 ∷ 0x04 ∷ 0x05 ∷ 0x00 ∷ [])
 
 abbrev cell-of-once : List ℕ
@@ -556,8 +556,8 @@ orders =
     refused-row ((0x00 ∷ 0x00 ∷ 0x00 ∷ 0x00 ∷ 0x00 ∷ 0x00 ∷ 0x00 ∷ 0x00 ∷ 0x00 ∷ 0x00 ∷ 0x00 ∷ [])) 1
     -- 2 alone: 12 bytes
     ∷ refused-row ((0x00 ∷ 0x00 ∷ 0x00 ∷ 0x00 ∷ 0x00 ∷ 0x00 ∷ 0x00 ∷ 0x00 ∷ 0x00 ∷ 0x00 ∷ 0x00 ∷ 0x00 ∷ [])) 2
-    -- 2 before 3: edition 2, and the first part begins at 0
-    ∷ refused-row ((0x4C ∷ 0x46 ∷ 0x02 ∷ 0x02 ∷ 0x00 ∷ 0x00 ∷ 0x09 ∷ 0x00 ∷ 0x15 ∷ 0x00 ∷ 0x01 ∷ 0x00 ∷ 0x00 ∷ 0x00 ∷ 0x00 ∷ 0x01 ∷ 0x00 ∷ 0x00 ∷ 0x02 ∷ 0x01 ∷ 0x00 ∷ 0x03 ∷ [])) 2
+    -- 2 before 3: edition 3, and the first part begins at 0
+    ∷ refused-row ((0x4C ∷ 0x46 ∷ 0x03 ∷ 0x02 ∷ 0x00 ∷ 0x00 ∷ 0x09 ∷ 0x00 ∷ 0x15 ∷ 0x00 ∷ 0x01 ∷ 0x00 ∷ 0x00 ∷ 0x00 ∷ 0x00 ∷ 0x01 ∷ 0x00 ∷ 0x00 ∷ 0x02 ∷ 0x01 ∷ 0x00 ∷ 0x03 ∷ [])) 2
     -- 3 before 4: a table of 10 bytes, whose entries break their rules
     ∷ refused-row ((0x4C ∷ 0x46 ∷ 0x01 ∷ 0x02 ∷ 0x0C ∷ 0x00 ∷ 0x0A ∷ 0x00 ∷ 0x16 ∷ 0x00 ∷ 0x01 ∷ 0x00 ∷ 0x09 ∷ 0x09 ∷ 0x09 ∷ 0x09 ∷ 0x09 ∷ 0x09 ∷ 0x09 ∷ 0x09 ∷ 0x09 ∷ 0x09 ∷ 0x03 ∷ [])) 3
     -- 4 before 5: entries 0 and 1 are num and unit, and tag 10 in bay 0
@@ -672,7 +672,7 @@ pub record Proved : Type 0 where
   pub holds-once : (n : Step) × (at (run-of kept-handle) 3 ≡ some n) × HoldsOnce (type-at (type-table (kept-handle .file))) n 4
 
 pub cases : Proved
-unfolding computed verdict-of refusal bay-type-numbers bay-type-number number-in bay-terms bay-term cause-5 cause-6 cause-4 table-of type-table file-of joined pairs-of two-bytes word bays parts offset-of length-of part table-bytes term-bytes outside cause-1 opens edition-of cause-2 pairs-test table-length-test cause-3 exp-of leaf-exp leaf-forms two-exp nesting one-term of-edition forms-below read read-term form-of forms value-of tabulate each-below sum-below uses nodes test-entry entry-test entries-test same-entry new-to distinct-test entry-is table-test on-function on-once-function on-cell is-many scoped-const scoped annotated-const annotated const-number on-number result-number applied-number lambda-number type-number outside-many linear-parameter linear every verdict starting-image renewed outcome-of out-after-step step-reply outcome-of-reply out-after-reply config-of decode components image-of encode terms-stand image-stands kind-test companion-test length-test head-agrees head-stands stand-from heads-stand names kind-at companion-at offset-in length-at expression-at encoded-at encoded-all head heads expressions image-bytes bytes const-bytes op-tag little-endian loaded bay-types with-type reply-of sum-in sum-all expression-test is-settled is-awaited handle-for component-test each-test limits-test image-test beside place-app place when-done step-call step-exchange step-meeting step-place step-of substitute plug run-of lambdas identities steps loaded-of load-refusal out-after-load term-of function-at new-types coming result-type future-and-handle type-at read-deep read-at read-entry cell-reading function-reading
+unfolding computed verdict-of refusal bay-type-numbers bay-type-number number-in bay-terms bay-term cause-5 cause-6 cause-4 table-of type-table file-of joined pairs-of two-bytes word bays parts offset-of length-of part table-bytes term-bytes outside cause-1 opens edition-of cause-2 pairs-test table-length-test cause-3 exp-of leaf-exp leaf-forms two-exp two-forms nesting one-term of-edition forms-below read read-term form-of forms value-of tabulate each-below sum-below uses nodes test-entry entry-test entry-stands entries-test same-entry new-to distinct-test entry-is table-test on-function on-once-function on-cell is-many scoped-const scoped annotated-const annotated const-number on-number result-number applied-number lambda-number both-number case-number with-components type-number outside-many linear-variable linear every verdict starting-image renewed outcome-of out-after-step step-reply outcome-of-reply out-after-reply config-of decode components image-of encode terms-stand image-stands kind-test companion-test length-test head-agrees head-stands stand-from heads-stand names kind-at companion-at offset-in length-at expression-at encoded-at encoded-all head heads expressions image-bytes bytes const-bytes op-tag both-tag case-tag little-endian loaded bay-types with-type reply-of sum-in sum-all expression-test is-settled is-awaited handle-for component-test each-test limits-test image-test beside within place when-done step-call step-exchange step-meeting step-place step-redex step-case step-subject step-of substitute plug run-of lambdas identities steps loaded-of load-refusal out-after-load term-of function-at new-types coming result-type future-and-handle type-at read-deep read-at read-entry one-part two-parts
 cases = record {
   table = refl;
   recipes = λ n h. ap (λ m. num-at (two-bytes n) (two-bytes m)) (number-of-bytes n);

@@ -4,3 +4,9 @@
 pub mod Cases
 -- document 02, T-02, sentence by sentence
 pub mod CellContents
+-- document 02, T-03: rows of pairs and lists
+pub mod Pairs
+-- document 02, T-03: steps of images with the new forms
+pub mod PairSteps
+-- document 02, T-03, sentence by sentence
+pub mod PairsAndLists

@@ -8,18 +8,20 @@ use Prim.Native.Nat.{_*_, _+_, _<_, _≤_, suc, ℕ}
 use lib.Dec.{eqb, ltb}
 use lib.ListN.{length}
 use Rattle.calculus.specs.Names.{count}
-use Rattle.calculus.specs.Syntax.{Const, unit, num, op, Exp, var, name, const, lam, app, Value, Component, thread-of, holds, open-for, used, awaited, Config, at, Allowed, In, sum-in, sum-all}
+use Rattle.calculus.specs.Syntax.{Const, unit, num, op, Shape, Exp, var, name, const, lam, app, both, case-of, Value, Component, thread-of, holds, open-for, used, awaited, Config, at, Allowed, In, sum-in, sum-all}
 use Rattle.calculus.specs.Step.{Place, place, on-place}
 use Rattle.calculus.specs.Bytes.{two-byte-values}
 use Rattle.calculus.specs.Limits.{max-names, max-nodes, byte-values, first-head, head-length}
 
--- document 01, "variables are bound inside them": every variable of e is bound in e, or by one of `depth` lambdas around it
+-- document 01, "variables are bound inside them": every variable of e is bound in e, or is one of `depth` variables around it
 pub data Closed : ℕ → Exp → Type 0 where
   closed-var : {depth i : ℕ} → i < depth → Closed depth (var i)
   closed-name : {depth k : ℕ} → Closed depth (name k)
   closed-const : {depth : ℕ} {c : Const} → Closed depth (const c)
   closed-lam : {depth t : ℕ} {e : Exp} → Closed (suc depth) e → Closed depth (lam t e)
   closed-app : {depth : ℕ} {f a : Exp} → Closed depth f → Closed depth a → Closed depth (app f a)
+  closed-both : {depth : ℕ} {s : Shape} {t : ℕ} {e₁ e₂ : Exp} → Closed depth e₁ → Closed depth e₂ → Closed depth (both s t e₁ e₂)
+  closed-case : {depth : ℕ} {s : Shape} {e₁ e₂ : Exp} → Closed depth e₁ → Closed (suc (suc depth)) e₂ → Closed depth (case-of s e₁ e₂)
 
 -- document 01, "every node of every expression counted"
 unfoldable pub nodes : Exp → ℕ
@@ -28,8 +30,10 @@ nodes (name k) = 1
 nodes (const c) = 1
 nodes (lam t e) = suc (nodes e)
 nodes (app f a) = suc (nodes f + nodes a)
+nodes (both s t e₁ e₂) = suc (nodes e₁ + nodes e₂)
+nodes (case-of s e₁ e₂) = suc (nodes e₁ + nodes e₂)
 
--- document 01, the table of node forms: how many bytes an expression takes, the tag and what is after it
+-- document 01, the table of node forms, and T-03: how many bytes an expression takes, the tag and what is after it
 unfoldable pub const-size : Const → ℕ
 const-size unit = 1
 const-size (num n) = 3
@@ -41,6 +45,8 @@ size (name k) = 2
 size (const c) = const-size c
 size (lam t e) = 2 + size e
 size (app f a) = suc (size f + size a)
+size (both s t e₁ e₂) = 2 + (size e₁ + size e₂)
+size (case-of s e₁ e₂) = suc (size e₁ + size e₂)
 
 abbrev pub nodes-all : Config → ℕ
 nodes-all C = sum-all (sum-in nodes) C
@@ -77,10 +83,12 @@ expression-test m depth (name k) = ltb k m
 expression-test m depth (const c) = true
 expression-test m depth (lam t e) = expression-test m (suc depth) e
 expression-test m depth (app f a) = expression-test m depth f && expression-test m depth a
+expression-test m depth (both s t e₁ e₂) = expression-test m depth e₁ && expression-test m depth e₂
+expression-test m depth (case-of s e₁ e₂) = expression-test m depth e₁ && expression-test m (suc (suc depth)) e₂
 
 -- "Cells hold values"
 unfoldable pub is-settled : Place → Bool
-is-settled p = on-place p true false λ F f w v. false
+is-settled p = on-place p true false λ F r d. false
 
 -- "each open handle's companion is of kind 5"
 unfoldable pub is-awaited : Option Component → Bool

@@ -1,4 +1,4 @@
--- Document 01's kinds: of type entries, and of the names of an image.
+-- The kinds of type entries, document 01's and T-03's, and of the names of an image.
 use Prim.Native.Nat.{ℕ}
 
 -- "Kinds: 0 unit, 1 num, 2 cell of p, 3 function from p to q usable once, 4 function from p to q usable many times"
@@ -16,6 +16,19 @@ once-type-kind = 3
 
 abbrev pub many-type-kind : ℕ
 many-type-kind = 4
+
+-- T-03: "5 pair once, 6 pair many, 7 list once, 8 list many"
+abbrev pub once-pair-kind : ℕ
+once-pair-kind = 5
+
+abbrev pub many-pair-kind : ℕ
+many-pair-kind = 6
+
+abbrev pub once-list-kind : ℕ
+once-list-kind = 7
+
+abbrev pub many-list-kind : ℕ
+many-list-kind = 8
 
 -- "Entries 0, 1, 2 are unit, num, cell of num": their numbers
 abbrev pub unit-entry : ℕ

@@ -5,8 +5,8 @@ use mathlib.Core.List.{List, [], _∷_}
 use Prim.Native.Nat.{ℕ}
 use lib.Dec.{eqb}
 use Rattle.calculus.specs.Kinds.{cell-type-kind, once-type-kind, unit-entry}
-use Rattle.calculus.specs.Table.{Table}
-use Rattle.calculus.specs.Verdict.{cell-parts, exch-parts, handle-parts, is-function-kind, is-many, on-function, on-once-function, thread-parts}
+use Rattle.calculus.specs.Table.{is-many, Table}
+use Rattle.calculus.specs.Verdict.{cell-parts, exch-parts, handle-parts, is-function-kind, on-function, on-once-function, thread-parts}
 use Rattle.recipe_table.specs.declared.Entry.{Entry}
 use Rattle.recipe_table.specs.Filled.{as-entry}
 use Rattle.check_types.specs.Entries.{entry-of}

@@ -6,3 +6,5 @@ mod Tests
 mod Instances
 -- a leaf by its tag
 pub mod Leaves
+-- a pair or list front by its entry
+pub mod Fronts

@@ -1,14 +1,17 @@
-// Document 01, cause 8: the types that lambdas and constants are annotated with.
+// Document 01, cause 8, and T-03: the types that lambdas, constants, pairs and list fronts are annotated with.
 use numbers::Type;
 use recipe_table::Entry;
 use term::Node;
 ghost use mathlib.Core.Path.{_≡_};
+ghost use mathlib.Core.Bool.{false, true};
 ghost use Prim.Native.Nat.{_<_, _≤_};
 ghost use Rattle.calculus.specs.Limits.{byte-values};
-ghost use Rattle.calculus.specs.Verdict.{annotated, cell-parts, exch-parts, handle-parts, thread-parts};
+ghost use Rattle.calculus.specs.Syntax.{at};
+ghost use Rattle.calculus.specs.Verdict.{annotated, cell-parts, exch-parts, handle-parts, thread-parts, with-components};
 ghost use Rattle.term.specs.Forms.{cell-tag, handle-tag};
 ghost use Rattle.term.specs.Expressions.{leaf-exp};
 ghost use Rattle.recipe_table.specs.Entries.{table-of};
+ghost use Rattle.check_types.specs.Two.{shape-of};
 ghost use Rattle.check_annotations.specs.Nodes.{handle-of, maps};
 
 // An entry is a function from p to q.
@@ -112,4 +115,13 @@ pub fn constant_annotated(table: &[u8], tag: u8, arg: usize) -> bool
         return is_thread_type(table, whole);
     }
     is_handle_type(table, whole)
+}
+
+// T-03: the type of node 10 is a pair, that of node 11 a list.
+pub fn both_annotated(table: &[u8], tag: u8, arg: usize) -> bool
+    requires { ⌜ arg < byte-values ⌝ }
+    ensures { λ r. ⌜ r ≡ with-components false (shape-of tag) arg (at (table-of (now (table .entry))) arg) (λ p q. true) ⌝ }
+{
+    let entry = check_types::entry_at(table, arg);
+    check_types::is_kind_of(tag, entry.kind)
 }

@@ -10,7 +10,8 @@ use lib.Dec.{eqb, ltb}
 use lib.ListN.{replicate, set}
 use Rattle.calculus.specs.Lists.{each-below, tabulate}
 use Rattle.calculus.specs.Limits.{max-bays}
-use Rattle.calculus.specs.Verdict.{is-many, on-number}
+use Rattle.calculus.specs.Table.{is-many}
+use Rattle.calculus.specs.Verdict.{on-number}
 use Rattle.calculus.specs.Theory.Tests.{clash, eqb-complete, eqb-sound, ltb-complete, ltb-not, ltb-sound, ltb-false}
 use Rattle.calculus.specs.Theory.Tabulate.{set-tabulate, tabulate-same}
 use Rattle.recipe_file.specs.File.{bays, term-bytes}

@@ -5,7 +5,8 @@ use mathlib.Core.Option.{Option}
 use mathlib.Core.List.{List, []}
 use Prim.Native.Nat.{ℕ}
 use Rattle.calculus.specs.Lists.{each-below}
-use Rattle.calculus.specs.Verdict.{is-many, linear, on-number, type-number}
+use Rattle.calculus.specs.Table.{is-many}
+use Rattle.calculus.specs.Verdict.{linear, on-number, type-number}
 use Rattle.recipe_file.specs.File.{bays}
 use Rattle.recipe_table.specs.Entries.{type-table}
 use Rattle.check_spec.specs.Bays.{bay-term}
@@ -26,7 +27,7 @@ has-many s bay = on-number (bay-number s bay) (is-many (type-table s))
 
 -- cause 10 does not fit a bay's term
 unfoldable pub bay-linear : List ℕ → ℕ → Bool
-bay-linear s bay = linear (type-table s) (bay-term s bay)
+bay-linear s bay = linear (type-table s) [] (bay-term s bay)
 
 -- the answer about all bays; where one has no type, nothing is said of the rest
 pub record Numbered (s : List ℕ) (r : BayTypes) : Type 0 where

@@ -1,4 +1,4 @@
--- The marks as a walk has them: in an array, that of the outermost lambda first, beside the number of lambdas above. The lambda of variable i has the
+-- The marks as a walk has them: in an array, that of the outermost variable first, beside the number of variables in scope, `above`. Variable i has the
 -- level above - 1 - i there.
 use mathlib.Core.Path.{_≡_}
 use mathlib.Core.Bool.{Bool, cond, false, true}
@@ -12,7 +12,7 @@ use Rattle.calculus.specs.Syntax.{Exp}
 use Rattle.calculus.specs.Table.{Table}
 use Rattle.check_linearity.specs.Spend.{Marks, many-mark, spend}
 
--- the marks of the lambdas above, innermost first: the first `above` elements, the last of them first
+-- the marks of the variables in scope, innermost first: the first `above` elements, the last of them first
 unfoldable pub marks-of : ℕ → List ℕ → Marks
 marks-of zero a = []
 marks-of (suc above) a = getD a above many-mark ∷ marks-of above a
@@ -26,6 +26,6 @@ unfoldable pub marks-left : Bool → Marks → Option Marks
 marks-left false M = none
 marks-left true M = some M
 
--- a walk over e, from the array a to the array a′
-pub record LinearWalk (T : Table) (floor above : ℕ) (a : List ℕ) (e : Exp) (keeps : Bool) (a′ : List ℕ) : Type 0 where
-  pub holds : spend T (above - floor) (marks-of above a) e ≡ marks-left keeps (marks-of above a′)
+-- a walk over e, from the array a to the array a′, where Δ has the numbers of the variables' types
+pub record LinearWalk (T : Table) (Δ : List ℕ) (floor above : ℕ) (a : List ℕ) (e : Exp) (keeps : Bool) (a′ : List ℕ) : Type 0 where
+  pub holds : spend T Δ (above - floor) (marks-of above a) e ≡ marks-left keeps (marks-of above a′)

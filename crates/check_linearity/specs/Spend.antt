@@ -6,10 +6,11 @@ use mathlib.Core.List.{List, [], _∷_}
 use Prim.Native.Nat.{suc, ℕ}
 use lib.Dec.{eqb, ltb}
 use lib.ListN.{getD, set}
+use Rattle.calculus.specs.Options.{on-some}
 use Rattle.calculus.specs.Kinds.{once-type-kind}
-use Rattle.calculus.specs.Syntax.{Exp, var, name, const, lam, app, at}
-use Rattle.calculus.specs.Table.{Entry, Table}
-use Rattle.calculus.specs.Verdict.{is-function-kind, is-many}
+use Rattle.calculus.specs.Syntax.{Shape, Exp, var, name, const, lam, app, both, case-of, at}
+use Rattle.calculus.specs.Table.{Entry, Table, is-many}
+use Rattle.calculus.specs.Verdict.{is-function-kind, with-components, type-number}
 
 -- the marks of the variables in scope, innermost first
 abbrev pub Marks : Type 0
@@ -40,30 +41,37 @@ reach-under kind reach = cond (eqb kind once-type-kind) (suc reach) 1
 unfoldable pub spend-variable : ℕ → Marks → ℕ → ℕ → Option Marks
 spend-variable reach M i mark = cond (eqb mark many-mark) (some M) (cond (eqb mark due-mark && ltb i reach) (some (set M i spent-mark)) none)
 
--- the argument meets the marks that the function leaves
+-- of two subterms the second meets the marks that the first leaves
 unfoldable pub spend-next : Option Marks → (Marks → Option Marks) → Option Marks
 spend-next none next = none
 spend-next (some M) next = next M
 
--- a lambda's own variable goes; a once-variable must have been used
+-- the innermost variable goes; a once-variable must have been used
 unfoldable pub leave : Option Marks → Option Marks
 leave none = none
 leave (some []) = none
 leave (some (mark ∷ M)) = cond (eqb mark due-mark) none (some M)
 
--- a lambda with this entry and body
-unfoldable pub spend-lambda : Table → ℕ → Marks → Option Entry → (ℕ → Marks → Option Marks) → Option Marks
+-- a lambda with this entry, by what its body leaves, where its parameter's type has a number
+unfoldable pub spend-lambda : Table → ℕ → Marks → Option Entry → (ℕ → ℕ → Marks → Option Marks) → Option Marks
 spend-lambda T reach M none body = none
 spend-lambda T reach M (some x) body =
-    cond (is-function-kind (x .kind)) (leave (body (reach-under (x .kind) reach) (new-mark T (x .p) ∷ M))) none
+    cond (is-function-kind (x .kind)) (leave (body (x .p) (reach-under (x .kind) reach) (new-mark T (x .p) ∷ M))) none
 
--- what e leaves of the marks M; none where it breaks the rule
-unfoldable pub spend : Table → ℕ → Marks → Exp → Option Marks
-spend T reach M (var i) = spend-variable reach M i (getD M i many-mark)
-spend T reach M (name k) = some M
-spend T reach M (const c) = some M
-spend T reach M (lam t e) = spend-lambda T reach M (at T t) (λ reach M. spend T reach M e)
-spend T reach M (app f a) = spend-next (spend T reach M f) (λ M. spend T reach M a)
+-- T-03, "the body having two more variables, index 0 the second component": a case whose subject's type has this number, by what its body leaves
+unfoldable pub spend-case : Shape → Table → Marks → Option ℕ → (ℕ → ℕ → Marks → Option Marks) → Option Marks
+spend-case s T M subject body = on-some subject λ n. with-components none s n (at T n) λ p q. leave (leave (body p q (new-mark T q ∷ new-mark T p ∷ M)))
+
+-- cause 10: what e leaves of the marks M, where Δ has the numbers of the variables' types; none where it breaks the rule. A case hides no variable.
+unfoldable pub spend : Table → List ℕ → ℕ → Marks → Exp → Option Marks
+spend T Δ reach M (var i) = spend-variable reach M i (getD M i many-mark)
+spend T Δ reach M (name k) = some M
+spend T Δ reach M (const c) = some M
+spend T Δ reach M (lam t e) = spend-lambda T reach M (at T t) (λ p reach M. spend T (p ∷ Δ) reach M e)
+spend T Δ reach M (app f a) = spend-next (spend T Δ reach M f) (λ M. spend T Δ reach M a)
+spend T Δ reach M (both s t e₁ e₂) = spend-next (spend T Δ reach M e₁) (λ M. spend T Δ reach M e₂)
+spend T Δ reach M (case-of s e₁ e₂) =
+    spend-next (spend T Δ reach M e₁) λ M. spend-case s T M (type-number T Δ e₁) λ p q M. spend T (q ∷ p ∷ Δ) (suc (suc reach)) M e₂
 
 -- a term left marks
 unfoldable pub left-over : Option Marks → Bool
@@ -72,4 +80,4 @@ left-over (some M) = true
 
 -- cause 10 does not fit a whole term
 unfoldable pub spends : Table → Exp → Bool
-spends T e = left-over (spend T 0 [] e)
+spends T e = left-over (spend T [] 0 [] e)

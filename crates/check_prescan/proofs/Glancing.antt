@@ -17,7 +17,7 @@ use Rattle.term.specs.declared.Node.{Node}
 use Rattle.term.specs.Forms.{tags}
 use Rattle.term.specs.Tree.{forms-below, HasForm, Tree, tree-nodes}
 use Rattle.term.specs.Reader.{first-tree, Got, got, GoodAt, node-at, none, of-edition, read-term, tree-at}
-use Rattle.term.specs.Expressions.{exp-of, leaf-exp, leaf-forms, term-at, term-of, two-exp}
+use Rattle.term.specs.Expressions.{exp-of, leaf-exp, leaf-forms, term-at, term-of, two-exp, two-forms}
 use Rattle.term.proofs.Fronts.{is-good, is-tree}
 use Rattle.term.proofs.Reading.{shaped-term}
 use Rattle.term.proofs.Shapes.{all-forms, leaf-tag, one-tag, two-tag}
@@ -35,13 +35,14 @@ use Rattle.term_scan.proofs.Answers.{part-is, part-over, part-refused, scan-sta
 use Rattle.term_scan.proofs.Editions.{forms-of, tagging}
 use Rattle.term_scan.proofs.Nesting.{levels, nesting-of}
 use Rattle.term_scan.proofs.Scopes.{scope-of, scoping}
+use Rattle.check_types.specs.Two.{is-both-tag, is-list-tag, shape-of}
 use Rattle.check_prescan.specs.Stands.{around-of, ended, exactly, glance, level-of, next-node, node-annotated, node-stands, stands}
 
 -- Annotations, by the number of subterms
 
 module _ (T : Table) where
   leaf-annotated : (d arg tag : ℕ) → HasForm tag 0 → annotated T (leaf-exp tag arg) ≡ node-annotated T tag arg
-  unfolding node-annotated
+  unfolding node-annotated is-both-tag
   leaf-annotated d arg = leaf-tag (λ tag. annotated T (leaf-exp tag arg) ≡ node-annotated T tag arg) refl refl refl refl refl refl refl refl
 
   one-annotated : (arg : ℕ) (e : Exp) (tag : ℕ) → HasForm tag 1 → annotated T (lam arg e) ≡ (node-annotated T tag arg && annotated T e)
@@ -49,8 +50,8 @@ module _ (T : Table) where
   one-annotated arg e = one-tag (λ tag. annotated T (lam arg e) ≡ (node-annotated T tag arg && annotated T e)) refl
 
   two-annotated : (arg : ℕ) (e f : Exp) (tag : ℕ) → HasForm tag 2 → annotated T (two-exp tag arg e f) ≡ (node-annotated T tag arg && (annotated T e && annotated T f))
-  unfolding node-annotated annotated annotated-const leaf-exp leaf-forms two-exp
-  two-annotated arg e f = two-tag (λ tag. annotated T (two-exp tag arg e f) ≡ (node-annotated T tag arg && (annotated T e && annotated T f))) refl
+  unfolding node-annotated is-both-tag is-list-tag shape-of annotated annotated-const leaf-exp leaf-forms two-exp two-forms
+  two-annotated arg e f = two-tag (λ tag. annotated T (two-exp tag arg e f) ≡ (node-annotated T tag arg && (annotated T e && annotated T f))) refl refl refl refl refl
 
   -- the walk that asks them; its frames say nothing
   abbrev annotating : Walk Bool

@@ -1,13 +1,13 @@
 -- A part to which none of causes 5 to 8 fits, apart from the number of nodes in all.
-use mathlib.Core.Bool.{Bool, _&&_, cond, true}
+use mathlib.Core.Bool.{Bool, _&&_, cond, false, true}
 use mathlib.Core.List.{List, [], _∷_}
 use Prim.Native.Nat.{_%_, _/_, ℕ}
 use lib.Dec.{eqb, leb, ltb}
 use lib.ListN.{length}
 use Rattle.calculus.specs.Limits.{byte-values, max-nesting}
-use Rattle.calculus.specs.Syntax.{Exp}
+use Rattle.calculus.specs.Syntax.{at, Exp}
 use Rattle.calculus.specs.Table.{Table}
-use Rattle.calculus.specs.Verdict.{annotated, on-function, scoped}
+use Rattle.calculus.specs.Verdict.{annotated, on-function, scoped, with-components}
 use Rattle.term.specs.declared.Front.{Front}
 use Rattle.term.specs.declared.Front.the-variants.{Bad, Is}
 use Rattle.term.specs.declared.Node.{Node}
@@ -18,6 +18,7 @@ use Rattle.term.specs.Expressions.{exp-of, leaf-exp, nesting}
 use Rattle.term_scan.specs.declared.Part.{Part}
 use Rattle.term_scan.specs.declared.Part.the-variants.{Nodes, NoTerm}
 use Rattle.term_scan.specs.Scopes.{operand-scoped}
+use Rattle.check_types.specs.Two.{is-both-tag, shape-of}
 
 -- causes 6 to 8 do not fit a term
 unfoldable pub stands : Table → ℕ → Exp → Bool
@@ -42,9 +43,11 @@ level-of frame = frame / byte-values
 abbrev pub around-of : ℕ → ℕ
 around-of frame = frame % byte-values
 
--- cause 8 does not fit a node, its subterms apart: a lambda's type is a function, a constant's an instance of Fig. 8
+-- cause 8 does not fit a node, its subterms apart: a lambda's type is a function, a constant's an instance of Fig. 8; T-03: node 10's a pair, node 11's a list
 unfoldable pub node-annotated : Table → ℕ → ℕ → Bool
-node-annotated T tag arg = cond (eqb tag lambda-tag) (on-function T arg (λ p q. true)) (annotated T (leaf-exp tag arg))
+node-annotated T tag arg =
+    cond (eqb tag lambda-tag) (on-function T arg (λ p q. true))
+    (cond (is-both-tag tag) (with-components false (shape-of tag) arg (at T arg) (λ p q. true)) (annotated T (leaf-exp tag arg)))
 
 -- nor do causes 6 and 7, and the edition has its form
 unfoldable pub node-stands : ℕ → Table → ℕ → ℕ → Node → Bool

@@ -33,7 +33,10 @@ fn type_stands(table: &[u8], tag: u8, arg: usize) -> bool
         let entry = check_types::entry_at(table, arg);
         return check_types::is_function(entry.kind);
     }
-    check_annotations::constant_annotated(table, tag, arg)
+    if tag <= Node::HANDLE {
+        return check_annotations::constant_annotated(table, tag, arg);
+    }
+    check_annotations::both_annotated(table, tag, arg)
 }
 
 // Causes 6 to 8 of a node with this frame, its subterms apart, and whether the edition has its form.

@@ -10,7 +10,8 @@ use Rattle.calculus.specs.Lowest.{Cause, cause, first-cause}
 use Rattle.calculus.specs.Causes.{type-cause, linearity-cause, bay-once-cause}
 use Rattle.calculus.specs.Lists.{each-below}
 use Rattle.calculus.specs.Table.{TableRule}
-use Rattle.calculus.specs.Verdict.{annotated, is-many, linear, on-number, scoped, type-number, type-causes}
+use Rattle.calculus.specs.Table.{is-many}
+use Rattle.calculus.specs.Verdict.{annotated, linear, on-number, scoped, type-number, type-causes}
 use Rattle.calculus.specs.Theory.Tests.{eqb-differ}
 use Rattle.calculus.specs.Theory.Tabulate.{every-tabulate, length-tabulate}
 use Rattle.recipe_file.specs.File.{bays}
@@ -53,7 +54,7 @@ module _ (s : List ℕ) where
         every-tabulate (scoped (length T) n 0) n f,
         every-tabulate (annotated T) n f,
         every-tabulate (λ e. on-number (type-number T [] e) (λ k. true)) n f,
-        every-tabulate (linear T) n f,
+        every-tabulate (linear T []) n f,
         every-tabulate (λ e. on-number (type-number T [] e) (is-many T)) n f,
       ) refl
 

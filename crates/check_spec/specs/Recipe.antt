@@ -24,7 +24,7 @@ unfoldable pub entry-bytes : Table → List ℕ
 entry-bytes [] = []
 entry-bytes (x ∷ T) = x .kind ∷ x .p ∷ x .q ∷ entry-bytes T
 
--- the paper: a bay's term has a derivation by Figs. 8 and 9, with document 01's handle type, under a many type
+-- the paper: a bay's term has a derivation by Figs. 8, 9 and 10, with document 01's handle type, under a many type
 abbrev pub Derived : Table → ℕ → Exp → Type 0
 Derived T b e = (α : LinType) × Derivation (type-at T) (setting-types b) [] e α × (multiplicity α ≡ many)
 

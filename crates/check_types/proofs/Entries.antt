@@ -1,6 +1,6 @@
 -- The entry that a type number names, in the bytes of a table; tests that fail on an unused entry need not ask whether there is one.
-use mathlib.Core.Path.{_≡_, refl, sym}
-use mathlib.Core.Bool.{Bool, _&&_, false, not}
+use mathlib.Core.Path.{_≡_, ap, refl, sym, _∙_}
+use mathlib.Core.Bool.{Bool, _&&_, false, false≢true, not, true}
 use mathlib.Core.Option.{Option, none, some}
 use mathlib.Core.List.{List, [], _∷_}
 use Prim.Native.Nat.{_*_, _+_, _<_, _≤_, suc, zero, ℕ}
@@ -9,9 +9,9 @@ use lib.Dec.{eqb}
 use lib.ListN.{getD, length}
 use Rattle.recipe_file.specs.File.{entry-length}
 use Rattle.calculus.specs.Kinds.{cell-type-kind, once-type-kind}
-use Rattle.calculus.specs.Syntax.{at}
+use Rattle.calculus.specs.Syntax.{Shape, pair, list, at}
 use Rattle.calculus.specs.Table as calculus
-use Rattle.calculus.specs.Verdict.{is-function-kind, is-many, lambda-number, on-cell, on-function, on-once-function, result-number}
+use Rattle.calculus.specs.Verdict.{is-function-kind, lambda-number, on-cell, on-function, on-once-function, result-number, with-components}
 use Rattle.recipe_table.specs.declared.Entry.{Entry}
 use Rattle.recipe_table.specs.Entries.{table-of}
 use Rattle.recipe_table.specs.Filled.{as-entry, unused}
@@ -37,6 +37,15 @@ module _ (T : calculus.Table) (t : ℕ) where
   unfolding on-cell entry-of
   on-cell-is test = known-test (at T t) (λ kind p q. eqb kind cell-type-kind && test p) refl
 
+-- an entry of a kind that no unused one has is there
+pub entry-there : (T : calculus.Table) (t : ℕ) (x : calculus.Entry) (test : ℕ → Bool) → test 0 ≡ false → x ≡ entry-of T t → test (x .kind) ≡ true → at T t ≡ some x
+unfolding entry-of known-entry
+entry-there T t x test fails e f = go (at T t) e
+  where
+    go : (o : Option calculus.Entry) → x ≡ known-entry o → o ≡ some x
+    go none e = absurd (false≢true (sym fails ∙ ap (λ (y : calculus.Entry). test (y .kind)) (sym e) ∙ f))
+    go (some y) e = ap some (sym e)
+
 pub lambda-is : (o : Option calculus.Entry) (t : ℕ) (body : ℕ → Option ℕ) → lambda-number t o body ≡ lambda-number t (some (known-entry o)) body
 unfolding lambda-number known-entry
 lambda-is none t body = refl
@@ -46,6 +55,13 @@ pub result-is : (o : Option calculus.Entry) (a : ℕ) → result-number o a ≡ 
 unfolding result-number known-entry
 result-is none a = refl
 result-is (some x) a = refl
+
+pub components-is : {A : Type 0} (otherwise : A) (s : Shape) (o : Option calculus.Entry) (t : ℕ) (follows : ℕ → ℕ → A) →
+    with-components otherwise s t o follows ≡ with-components otherwise s t (some (known-entry o)) follows
+unfolding with-components known-entry
+components-is otherwise pair none t follows = refl
+components-is otherwise list none t follows = refl
+components-is otherwise s (some x) t follows = refl
 
 -- the entry in the bytes of a table
 pub at-bytes : (l : List ℕ) (t j : ℕ) → j ≡ entry-length * t → j + 2 < length l →
@@ -78,10 +94,10 @@ module _ (l : List ℕ) (t : ℕ) where
   unfolding entry-of known-entry
   bytes-missing h = rw (past-bytes l t (entry-length * t) refl h)
 
-  pub bytes-many : entry-length * t + 2 < length l → not (eqb (getD l (entry-length * t) 0) once-type-kind) ≡ is-many (table-of l) t
-  unfolding is-many calculus.test-entry
+  pub bytes-many : entry-length * t + 2 < length l → not (calculus.is-once-kind (entry-of (table-of l) t .kind)) ≡ calculus.is-many (table-of l) t
+  unfolding calculus.is-many calculus.test-entry entry-of known-entry
   bytes-many h = rw (at-bytes l t (entry-length * t) refl h)
 
-  pub bytes-none : length l ≤ entry-length * t + 2 → false ≡ is-many (table-of l) t
-  unfolding is-many calculus.test-entry
+  pub bytes-none : length l ≤ entry-length * t + 2 → false ≡ calculus.is-many (table-of l) t
+  unfolding calculus.is-many calculus.test-entry
   bytes-none h = rw (past-bytes l t (entry-length * t) refl h)

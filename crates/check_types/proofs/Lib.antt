@@ -6,5 +6,7 @@ pub mod Environments
 pub mod Entries
 -- terms with no subterm
 mod Leaves
+-- nodes with two subterms, form by form
+pub mod TwoNodes
 -- the type of a term from those of its subterms
 pub mod Walks

@@ -1,21 +1,24 @@
 -- The type of a term from those of its subterms.
 use mathlib.Core.Path.{_≡_, ap, refl, subst, sym}
-use mathlib.Core.Bool.{and-false}
+use mathlib.Core.Bool.{and-false, false, true}
 use mathlib.Core.Option.{Option, none, some}
 use mathlib.Core.List.{List, _∷_}
 use Prim.Native.Nat.{_+_, ℕ}
 use Rattle.calculus.specs.Syntax.{at as entry-at}
 use Rattle.calculus.specs.Table.{Entry, Table}
-use Rattle.calculus.specs.Verdict.{applied-number, lambda-number, on-number, result-number, type-number}
+use Rattle.calculus.specs.Options.{on-some}
+use Rattle.calculus.specs.Verdict.{lambda-number, on-number, type-number}
 use Rattle.calculus.specs.Theory.Tests.{clash}
 use Rattle.term.specs.declared.Node.{Node}
 use Rattle.term.specs.Reader.{end-at}
 use Rattle.term.specs.Expressions.{leaf-exp, term-at}
-use Rattle.term.proofs.Views.{AppAt, LeafAt, OneAt, past-first}
+use Rattle.term.proofs.Views.{LeafAt, OneAt, past-first, TwoAt}
 use Rattle.check_types.specs.declared.Typed.the-variants.{Has, Nothing}
 use Rattle.check_types.specs.Entries.{entry-of}
+use Rattle.check_types.specs.Two.{can-open, deciding, scope-inside, second-component, two-number}
 use Rattle.check_types.specs.Walk.{HasNumber, typed-at, typed}
-use Rattle.check_types.proofs.Entries.{lambda-is, result-is}
+use Rattle.check_types.proofs.Entries.{lambda-is}
+use Rattle.check_types.proofs.TwoNodes.{no-first, not-open, two-is, TwoNode}
 
 record Found (o : Option ℕ) (n end end′ : ℕ) : Type 0 where
   pub number : o ≡ some n
@@ -64,39 +67,54 @@ module _ (T : Table) (Δ l : List ℕ) (at : ℕ) (h : Node) where
         let f = found (body (entry-of T (h .arg) .p)) b (end-at l (at + h .size)) end e in
         rw (lambda, body-is (entry-of T (h .arg)) (h .arg) b body (f .number), o .ends, f .ends) refl
 
-  module _ (o : AppAt l at h) where
-    abbrev function : Option ℕ
-    function = type-number T Δ (term-at l (at + h .size))
-
-    abbrev argument : Option ℕ
-    argument = type-number T Δ (term-at l (past-first l at h))
-
-    application : type-number T Δ (term-at l at) ≡ applied-number T function argument
-    unfolding type-number
-    application = rw (o .term) refl
+  -- a node with two subterms
+  module _ (o : TwoAt l at h) (k : TwoNode (h .tag) (h .binders)) where
+    abbrev first-number : Option ℕ
+    first-number = type-number T Δ (term-at l (at + h .size))
 
     pub two-nothing : Nothing ≡ typed-at T Δ l (at + h .size) → Nothing ≡ typed-at T Δ l at
-    unfolding typed-at typed applied-number
-    two-nothing e = rw (application, missing function (past-first l at h) e) refl
+    unfolding typed-at typed
+    two-nothing e = rw (o .term, no-first T Δ (h .arg) _ (term-at l (past-first l at h)) k (missing first-number (past-first l at h) e)) refl
 
-    module _ (f second : ℕ) (first : Has f second ≡ typed-at T Δ l (at + h .size)) where
-      first-found : Found function f (past-first l at h) second
+    module _ (n second : ℕ) (first : Has n second ≡ typed-at T Δ l (at + h .size)) where
+      first-found : Found first-number n (past-first l at h) second
       unfolding typed-at
-      first-found = found function f (past-first l at h) second first
+      first-found = found first-number n (past-first l at h) second first
+
+      pub first-number-is : first-number ≡ some n
+      first-number-is = first-found .number
 
       -- the second subterm begins where the first ends
       pub second-at : past-first l at h ≡ second
       second-at = first-found .ends
 
-      pub two-nothing-second : Nothing ≡ typed-at T Δ l second → Nothing ≡ typed-at T Δ l at
-      unfolding typed-at typed applied-number
-      two-nothing-second e =
-          let e′ : Nothing ≡ typed-at T Δ l (past-first l at h) = subst (λ x. Nothing ≡ typed-at T Δ l x) (sym second-at) e in
-          rw (application, first-found .number, missing argument (end-at l (past-first l at h)) e′) refl
+      -- t has the entry that decides
+      module _ (t : ℕ) (is-t : t ≡ deciding (h .tag) (h .arg) n) (x : Entry) (is : x ≡ entry-of T t) where
+        -- a case's subject is of another kind
+        pub two-closed : can-open (h .tag) (x .kind) ≡ false → Nothing ≡ typed-at T Δ l at
+        unfolding typed-at typed
+        two-closed c = rw (o .term, not-open T Δ (h .arg) _ (term-at l (past-first l at h)) n (first-found .number) k (rw (is, is-t) at c)) refl
 
-      pub two-type : (a end : ℕ) → Has a end ≡ typed-at T Δ l second → typed (result-number (some (entry-of T f)) a) end ≡ typed-at T Δ l at
-      unfolding typed-at applied-number entry-of
-      two-type a end e =
-          let e′ : Has a end ≡ typed-at T Δ l (past-first l at h) = subst (λ x. Has a end ≡ typed-at T Δ l x) (sym second-at) e in
-          let g = found argument a (end-at l (past-first l at h)) end e′ in
-          rw (application, first-found .number, g .number, result-is (entry-at T f) a, o .two .ends, g .ends) refl
+        abbrev inside : List ℕ
+        inside = scope-inside (h .binders) (x .p) (second-component (h .tag) t (x .q)) Δ
+
+        abbrev second-number : Option ℕ
+        second-number = type-number T inside (term-at l (past-first l at h))
+
+        module _ (opens : can-open (h .tag) (x .kind) ≡ true) where
+          node-number : type-number T Δ (term-at l at) ≡ on-some second-number (two-number (h .tag) x t n)
+          node-number = rw (o .term, is, is-t)
+              (two-is T Δ (h .arg) (term-at l (at + h .size)) (term-at l (past-first l at h)) n (first-found .number) k (rw (is, is-t) at opens))
+
+          pub two-nothing-second : Nothing ≡ typed-at T inside l second → Nothing ≡ typed-at T Δ l at
+          unfolding typed-at typed
+          two-nothing-second e =
+              let e′ : Nothing ≡ typed-at T inside l (past-first l at h) = subst (λ y. Nothing ≡ typed-at T inside l y) (sym second-at) e in
+              rw (node-number, missing second-number (end-at l (past-first l at h)) e′) refl
+
+          pub two-type : (a end : ℕ) → Has a end ≡ typed-at T inside l second → typed (two-number (h .tag) x t n a) end ≡ typed-at T Δ l at
+          unfolding typed-at
+          two-type a end e =
+              let e′ : Has a end ≡ typed-at T inside l (past-first l at h) = subst (λ y. Has a end ≡ typed-at T inside l y) (sym second-at) e in
+              let g = found second-number a (end-at l (past-first l at h)) end e′ in
+              rw (node-number, g .number, o .ends, g .ends) refl

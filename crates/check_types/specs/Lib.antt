@@ -4,3 +4,5 @@
 pub mod Entries
 -- the type of the term at a position
 pub mod Walk
+-- nodes with two subterms
+pub mod Two

@@ -3,9 +3,9 @@ use mathlib.Core.Path.{_≡_}
 use mathlib.Core.Bool.{true}
 use mathlib.Core.Option.{Option, none, some}
 use mathlib.Core.List.{List, [], _∷_}
-use Prim.Native.Nat.{_+_, _≤_, suc, zero, ℕ}
+use Prim.Native.Nat.{_*_, _+_, _≤_, suc, zero, ℕ}
 use lib.ListN.{getD}
-use Rattle.calculus.specs.Limits.{max-entries, max-nesting}
+use Rattle.calculus.specs.Limits.{max-entries, max-variables}
 use Rattle.calculus.specs.Syntax.{Exp}
 use Rattle.calculus.specs.Table.{Table}
 use Rattle.calculus.specs.Verdict.{scoped, type-number}
@@ -14,7 +14,7 @@ use Rattle.term.specs.Expressions.{nesting, term-at}
 use Rattle.check_types.specs.declared.Typed.{Typed}
 use Rattle.check_types.specs.declared.Typed.the-variants.{Has, Nothing}
 
--- the numbers of the variables' types, innermost first, from an array that has those of the first `above` lambdas, outermost first
+-- the numbers of the types of the `above` variables in scope, innermost first, from an array that has them outermost first
 unfoldable pub environment : ℕ → List ℕ → List ℕ
 environment zero a = []
 environment (suc above) a = getD a above 0 ∷ environment above a
@@ -32,10 +32,10 @@ typed-at T Δ l at = typed (type-number T Δ (term-at l at)) (end-at l at)
 pub record HasNumber (Δ : List ℕ) (e : Exp) (n : ℕ) : Type 0 where
   pub number : (T : Table) → type-number T Δ e ≡ some n
 
--- an expression under `above` lambdas to which no cause below 8 fits; the table has `count` entries
+-- an expression with `above` variables in scope to which no cause below 8 fits; the table has `count` entries
 pub record ScopedExp (count above : ℕ) (e : Exp) : Type 0 where
   pub entries : count ≤ max-entries
-  pub nests : above + nesting e ≤ max-nesting
+  pub nests : above + 2 * nesting e ≤ max-variables
   pub names : ℕ
   pub scope : scoped count names above e ≡ true
 

@@ -1,11 +1,13 @@
-// The type walk: document 01's causes 9 and 10 on the bytes of a term. It carries the parameter types of the lambdas above and a mark for each, and is no
+// The type walk: document 01's causes 9 and 10 on the bytes of a term. It carries the types of the variables in scope and a mark for each, and is no
 // deeper than the limit of nesting.
 ghost use mathlib.Core.Path.{_≡_};
+ghost use Prim.Native.Nat.{_+_, _≤_};
+ghost use Rattle.calculus.specs.Limits.{max-variables};
 ghost use Rattle.check_linearity.specs.Spend.{new-mark};
 ghost use Rattle.check_linearity.specs.Levels.{floor-under};
 ghost use Rattle.recipe_table.specs.Entries.{table-of};
 ghost use Rattle.recipe_table.specs.Filled.{as-entry};
-ghost use Rattle.check_walk.specs.Walk.{application-answer, Decides, InScope, lambda-answer, LeafSpent, WalkReady, WalkedAt, Whole, with-uses};
+ghost use Rattle.check_walk.specs.Walk.{all-used, Decides, InScope, lambda-answer, LeafSpent, Opened, Room, two-answer, WalkReady, WalkedAt, Whole, with-uses};
 use check_types::Typed;
 use numbers::Recipe;
 use numbers::Type;
@@ -48,7 +50,7 @@ fn floor_under(kind: u8, floor: usize, above: usize) -> usize
 
 // Walks a node with no subterm: a once-variable that is used must be due and in reach.
 fn spend_leaf(
-    marks: &mut [u8; Recipe::MAX_NESTING],
+    marks: &mut [u8; Recipe::MAX_VARIABLES],
     tag: u8,
     arg: usize,
     above: usize,
@@ -98,24 +100,62 @@ fn close_lambda(entry: Entry, t: u8, body: Walked, mark: u8) -> Walked
     )
 }
 
-// The answer about an application whose function has a type with this entry and keeps the rule or not, from that about its argument.
-fn close_application(entry: Entry, first: bool, argument: Walked) -> Walked
-    ensures { λ r. ⌜ r ≡ application-answer (as-entry entry) first argument ⌝ }
+// Opens the scope of a node's second subterm, and answers how many variables are in scope there. A case's two variables, of types p and q, get their types
+// and marks, the first component's at the lower level.
+fn open_scope(
+    table: &[u8],
+    env: &mut [u8; Recipe::MAX_VARIABLES],
+    marks: &mut [u8; Recipe::MAX_VARIABLES],
+    binders: usize,
+    p: u8,
+    q: u8,
+    above: usize,
+) -> usize
+    requires { ⌜ Room binders above (now env) (now marks) ⌝ }
+    ensures { λ r. ⌜ Opened (table-of (now (table .entry))) binders p q above (now (env .entry)) (now (env .exit)) (now (marks .entry)) (now (marks .exit)) r ⌝ }
 {
-    let Walked::Has(number, end, kept) = argument else {
-        return Walked::Nothing;
-    };
-    with_uses(check_types::applied_type(entry, number, end), first & kept)
+    if binders == 0 {
+        return above;
+    }
+    env[above] = p;
+    env[above + 1] = q;
+    marks[above] = new_mark(table, p);
+    marks[above + 1] = new_mark(table, q);
+    above + binders
 }
 
-// Walks the term at a position, below `above` lambdas whose parameter types and marks stand outermost first. A once-variable of a level below `floor`
+// Neither of a case's two variables is still due.
+fn are_used(marks: &[u8; Recipe::MAX_VARIABLES], binders: usize, above: usize) -> bool
+    requires { ⌜ above + 2 ≤ max-variables ⌝ }
+    ensures { λ r. ⌜ r ≡ all-used binders (now (marks .entry)) above ⌝ }
+{
+    if binders == 0 {
+        return true;
+    }
+    marks[above] != DUE_MARK && marks[above + 1] != DUE_MARK
+}
+
+// The answer about a node with two subterms, where t has this entry, which decides, and the first has type `first` and its uses: from that about the second.
+fn close_two(tag: u8, entry: Entry, t: u8, first: u8, kept: bool, second: Walked) -> Walked
+    ensures { λ r. ⌜ r ≡ two-answer tag (as-entry entry) t first kept second ⌝ }
+{
+    let Walked::Has(number, end, fine) = second else {
+        return Walked::Nothing;
+    };
+    with_uses(
+        check_types::two_type(tag, entry, t, first, number, end),
+        kept & fine,
+    )
+}
+
+// Walks the term at a position, with `above` variables in scope whose types and marks stand outermost first. A once-variable of a level below `floor`
 // is out of reach. What falls is the part still unread.
 fn walk_at(
     table: &[u8],
     s: &[u8],
     at: usize,
-    env: &mut [u8; Recipe::MAX_NESTING],
-    marks: &mut [u8; Recipe::MAX_NESTING],
+    env: &mut [u8; Recipe::MAX_VARIABLES],
+    marks: &mut [u8; Recipe::MAX_VARIABLES],
     above: usize,
     floor: usize,
 ) -> Walked
@@ -128,6 +168,7 @@ fn walk_at(
     let tag = node.tag;
     let arg = node.arg;
     let subterms = node.subterms;
+    let binders = node.binders as usize;
     let next = at + node.size;
     if subterms == 0 {
         let number = check_types::leaf_type(tag, arg, env, above);
@@ -141,17 +182,19 @@ fn walk_at(
         let body = walk_at(table, s, next, env, marks, above + 1, under);
         return close_lambda(entry, arg as u8, body, marks[above]);
     }
-    // No other form has a typing rule.
-    if tag != Node::APPLICATION {
-        return Walked::Nothing;
-    }
-    let Walked::Has(function, second, first) = walk_at(table, s, next, env, marks, above, floor)
-    else {
+    let Walked::Has(first, second, kept) = walk_at(table, s, next, env, marks, above, floor) else {
         return Walked::Nothing;
     };
-    let argument = walk_at(table, s, second, env, marks, above, floor);
-    let entry = check_types::entry_at(table, function as usize);
-    close_application(entry, first, argument)
+    let t = check_types::deciding(tag, arg, first);
+    let entry = check_types::entry_at(table, t as usize);
+    if !check_types::can_open(tag, entry.kind) {
+        return Walked::Nothing;
+    }
+    let q = check_types::second_component(tag, t, entry.q);
+    let inside = open_scope(table, env, marks, binders, entry.p, q, above);
+    let rest = walk_at(table, s, second, env, marks, inside, floor);
+    let used = are_used(marks, binders, above);
+    close_two(tag, entry, t, first, kept & used, rest)
 }
 
 // Causes 9 and 10 of the term that a part is.
@@ -159,7 +202,7 @@ pub fn walk(table: &[u8], s: &[u8]) -> Walked
     requires { ⌜ Whole (now s) ⌝ }
     ensures { λ r. ⌜ Decides (table-of (now (table .entry))) (now (s .entry)) r ⌝ }
 {
-    let mut env = [0u8; Recipe::MAX_NESTING];
-    let mut marks = [0u8; Recipe::MAX_NESTING];
+    let mut env = [0u8; Recipe::MAX_VARIABLES];
+    let mut marks = [0u8; Recipe::MAX_VARIABLES];
     walk_at(table, s, 0, &mut env, &mut marks, 0, 0)
 }

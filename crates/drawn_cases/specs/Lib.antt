@@ -4,7 +4,9 @@ pub mod Rows
 pub mod Checks1
 pub mod Checks2
 pub mod Checks3
+pub mod Checks4
 pub mod Loads1
 pub mod Steps1
 pub mod Steps2
 pub mod Steps3
+pub mod Steps4

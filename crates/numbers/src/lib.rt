@@ -1,5 +1,5 @@
-// Document 01's limits, kinds, rules and causes: each number has its name here and nowhere else. That they are the numbers of the definitions is what the
-// functions below say.
+// Document 01's limits, kinds, rules and causes, and T-03's: each number has its name here and nowhere else. That they are the numbers of the definitions
+// is what the functions below say.
 ghost use mathlib.Core.Path.{_≡_};
 ghost use Rattle.calculus.specs.Limits.{byte-values};
 ghost use Rattle.calculus.specs.Kinds.{no-owner};
@@ -31,6 +31,9 @@ impl Recipe {
     pub const MAX_ENTRIES: usize = 256;
 
     pub const MAX_NESTING: usize = 100;
+
+    // Two variables for each level of nesting.
+    pub const MAX_VARIABLES: usize = 2 * Recipe::MAX_NESTING;
 
     pub const MAX_NODES: usize = 1024;
 }
@@ -82,6 +85,14 @@ impl Type {
 
     pub const MANY: u8 = 4;
 
+    pub const ONCE_PAIR: u8 = 5;
+
+    pub const MANY_PAIR: u8 = 6;
+
+    pub const ONCE_LIST: u8 = 7;
+
+    pub const MANY_LIST: u8 = 8;
+
     pub const UNIT_ENTRY: u8 = 0;
 
     pub const NUM_ENTRY: u8 = 1;
@@ -89,7 +100,7 @@ impl Type {
     pub const SETTING_ENTRY: u8 = 2;
 }
 
-// The rules, in Fig. 5's order.
+// The rules, in Fig. 5's order, then those of Fig. 10.
 pub struct Rule {}
 
 impl Rule {
@@ -106,6 +117,10 @@ impl Rule {
     pub const CELL_NEW: u8 = 6;
 
     pub const CELL_EXCH: u8 = 7;
+
+    pub const CASE_PAIR: u8 = 8;
+
+    pub const CASE_LIST: u8 = 9;
 }
 
 // The causes of a refusal.
@@ -153,7 +168,7 @@ pub fn byte_values() -> usize
     Byte::VALUES
 }
 
-pub fn recipe_limits() -> [usize; 9]
+pub fn recipe_limits() -> [usize; 10]
     ensures { λ r. ⌜ r ≡ recipe-limits ⌝ }
 {
     [
@@ -165,6 +180,7 @@ pub fn recipe_limits() -> [usize; 9]
         Recipe::MIN_ENTRIES,
         Recipe::MAX_ENTRIES,
         Recipe::MAX_NESTING,
+        Recipe::MAX_VARIABLES,
         Recipe::MAX_NODES,
     ]
 }
@@ -200,10 +216,20 @@ pub fn no_owner() -> u8
     Image::NO_OWNER
 }
 
-pub fn type_kinds() -> [u8; 5]
+pub fn type_kinds() -> [u8; 9]
     ensures { λ r. ⌜ r ≡ type-kinds ⌝ }
 {
-    [Type::UNIT, Type::NUM, Type::CELL, Type::ONCE, Type::MANY]
+    [
+        Type::UNIT,
+        Type::NUM,
+        Type::CELL,
+        Type::ONCE,
+        Type::MANY,
+        Type::ONCE_PAIR,
+        Type::MANY_PAIR,
+        Type::ONCE_LIST,
+        Type::MANY_LIST,
+    ]
 }
 
 pub fn type_entries() -> [u8; 3]
@@ -212,7 +238,7 @@ pub fn type_entries() -> [u8; 3]
     [Type::UNIT_ENTRY, Type::NUM_ENTRY, Type::SETTING_ENTRY]
 }
 
-pub fn rules() -> [u8; 7]
+pub fn rules() -> [u8; 9]
     ensures { λ r. ⌜ r ≡ rules ⌝ }
 {
     [
@@ -223,6 +249,8 @@ pub fn rules() -> [u8; 7]
         Rule::HANDLE_BIND,
         Rule::CELL_NEW,
         Rule::CELL_EXCH,
+        Rule::CASE_PAIR,
+        Rule::CASE_LIST,
     ]
 }
 

@@ -3,7 +3,7 @@ use mathlib.Core.Path.{_≡_, refl}
 use mathlib.Core.Bool.{false, true}
 use mathlib.Core.List.{List, [], _++_, _∷_}
 use Prim.Native.Nat.{_+_, _-_, suc, zero, ℕ}
-use lib.ListN.{replicate}
+use lib.ListN.{drop, replicate}
 use Rattle.calculus.specs.Bytes.{word}
 use Rattle.calculus.specs.Limits.{min-bays, max-bays, min-parts, max-parts}
 use Rattle.recipe_file.proofs.Causes.{bays-outside}
@@ -80,7 +80,7 @@ one-part = refl
 pub two-to-seventeen : (n : ℕ) → outside min-parts max-parts n ≡ outside min-bays max-bays (n - edition-1 .terms)
 two-to-seventeen n = bays-outside (edition-1 .terms) n
 
--- another opening, editions 0 and 2
+-- another opening, editions 0 and 3
 pub other-opening : layout-refusal (0x4C ∷ 0x45 ∷ replicate 10 0) ≡ 2
 unfolding layout-refusal cause-1 cause-2 outside opens
 other-opening = refl
@@ -89,9 +89,26 @@ pub edition-0 : layout-refusal (0x4C ∷ 0x46 ∷ 0 ∷ 2 ∷ replicate 10 0) �
 unfolding layout-refusal cause-1 cause-2 outside opens edition-of bays
 edition-0 = refl
 
-pub other-edition : layout-refusal (0x4C ∷ 0x46 ∷ 2 ∷ 2 ∷ replicate 10 0) ≡ 2
+pub other-edition : layout-refusal (0x4C ∷ 0x46 ∷ 3 ∷ 2 ∷ replicate 10 0) ≡ 2
 unfolding layout-refusal cause-1 cause-2 outside opens edition-of bays
 other-edition = refl
+
+-- T-03's edition, laid out as document 01's: case A and n at its limits with 02 as byte 2
+pub edition-2-laid : layout-refusal (0x4C ∷ 0x46 ∷ 2 ∷ drop 3 case-A) ≡ 0
+unfolding layout-refusal cause-1 cause-2 cause-3 outside opens edition-of bays parts pairs-test offset-of length-of word table-length-test
+edition-2-laid = refl
+
+pub edition-2-term : term-bytes (0x4C ∷ 0x46 ∷ 2 ∷ drop 3 case-A) 0 ≡ 3 ∷ []
+unfolding term-bytes edition-of part offset-of length-of word
+edition-2-term = refl
+
+pub edition-2-17 : layout-refusal (0x4C ∷ 0x46 ∷ 2 ∷ drop 3 (many-bays 16)) ≡ 0
+unfolding layout-refusal cause-1 cause-2 cause-3 outside opens edition-of bays parts pairs-test offset-of length-of word table-length-test pairs-from
+edition-2-17 = refl
+
+pub edition-2-18 : layout-refusal (0x4C ∷ 0x46 ∷ 2 ∷ drop 3 (many-bays 17)) ≡ 2
+unfolding layout-refusal cause-1 cause-2 outside opens edition-of bays parts pairs-from
+edition-2-18 = refl
 
 -- a file that is shorter than its pairs
 pub cut-pairs : layout-refusal (0x4C ∷ 0x46 ∷ 1 ∷ 17 ∷ replicate 10 0) ≡ 3

@@ -21,7 +21,7 @@ AllKeep [] = Unit {0}
 AllKeep (e ∷ es) = EditionRule e × AllKeep es
 
 all-keep : AllKeep editions
-all-keep = (record { behind-table = omega arith; one-byte = omega arith }, tt)
+all-keep = (record { behind-table = omega arith; one-byte = omega arith }, (record { behind-table = omega arith; one-byte = omega arith }, tt))
 
 keeps-at : (es : List Edition) (i : ℕ) → AllKeep es → EditionRule (getD es i edition-1)
 keeps-at [] i k = all-keep .0

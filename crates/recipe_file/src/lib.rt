@@ -24,24 +24,34 @@ pub struct Edition {
     pub terms: usize,
 }
 
+// The part that is the type table, and the first term where it follows.
+const TABLE_PART: usize = 0;
+
+const NEXT_PART: usize = 1;
+
 impl Edition {
     // Document 01's.
     pub const FIRST: Edition = Edition {
         number: 1,
         forms: 10,
         kinds: 5,
-        terms: 1,
+        terms: NEXT_PART,
+    };
+
+    // T-03's, with pairs and lists.
+    pub const SECOND: Edition = Edition {
+        number: 2,
+        forms: 14,
+        kinds: 9,
+        terms: NEXT_PART,
     };
 
     // How many are known.
-    pub const COUNT: usize = 1;
+    pub const COUNT: usize = 2;
 }
 
 // Those that are known, in the order of their numbers.
-const EDITIONS: [Edition; Edition::COUNT] = [Edition::FIRST];
-
-// The part that is the type table.
-const TABLE_PART: usize = 0;
+const EDITIONS: [Edition; Edition::COUNT] = [Edition::FIRST, Edition::SECOND];
 
 // A recipe has a bay at least.
 const MIN_BAYS: usize = 1;

@@ -5,7 +5,6 @@ use mathlib.Core.List.{List, [], _∷_}
 use Prim.Native.Nat.{_+_, _<_, _≤_, suc, zero, ℕ}
 use native.Mathlib.Numerals.{add-one}
 use native.Mathlib.Omega.{arith}
-use lib.Dec.{ltb}
 use lib.ListN.{drop, drop-of-length-le, getD, length}
 use lib.Seq.{drop-cons}
 use Rattle.calculus.specs.Table as calculus
@@ -20,7 +19,7 @@ fails-from from test count turn (suc i) l e = fails-from from test count turn i 
 
 -- the three tests of a table
 unfoldable pub entries-from : ℕ → calculus.Table → ℕ → Bool
-entries-from kinds T i = calculus.entries-test kinds i (drop i T)
+entries-from kinds T i = calculus.entries-test (calculus.entry-stands kinds T) i (drop i T)
 
 unfoldable pub new-from : calculus.Entry → calculus.Table → ℕ → Bool
 new-from x T i = calculus.new-to x (drop i T)
@@ -35,7 +34,7 @@ module _ (a : List Entry) (count : ℕ) (h : count ≤ length a) where
       rw (add-one i, drop-cons (as-table a count) i (calculus.entry 0 0 0), entry-of a count h i l) refl
 
   pub entries-turn : (kinds i : ℕ) → i < count → entries-from kinds (as-table a count) i
-      ≡ ((ltb (getD a i unused .kind) kinds && calculus.entry-test i (getD a i unused .kind) (getD a i unused .p) (getD a i unused .q)) && entries-from kinds (as-table a count) (i + 1))
+      ≡ (calculus.entry-stands kinds (as-table a count) i (as-entry (getD a i unused)) && entries-from kinds (as-table a count) (i + 1))
   unfolding entries-from calculus.entries-test
   entries-turn kinds i l = rw (next i l, add-one i) refl
 

@@ -4,5 +4,7 @@
 pub mod Entries
 -- the table as 256 entries by value
 pub mod Filled
+-- the rule of an entry in two tests
+pub mod Rules
 -- an entry as one number
 pub mod Keys

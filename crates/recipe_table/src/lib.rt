@@ -1,16 +1,17 @@
 // The type table: read by value, and its rules.
 ghost use mathlib.Core.Path.{_≡_};
-ghost use mathlib.Core.Bool.{_&&_};
+ghost use mathlib.Core.Bool.{_&&_, not};
 ghost use Prim.Native.Nat.{_-_, _<_, _≤_, _/_};
 ghost use lib.Dec.{ltb};
 ghost use lib.ListN.{length};
 ghost use Rattle.calculus.specs.Limits.{min-entries, max-entries};
-ghost use Rattle.calculus.specs.Table.{entry, entry-test, entries-test, same-entry, distinct-test, table-test};
+ghost use Rattle.calculus.specs.Table.{is-once-kind, entry-stands, entries-test, same-entry, distinct-test, table-test};
 ghost use Rattle.recipe_file.specs.File.{edition-of, entry-length};
 ghost use Rattle.recipe_file.specs.FileRule.{Between, FileRule};
 ghost use Rattle.recipe_table.specs.Entries.{table-of, type-table, table-refusal};
 ghost use Rattle.recipe_table.specs.Keys.{Coded, absent, mark-of, marks-room, Marked};
 ghost use Rattle.recipe_table.specs.Filled.{as-entry, as-table, filled, first-three};
+ghost use Rattle.recipe_table.specs.Rules.{names-test, many-entry, contents-test};
 use numbers::Byte;
 use numbers::Cause;
 use numbers::Recipe;
@@ -84,9 +85,9 @@ pub fn read_table(bytes: &[u8]) -> [Entry; Recipe::MAX_ENTRIES]
     table
 }
 
-// The entry with number k is of one of the first `kinds` kinds, and keeps the rule of its kind.
+// The entry with number k is of one of the first `kinds` kinds, and p and q are what its kind asks: nothing, or entries with smaller numbers.
 fn entry_stands(it: Entry, k: usize, kinds: u8) -> bool
-    ensures { λ r. ⌜ r ≡ (ltb (it .kind) kinds && entry-test k (it .kind) (it .p) (it .q)) ⌝ }
+    ensures { λ r. ⌜ r ≡ (ltb (it .kind) kinds && names-test k (it .kind) (it .p) (it .q)) ⌝ }
 {
     let kind = it.kind;
     let p = it.p as usize;
@@ -100,10 +101,40 @@ fn entry_stands(it: Entry, k: usize, kinds: u8) -> bool
     if kind == Type::CELL {
         return p < k && q == 0;
     }
-    if kind <= Type::MANY {
+    if kind <= Type::MANY_PAIR {
         return p < k && q < k;
     }
+    if kind <= Type::MANY_LIST {
+        return q == 0 && p < k;
+    }
     false
+}
+
+// An entry has multiplicity many.
+pub fn is_many(it: Entry) -> bool
+    ensures { λ r. ⌜ r ≡ not (is-once-kind (it .kind)) ⌝ }
+{
+    let kind = it.kind;
+    if kind == Type::ONCE {
+        return false;
+    }
+    if kind == Type::ONCE_PAIR {
+        return false;
+    }
+    kind != Type::ONCE_LIST
+}
+
+// A many pair or list has only many contents: the entries that p and q name.
+fn contents_stand(kind: u8, first: Entry, second: Entry) -> bool
+    ensures { λ r. ⌜ r ≡ contents-test kind (many-entry first) (many-entry second) ⌝ }
+{
+    if kind == Type::MANY_PAIR {
+        return is_many(first) && is_many(second);
+    }
+    if kind == Type::MANY_LIST {
+        return is_many(first);
+    }
+    true
 }
 
 // Two entries are equal.
@@ -164,17 +195,21 @@ fn is_unmet(
 // Each entry keeps its rule and no two are equal: from the last entry down, none stands again behind it.
 fn entries_stand(table: [Entry; Recipe::MAX_ENTRIES], count: usize, kinds: u8) -> bool
     requires { ⌜ count ≤ max-entries ⌝ }
-    ensures { λ r. ⌜ r ≡ (entries-test kinds 0 (as-table table count) && distinct-test (as-table table count)) ⌝ }
+    ensures { λ r. ⌜ r ≡ (entries-test (entry-stands kinds (as-table table count)) 0 (as-table table count) && distinct-test (as-table table count)) ⌝ }
 {
     let mut keys = [0u32; Recipe::MAX_ENTRIES];
     let mut marks = [false; MARKS];
     let mut i = count;
     while 0 < i {
         i -= 1;
-        if !entry_stands(table[i], i, kinds) {
+        let it = table[i];
+        let key = key_of(table[i]); // read again: from `it`, which is read by its fields too, it would go through memory
+        if !entry_stands(it, i, kinds) {
             return false;
         }
-        let key = key_of(table[i]);
+        if !contents_stand(it.kind, table[it.p as usize], table[it.q as usize]) {
+            return false;
+        }
         if !is_unmet(&keys, &marks, i + 1, count, key) {
             return false;
         }

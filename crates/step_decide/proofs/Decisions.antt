@@ -18,8 +18,8 @@ use Rattle.step_rules.specs.Stepped.{Stepped}
 use Rattle.step_decide.specs.declared.Decision.{Decision}
 use Rattle.step_decide.specs.declared.Decision.the-variants.{Goes, Waits, Refuses}
 use Rattle.step_decide.specs.Decided.{Decided, goes, waits, refuses-used, refuses-wrong}
-use Rattle.step_decide.specs.Asked.{Calls, ExchangesName, Follows}
-use Rattle.step_decide.proofs.Needed.{call-thread, call-future, call-open, call-used, call-cell, exchange-thread, exchange-future, exchange-cell, exchange-handle}
+use Rattle.step_decide.specs.Asked.{Calls, ExchangesName, Follows, TakesName}
+use Rattle.step_decide.proofs.Needed.{call-thread, call-future, call-open, call-used, call-cell, exchange-thread, exchange-future, exchange-cell, exchange-handle, take-thread, take-future, take-other}
 
 -- a thread goes by a move that was made
 pub goes-by : {s : List ℕ} {x : ℕ} {m : Meeting} {by made : Move} {d : Decision} → d ≡ Goes (step-at x m made) → made ≡ by → Stepped s x (step-at x m by) → Decided s x d
@@ -67,3 +67,13 @@ module _ {s : List ℕ} {x : ℕ} {m : Meeting} {y kind : ℕ} (c : ExchangesNam
 
   pub exchange-refuses : ¬ (kind ≡ thread-kind) → ¬ (kind ≡ future-kind) → ¬ (kind ≡ cell-kind) → Decided s x (Refuses wrong-kind-cause)
   exchange-refuses n₁ n₅ n₂ = refuses-wrong (exchange-handle c (λ k. n₁ (kind-is ∙ k)) (λ k. n₅ (kind-is ∙ k)) (λ k. n₂ (kind-is ∙ k)))
+
+module _ {s : List ℕ} {x : ℕ} {m : Meeting} {y kind : ℕ} (c : TakesName s x m y) (kind-is : kind ≡ kind-at s y) where
+  pub take-follows : kind ≡ thread-kind → Follows s x m y
+  take-follows k = take-thread c (sym kind-is ∙ k)
+
+  pub take-waits : kind ≡ future-kind → Decided s x (Waits y)
+  take-waits k = waits (take-future c (sym kind-is ∙ k))
+
+  pub take-refuses : ¬ (kind ≡ thread-kind) → ¬ (kind ≡ future-kind) → Decided s x (Refuses wrong-kind-cause)
+  take-refuses n₁ n₅ = refuses-wrong (take-other c (λ k. n₁ (kind-is ∙ k)) (λ k. n₅ (kind-is ∙ k)))

@@ -1,89 +1,101 @@
--- The outcome of rule 1: its size by the places of the variable.
-use mathlib.Core.Path.{_≡_, sym, ap, ap₂, _∙_}
+-- The outcome of rules 1, 8 and 9: a body with values in it, and its size by the places of the variables.
+use mathlib.Core.Path.{_≡_, ap, refl, _∙_}
 use mathlib.Core.List.{List}
 use Prim.Native.Nat.{ℕ, _+_, _-_, _*_, _<_, _≤_}
 use native.Mathlib.Omega.{arith}
-use native.Mathlib.Nat.{mul-le-mul}
 use lib.ListN.{length}
 use Rattle.calculus.specs.Bytes.{Bytes, two-byte-values}
 use Rattle.calculus.specs.Limits.{max-nodes}
-use Rattle.calculus.specs.Syntax.{Exp}
 use Rattle.calculus.specs.Names.{uses}
-use Rattle.calculus.specs.Image.{nodes, size}
-use Rattle.calculus.specs.Reduction.{substitute}
 use Rattle.term.specs.Reader.{end-at, GoodAt}
-use Rattle.term.specs.Expressions.{term-at}
+use Rattle.term.specs.Expressions.{bytes, term-at}
 use Rattle.term.proofs.Expressions.{term-stands}
 use Rattle.term.proofs.Sizes.{length-bytes}
 use Rattle.term.proofs.Views.{end-inside}
-use Rattle.term_scan.specs.declared.Extent.the-variants.{Ends, Refused}
-use Rattle.term_scan.specs.Extents.{extent-at, small}
-use Rattle.term_scan.proofs.Answers.{small-good, small-stands}
-use Rattle.term_scan.proofs.Many.{refused-ends}
-use Rattle.term_subst.specs.Theory.Outcome.{size-substitute, uses-nodes}
-use Rattle.step_rules.specs.declared.Move.the-variants.{Beta}
+use Rattle.term_subst.specs.Theory.Outcome.{bytes-beta, bytes-both, length-replaced, uses-most, uses-nodes}
+use Rattle.step_rules.specs.declared.Move.{Move}
+use Rattle.step_rules.specs.declared.Move.the-variants.{Beta, CasePair, CaseList}
 use Rattle.step_rules.specs.declared.Step.{Step}
-use Rattle.step_rules.specs.Positions.{variable-length, to-body}
-use Rattle.step_rules.specs.Effects.{effect-of}
+use Rattle.step_rules.specs.Positions.{variable-length}
+use Rattle.step_rules.specs.Effects.{effect-of, taken-apart}
 use Rattle.step_rules.specs.Moves.{effect}
+use Rattle.step_rules.specs.Stepped.{Components}
 use Rattle.step_rules.specs.Theory.Writers.{has-by}
+use Rattle.step_reduct.specs.declared.Substitution.{Substitution}
 use Rattle.step_reduct.specs.CanWrite.{CanWrite}
+use Rattle.step_reduct.specs.Substitutions.{argument-in, components-in, substituted, Whole}
 use Rattle.step_reduct.proofs.Redexes.{redex-by}
 
-module _ {s : List ℕ} {step : Step} (w : CanWrite s step) (one : step .by ≡ Beta) where
-  pub body-good : GoodAt s (step .meeting .at + to-body)
-  body-good = has-by (w .movable) one .good
+-- what a step puts in place of the application or case is a body with values in it
+pub record Replaces (s : List ℕ) (step : Step) (with : Substitution) : Type 0 where
+  pub whole : Whole s with
+  pub is : effect s step .redex ≡ substituted s with
 
-  pub body-few : nodes (term-at s (step .meeting .at + to-body)) ≤ max-nodes
-  body-few = has-by (w .movable) one .few
+pub replaces-as : {s : List ℕ} {step : Step} {with known : Substitution} → with ≡ known → Replaces s step known → Replaces s step with
+replaces-as e r = rw e r
 
-  -- the scan answers the end of the body
-  pub body-found : Refused ≡ small max-nodes (extent-at s (step .meeting .at + to-body)) → ⊥
-  body-found e = refused-ends (e ∙ small-good max-nodes body-good body-few)
+module _ {s : List ℕ} {step : Step} (w : CanWrite s step) where
+  -- rule 1
+  pub replaces-1 : step .by ≡ Beta → Replaces s step (argument-in (step .meeting))
+  unfolding argument-in effect-of substituted
+  replaces-1 e =
+      let h = has-by (w .movable) e in
+      let last = w .movable .last .good in
+      record {
+        whole = record { body = h .body; body-ends = h .body-ends; inner = last; inner-ends = w .movable .last-ends; outer = last; outer-ends = w .movable .last-ends };
+        is = redex-by w e ∙ bytes-beta (term-at s (step .meeting .second)) (bytes (term-at s (step .meeting .second))) 0 (h .body-closed);
+      }
 
-  pub body-end : (e n : ℕ) → Ends e n ≡ small max-nodes (extent-at s (step .meeting .at + to-body)) → e ≡ end-at s (step .meeting .at + to-body)
-  body-end e n q = sym (small-stands max-nodes s (step .meeting .at + to-body) e n (body-good .inside) q .0 .end)
+  -- rules 8 and 9
+  replaces-case : {by : Move} {rest : ℕ} → step .by ≡ by → Components s (step .meeting) rest → effect-of s (step .meeting) by ≡ taken-apart s (step .meeting) rest
+      → Replaces s step (components-in (step .meeting) rest)
+  unfolding components-in substituted taken-apart
+  replaces-case {by} {rest} e h is =
+      record {
+        whole = record { body = w .movable .last; body-ends = w .movable .last-ends; inner = h .second .good; inner-ends = h .second-ends; outer = h .first .good; outer-ends = h .first-ends };
+        is = redex-by w e ∙ ap (λ k. k .redex) is ∙ bytes-both (h .first-closed) (term-at s rest) 0 (term-at s (step .meeting .second));
+      }
 
-  pub redex-length : length (effect s step .redex) ≡ size (substitute 0 (term-at s (step .meeting .argument)) (term-at s (step .meeting .at + to-body)))
+  pub replaces-8 : {rest : ℕ} → step .by ≡ CasePair rest → Replaces s step (components-in (step .meeting) rest)
   unfolding effect-of
-  redex-length = ap length (redex-by w one) ∙ length-bytes _
+  replaces-8 e = replaces-case e (has-by (w .movable) e) refl
 
-  module _ (b : Bytes s) where
-    abbrev body : Exp
-    body = term-at s (step .meeting .at + to-body)
+  pub replaces-9 : {rest : ℕ} → step .by ≡ CaseList rest → Replaces s step (components-in (step .meeting) rest)
+  unfolding effect-of
+  replaces-9 e = replaces-case e (has-by (w .movable) e) refl
 
-    value : Exp
-    value = term-at s (step .meeting .argument)
+module _ {s : List ℕ} {with : Substitution} (w : Whole s with) where
+  -- what the sums are, and that they fit
+  pub record Sized (x y : ℕ) : Type 0 where
+    pub onward : with .body .from ≤ with .body .to
+    pub short : with .body .to - with .body .from < two-byte-values
+    pub few : x + y ≤ max-nodes
+    pub inner-onward : with .inner .from ≤ with .inner .to
+    pub outer-onward : with .outer .from ≤ with .outer .to
+    pub values : x * (with .inner .to - with .inner .from) + y * (with .outer .to - with .outer .from) ≤ max-nodes * two-byte-values
+    pub is : length (substituted s with) + (x + y) * variable-length ≡ with .body .to - with .body .from + (x * (with .inner .to - with .inner .from) + y * (with .outer .to - with .outer .from))
 
-    value-size : step .meeting .end ≡ step .meeting .argument + size (term-at s (step .meeting .argument))
-    value-size = w .movable .argument-ends ∙ term-stands b (w .movable .argument .good) .1
+  module _ (b : Bytes s) (brief : length s < two-byte-values) where
+    -- a value that stands whole
+    value-length : {at to : ℕ} → GoodAt s at → to ≡ end-at s at → (length (bytes (term-at s at)) ≡ to - at) × ((at ≤ to) × (to - at ≤ two-byte-values))
+    value-length {at} {to} g ends =
+        let e = term-stands b g .1 in
+        (omega (arith, length-bytes (term-at s at), e, ends), (omega (arith, e, ends), omega (arith, ends, end-inside g)))
 
-    body-size : end-at s (step .meeting .at + to-body) ≡ step .meeting .at + to-body + size (term-at s (step .meeting .at + to-body))
-    body-size = term-stands b body-good .1
-
-    -- what the sums are, and that they fit
-    pub record Sized (end places : ℕ) : Type 0 where
-      pub onward : step .meeting .at + to-body ≤ end
-      pub short : end - (step .meeting .at + to-body) < two-byte-values
-      pub few : places ≤ max-nodes
-      pub product : places * (step .meeting .end - step .meeting .argument) ≤ max-nodes * two-byte-values
-      pub enough : variable-length * places ≤ end - (step .meeting .at + to-body) + places * (step .meeting .end - step .meeting .argument)
-      pub is : end - (step .meeting .at + to-body) + places * (step .meeting .end - step .meeting .argument) - variable-length * places ≡ length (effect s step .redex)
-
-    pub sized : (end n places : ℕ) → Ends end n ≡ small max-nodes (extent-at s (step .meeting .at + to-body)) → places ≡ uses 0 (term-at s (step .meeting .at + to-body)) → Sized end places
-    sized end n places q p =
-        let e = body-end end n q in
-        let u = uses-nodes 0 (term-at s (step .meeting .at + to-body)) in
-        let v : step .meeting .end - step .meeting .argument ≡ size (term-at s (step .meeting .argument)) = omega (arith, value-size) in
-        let m = ap₂ _*_ p v in
-        let z = size-substitute 0 (term-at s (step .meeting .argument)) (term-at s (step .meeting .at + to-body)) in
-        let l : step .meeting .end - step .meeting .argument ≤ two-byte-values = omega (arith, w .short, w .movable .ends, w .movable .inside) in
-        let few : places ≤ max-nodes = omega (arith, u, body-few) in
+    pub sized : (x y : ℕ) → x ≡ uses 0 (term-at s (with .body .from)) → y ≡ uses 1 (term-at s (with .body .from)) → Sized x y
+    unfolding substituted
+    sized x y x-is y-is =
+        let body = term-at s (with .body .from) in
+        let e = w .body-ends in
+        let g = term-stands b (w .body .good) .1 in
+        let (p, (o, l)) = value-length (w .inner) (w .inner-ends) in
+        let (p′, (o′, l′)) = value-length (w .outer) (w .outer-ends) in
         record {
-          onward = omega (arith, body-size);
-          short = omega (arith, body-size, end-inside body-good, w .short);
-          few = few;
-          product = mul-le-mul few l;
-          enough = omega (arith, body-size, m, z);
-          is = omega (arith, body-size, m, z, redex-length);
+          onward = omega (arith, e, g);
+          short = omega (arith, e, end-inside (w .body .good));
+          few = omega (arith, x-is, y-is, uses-nodes 0 body, w .body .few);
+          inner-onward = o;
+          outer-onward = o′;
+          values = rw (x-is, y-is) (uses-most 0 body (w .body .few) l l′);
+          is = rw (x-is, y-is, ← p, ← p′) (omega (arith, length-replaced (bytes (term-at s (with .inner .from))) (bytes (term-at s (with .outer .from))) 0 body, e, g));
         }

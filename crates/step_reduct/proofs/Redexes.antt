@@ -1,4 +1,4 @@
--- What stands in place of the application, rule by rule, and how long it is.
+-- What stands in place of the application or case, rule by rule, and how long it is.
 use mathlib.Core.Path.{_≡_, ap, subst, _∙_}
 use mathlib.Core.List.{List}
 use Prim.Native.Nat.{ℕ, _+_, _-_, _*_, _≤_}
@@ -30,12 +30,12 @@ module _ {s : List ℕ} {step : Step} (w : CanWrite s step) where
   pub has-thread : HasHead s (step .thread)
   has-thread = has-head s (w .stands) (step .thread) (w .movable .thread-below)
 
-  pub argument-length : length (argument-bytes s (step .meeting)) ≡ step .meeting .end - step .meeting .argument
-  argument-length = length-between s (step .meeting .argument) (step .meeting .end) (w .movable .third) (omega (arith, w .movable .ends, w .movable .inside))
+  pub argument-length : length (argument-bytes s (step .meeting)) ≡ step .meeting .end - step .meeting .second
+  argument-length = length-between s (step .meeting .second) (step .meeting .end) (w .movable .third) (omega (arith, w .movable .ends, w .movable .inside))
 
-  -- the part of the application before the name that rule 3 follows
-  pub function-length : length (bytes-between s (step .meeting .at) (step .meeting .argument - name-length)) ≡ step .meeting .argument - name-length - step .meeting .at
-  function-length = length-between s (step .meeting .at) (step .meeting .argument - name-length) (omega (arith, w .movable .second))
+  -- the part of the application or case before the name that rule 3 follows
+  pub function-length : length (bytes-between s (step .meeting .at) (step .meeting .second - name-length)) ≡ step .meeting .second - name-length - step .meeting .at
+  function-length = length-between s (step .meeting .at) (step .meeting .second - name-length) (omega (arith, w .movable .second))
       (omega (arith, w .movable .third, w .movable .ends, w .movable .inside))
 
   -- by a move that is known
@@ -52,7 +52,7 @@ module _ {s : List ℕ} {step : Step} (w : CanWrite s step) where
   unfolding effect-of
   length-3 e = rw (redex-by e) (simp (length-append, function-length, copied-length (has-by (w .movable) e .1), argument-length) (omega (arith, w .movable .second, w .movable .third)))
 
-  pub length-4 : step .by ≡ HandleNew → length (effect s step .redex) ≡ step .meeting .end - step .meeting .argument + 2 * (application-length + name-length)
+  pub length-4 : step .by ≡ HandleNew → length (effect s step .redex) ≡ step .meeting .end - step .meeting .second + 2 * (application-length + name-length)
   unfolding effect-of
   length-4 e = rw (redex-by e) (simp (length-append, argument-length) (omega arith))
 

@@ -21,6 +21,6 @@ pub record CanWrite (s : List ℕ) (step : Step) : Type 0 where
   -- "At most 256 names"
   pub few : names-after s step ≤ max-names
 
--- what stands in place of an application is shorter: a body, with a value in place of each of its nodes
+-- what stands in place of an application or case is shorter: a body, with a value in place of each of its nodes
 abbrev pub max-redex-length : ℕ
 max-redex-length = two-byte-values + max-nodes * two-byte-values

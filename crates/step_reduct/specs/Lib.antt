@@ -2,3 +2,5 @@
 
 -- what a writer of the image after a step needs
 pub mod CanWrite
+-- a body with values in it
+pub mod Substitutions

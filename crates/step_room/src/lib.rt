@@ -11,11 +11,10 @@ ghost use Rattle.calculus.specs.Image.{nodes, within-limits};
 ghost use Rattle.term.specs.Reader.{GoodAt};
 ghost use Rattle.term.specs.Expressions.{term-at};
 ghost use Rattle.step_rules.specs.declared.Move.the-variants.{Beta};
-ghost use Rattle.step_rules.specs.Positions.{to-body};
-ghost use Rattle.step_rules.specs.Effects.{effect-of};
+ghost use Rattle.step_rules.specs.Effects.{effect-of, taken-apart};
 ghost use Rattle.step_rules.specs.Moves.{effect, names-after, nodes-after};
-ghost use Rattle.step_rules.specs.Stepped.{Counted, Movable};
-ghost use Rattle.step_room.specs.Counting.{Counts};
+ghost use Rattle.step_rules.specs.Stepped.{Body, Components, Counted, Movable};
+ghost use Rattle.step_room.specs.Counting.{Counts, Substitutes};
 
 // How many names a move brings, how many nodes come and how many go.
 pub struct Count {
@@ -58,14 +57,34 @@ fn counted(new: usize, gained: usize, lost: usize) -> Count
     Count { new, gained, lost }
 }
 
-// Rule 1: the argument comes in each place of the body's variable; these places, the argument, the lambda and the application go.
+// A body with values of so many nodes in the places of its two innermost variables: a value comes for each place. The places and the values go, and two nodes: a
+// lambda and its application, or a pair or list front and its case.
+fn count_substituted(image: &[u8], body: usize, inner: usize, outer: usize) -> Count
+    requires { ⌜ Counted (now image) body × ((inner ≤ max-nodes) × (outer ≤ max-nodes)) ⌝ }
+    ensures { λ r. ⌜ Substitutes (term-at (now (image .entry)) body) inner outer r ⌝ }
+{
+    let places = term_subst::count_uses(image, body);
+    let gained = places.inner * inner + places.outer * outer;
+    counted(0, gained, places.inner + places.outer + inner + outer + 2)
+}
+
+// Rule 1: the argument for the one variable of a lambda's body.
 fn count_applied(image: &[u8], meeting: Meeting) -> Count
-    requires { ⌜ Counted (now image) (meeting .at + to-body) × Counted (now image) (meeting .argument) ⌝ }
+    requires { ⌜ Body (now image) meeting × Counted (now image) (meeting .second) ⌝ }
     ensures { λ r. ⌜ Counts (effect-of (now (image .entry)) meeting Beta) r ⌝ }
 {
-    let places = term_subst::count_uses(image, meeting.at + Step::BODY);
-    let size = nodes_at(image, meeting.argument);
-    counted(0, places * size, places + size + 2)
+    let argument = nodes_at(image, meeting.second);
+    count_substituted(image, meeting.at + Step::BODY, argument, 0)
+}
+
+// Rules 8 and 9: the components for the two variables of a case's body, the second for the innermost.
+fn count_taken(image: &[u8], meeting: Meeting, rest: usize) -> Count
+    requires { ⌜ Components (now image) meeting rest × Counted (now image) (meeting .second) ⌝ }
+    ensures { λ r. ⌜ Counts (taken-apart (now (image .entry)) meeting rest) r ⌝ }
+{
+    let first = nodes_at(image, meeting.at + Step::COMPONENT);
+    let second = nodes_at(image, rest);
+    count_substituted(image, meeting.second, second, first)
 }
 
 // What a step brings and takes away.
@@ -82,6 +101,8 @@ fn count_of(image: &[u8], step: Step) -> Count
         Move::HandleBind(_, _) => counted(0, 0, 1),
         Move::CellNew => counted(1, 0, 1),
         Move::CellExch(_, _, _) => counted(0, 0, 4),
+        Move::CasePair(rest) => count_taken(image, step.meeting, rest),
+        Move::CaseList(rest) => count_taken(image, step.meeting, rest),
     }
 }
 

@@ -1,10 +1,11 @@
--- Fig. 5 in bytes, a clause for each rule.
+-- Fig. 5 in bytes, and T-03's rules 8 and 9, a clause for each rule.
 use mathlib.Core.List.{List, [], _∷_, _++_}
 use Prim.Native.Nat.{ℕ, _+_, _-_, _*_}
 use lib.ListN.{drop, take}
 use Rattle.calculus.specs.Image.{nodes}
 use Rattle.calculus.specs.Names.{uses}
-use Rattle.calculus.specs.Reduction.{substitute, Rule, BETA, THREAD-NEW, FUTURE-DEREF, HANDLE-NEW, HANDLE-BIND, CELL-NEW, CELL-EXCH}
+use Rattle.calculus.specs.Reduction.{substitute, substitute-both, Rule, BETA, THREAD-NEW, FUTURE-DEREF, HANDLE-NEW, HANDLE-BIND, CELL-NEW, CELL-EXCH, CASE}
+use Rattle.calculus.specs.Syntax.{pair, list}
 use Rattle.calculus.specs.Kinds.{no-owner}
 use Rattle.term.specs.Expressions.{bytes, term-at}
 use Rattle.term.specs.Forms.{application-tag, unit-tag, name-tag}
@@ -13,8 +14,8 @@ use Rattle.image_layout.specs.Encoded.{Encoded}
 use Rattle.image_layout.specs.Slice.{names}
 use Rattle.image.specs.Owned.{thread-holding, cell-holding, handle-open, handle-used, future-awaited}
 use Rattle.step_rules.specs.declared.Move.{Move}
-use Rattle.step_rules.specs.declared.Move.the-variants.{Beta, ThreadNew, FutureDeref, HandleNew, HandleBind, CellNew, CellExch}
-use Rattle.step_rules.specs.Positions.{name-length, to-body}
+use Rattle.step_rules.specs.declared.Move.the-variants.{Beta, ThreadNew, FutureDeref, HandleNew, HandleBind, CellNew, CellExch, CasePair, CaseList}
+use Rattle.step_rules.specs.Positions.{name-length, to-body, to-component}
 
 -- the rule of a move
 abbrev pub rule-of : Move → Rule
@@ -25,14 +26,16 @@ rule-of HandleNew = HANDLE-NEW
 rule-of (HandleBind handle future) = HANDLE-BIND
 rule-of CellNew = CELL-NEW
 rule-of (CellExch cell from to) = CELL-EXCH
+rule-of (CasePair rest) = CASE pair
+rule-of (CaseList rest) = CASE list
 
 -- the bytes of a slice from a to b
 unfoldable pub bytes-between : List ℕ → ℕ → ℕ → List ℕ
 bytes-between s a b = take (b - a) (drop a s)
 
--- the value that the function is applied to
+-- the value that the function is applied to; the body of a case
 abbrev pub argument-bytes : List ℕ → Meeting → List ℕ
-argument-bytes s m = bytes-between s (m .argument) (m .end)
+argument-bytes s m = bytes-between s (m .second) (m .end)
 
 -- a name
 abbrev pub name-bytes : ℕ → List ℕ
@@ -52,7 +55,7 @@ named k c = record { name = k; component = c }
 
 -- what a move makes of an image
 pub record Effect : Type 0 where
-  -- what stands in place of the application
+  -- what stands in place of the application or case
   pub redex : List ℕ
   -- the nodes that come and those that go
   pub gained : ℕ
@@ -62,14 +65,26 @@ pub record Effect : Type 0 where
   -- the other names that change
   pub changed : List Named
 
+-- rules 8 and 9, E[case v₁, v₂ of x, y ⇒ e] → E[e[v₁/x][v₂/y]]: v₂ stands at `rest`. A value comes for each x and each y; these, the values, their pair or
+-- front and the case go.
+unfoldable pub taken-apart : List ℕ → Meeting → ℕ → Effect
+taken-apart s m rest =
+    record {
+      redex = bytes (substitute-both (term-at s (m .at + to-component)) (term-at s rest) (term-at s (m .second)));
+      gained = uses 0 (term-at s (m .second)) * nodes (term-at s rest) + uses 1 (term-at s (m .second)) * nodes (term-at s (m .at + to-component));
+      lost = uses 0 (term-at s (m .second)) + uses 1 (term-at s (m .second)) + nodes (term-at s rest) + nodes (term-at s (m .at + to-component)) + 2;
+      new = [];
+      changed = [];
+    }
+
 -- at the meeting m in the image s
 unfoldable pub effect-of : List ℕ → Meeting → Move → Effect
 -- BETA: E[(λy.e) v] → E[e[v/y]]. A value comes for each y; these, the value, the lambda and the application go.
 effect-of s m Beta =
     record {
-      redex = bytes (substitute 0 (term-at s (m .argument)) (term-at s (m .at + to-body)));
-      gained = uses 0 (term-at s (m .at + to-body)) * nodes (term-at s (m .argument));
-      lost = uses 0 (term-at s (m .at + to-body)) + nodes (term-at s (m .argument)) + 2;
+      redex = bytes (substitute 0 (term-at s (m .second)) (term-at s (m .at + to-body)));
+      gained = uses 0 (term-at s (m .at + to-body)) * nodes (term-at s (m .second));
+      lost = uses 0 (term-at s (m .at + to-body)) + nodes (term-at s (m .second)) + 2;
       new = [];
       changed = [];
     }
@@ -82,10 +97,10 @@ effect-of s m ThreadNew =
       new = thread-holding no-owner (started-bytes s m) ∷ [];
       changed = [];
     }
--- FUTURE.DEREF: Ef[y] | y ⇐ w → Ef[w] | y ⇐ w. The name y stands right before the argument.
+-- FUTURE.DEREF: Ef[y] | y ⇐ w → Ef[w] | y ⇐ w. The name y stands right before the argument, or the body of a case.
 effect-of s m (FutureDeref from to) =
     record {
-      redex = bytes-between s (m .at) (m .argument - name-length) ++ bytes-between s from to ++ argument-bytes s m;
+      redex = bytes-between s (m .at) (m .second - name-length) ++ bytes-between s from to ++ argument-bytes s m;
       gained = nodes (term-at s from);
       lost = 1;
       new = [];
@@ -127,3 +142,5 @@ effect-of s m (CellExch cell from to) =
       new = [];
       changed = named cell (cell-holding no-owner (argument-bytes s m)) ∷ [];
     }
+effect-of s m (CasePair rest) = taken-apart s m rest
+effect-of s m (CaseList rest) = taken-apart s m rest

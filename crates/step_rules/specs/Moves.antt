@@ -16,7 +16,7 @@ use Rattle.step_rules.specs.Effects.{bytes-between, Named, named, Effect
 abbrev pub effect : List ℕ → Step → Effect
 effect s step = effect-of s (step .meeting) (step .by)
 
--- the thread's expression: what stands in place of the application, the rest of it as it was
+-- the thread's expression: what stands in place of the application or case, the rest of it as it was
 unfoldable pub expression-after : List ℕ → Step → List ℕ
 expression-after s step =
     bytes-between s (offset-at s (step .thread)) (step .meeting .at)

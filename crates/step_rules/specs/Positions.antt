@@ -1,4 +1,4 @@
--- Document 01, the table of node forms: where the parts of an application stand in which two values meet.
+-- The table of node forms: where the parts of an application or case stand in which values meet.
 use Prim.Native.Nat.{ℕ, _+_, _*_}
 
 -- the bytes of an application before its function, of a lambda before its body, of a variable, a name, a constant with a type, and unit
@@ -31,3 +31,17 @@ to-exchanged = 2 * application-length + constant-length
 
 abbrev pub to-exchanged-name : ℕ
 to-exchanged-name = to-exchanged + 1
+
+-- T-03: the bytes of a case before its subject, of a pair or list front before its components
+abbrev pub case-length : ℕ
+case-length = 1
+
+abbrev pub both-length : ℕ
+both-length = 2
+
+-- from the case to the first component of its subject; and to the number of a name that is its subject
+abbrev pub to-component : ℕ
+to-component = case-length + both-length
+
+abbrev pub to-subject-name : ℕ
+to-subject-name = case-length + 1

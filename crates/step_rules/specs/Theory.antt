@@ -8,7 +8,7 @@ pub mod Changes
 pub mod Meeting
 -- what a writer needs
 pub mod Writers
--- the seven rules
+-- the nine rules
 pub mod Rules
 -- what a search has found
 pub mod Found

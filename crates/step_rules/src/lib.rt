@@ -5,8 +5,8 @@ ghost use mathlib.Core.Path.{_≡_};
 ghost use Rattle.calculus.specs.Reduction.{number};
 ghost use Rattle.step_rules.specs.Effects.{rule-of};
 
-// A move by a rule of Fig. 5, with what it needs besides the place: from where to where the value that is copied stands, the handle and its future, the cell and
-// from where to where its value stands.
+// A move by a rule of Fig. 5 or by T-03's 8 and 9, with what it needs besides the place: from where to where the value that is copied stands, the handle and
+// its future, the cell and from where to where its value stands, where the second component stands of what is taken apart.
 pub enum Move {
     Beta,
     ThreadNew,
@@ -15,16 +15,18 @@ pub enum Move {
     HandleBind(usize, usize),
     CellNew,
     CellExch(usize, usize, usize),
+    CasePair(usize),
+    CaseList(usize),
 }
 
-// A step: the thread that goes, the place in its expression where two values meet, and the move.
+// A step: the thread that goes, the place in its expression where values meet, and the move.
 pub struct Step {
     pub thread: usize,
     pub meeting: Meeting,
     pub by: Move,
 }
 
-// Places in an application where two values meet, by the table of node forms.
+// Places in an application or case where values meet, by the table of node forms.
 impl Step {
     // The bytes of an application before its function, of a lambda before its body, of a variable, a name, a constant with a type, and unit.
     pub const APPLICATION: usize = 1;
@@ -49,6 +51,16 @@ impl Step {
     pub const EXCHANGED: usize = 2 * Step::APPLICATION + Step::CONSTANT;
 
     pub const EXCHANGED_NAME: usize = Step::EXCHANGED + 1;
+
+    // The bytes of a case before its subject, of a pair or list front before its components.
+    pub const CASE: usize = 1;
+
+    pub const BOTH: usize = 2;
+
+    // From the case to the first component of its subject; and to the number of a name that is its subject.
+    pub const COMPONENT: usize = Step::CASE + Step::BOTH;
+
+    pub const SUBJECT_NAME: usize = Step::CASE + 1;
 }
 
 // The number of a move's rule.
@@ -63,5 +75,7 @@ pub fn rule_of(by: Move) -> u8
         Move::HandleBind(_, _) => Rule::HANDLE_BIND,
         Move::CellNew => Rule::CELL_NEW,
         Move::CellExch(_, _, _) => Rule::CELL_EXCH,
+        Move::CasePair(_) => Rule::CASE_PAIR,
+        Move::CaseList(_) => Rule::CASE_LIST,
     }
 }

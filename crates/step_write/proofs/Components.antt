@@ -32,7 +32,7 @@ pub same-expression : {x y : Encoded} → x ≡ y → y .expression ≡ x .expre
 same-expression e = ap (λ (z : Encoded). z .expression) (sym e)
 
 -- the new thread of rule 2
-pub started-length : {s : List ℕ} {step : Step} → CanWrite s step → length (started-bytes s (step .meeting)) ≡ step .meeting .end - step .meeting .argument + (application-length + name-length)
+pub started-length : {s : List ℕ} {step : Step} → CanWrite s step → length (started-bytes s (step .meeting)) ≡ step .meeting .end - step .meeting .second + (application-length + name-length)
 started-length w = simp (length-append, argument-length w) (omega arith)
 
 -- room for the image, and its three writes

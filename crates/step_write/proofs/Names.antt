@@ -1,7 +1,7 @@
 -- What a step makes of a name, by the move and by what the code's tests find.
-use mathlib.Core.Path.{_≡_, refl, subst, sym}
+use mathlib.Core.Path.{_≡_, ap, refl, subst, sym}
 use mathlib.Core.Bool.{Bool, cond, true, false}
-use mathlib.Core.List.{List}
+use mathlib.Core.List.{List, []}
 use Prim.Native.Nat.{ℕ, _+_, _<_}
 use native.Mathlib.Omega.{arith}
 use borrow.Author.Tests.{eq-eqb, eqb-false, ne-eqb}
@@ -11,7 +11,7 @@ use Rattle.calculus.specs.Kinds.{thread-kind, cell-kind, open-handle-kind, used
 use Rattle.image_layout.specs.Encoded.{Encoded}
 use Rattle.image_layout.specs.Slice.{names, encoded-at}
 use Rattle.step_rules.specs.declared.Move.{Move}
-use Rattle.step_rules.specs.declared.Move.the-variants.{Beta, ThreadNew, FutureDeref, HandleNew, HandleBind, CellNew, CellExch}
+use Rattle.step_rules.specs.declared.Move.the-variants.{ThreadNew, HandleNew, HandleBind, CellNew, CellExch}
 use Rattle.step_rules.specs.declared.Step.{Step}
 use Rattle.step_rules.specs.Effects.{effect-of}
 use Rattle.step_rules.specs.Moves.{look-up, from-name, other-after, component-after, names-after}
@@ -56,13 +56,10 @@ module _ (s : List ℕ) (step : Step) (k : ℕ) where
           rw (ne-eqb k (step .thread) other)
           (subst (λ (m : Move). Becomes s step k r (look-up (effect-of s (step .meeting) m .changed) k (look-up (from-name (names s) (effect-of s (step .meeting) m .new)) k (encoded-at s k)))) (sym e) h)
 
-    pub by-beta : step .by ≡ Beta → Result Kept
-    unfolding effect-of look-up from-name
-    by-beta e = becomes e (it-stays (omega (arith, below e)))
-
-    pub by-deref : {from to : ℕ} → step .by ≡ FutureDeref from to → Result Kept
-    unfolding effect-of look-up from-name
-    by-deref e = becomes e (it-stays (omega (arith, below e)))
+    -- rules 1, 3, 8 and 9: every other name stays
+    pub by-none : {by : Move} → step .by ≡ by → effect-of s (step .meeting) by .new ≡ [] → effect-of s (step .meeting) by .changed ≡ [] → Result Kept
+    unfolding look-up from-name
+    by-none e none same = becomes e (rw (same, none) (it-stays (omega (arith, below e, ap length none))))
 
     pub by-bind : (handle future : ℕ) {r r₂ : Change} → step .by ≡ HandleBind handle future
         → r₂ ≡ cond (eqb k future) (Holds thread-kind) Kept → r ≡ cond (eqb k handle) (Bare used-handle-kind no-owner) r₂ → Result r

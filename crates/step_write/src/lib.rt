@@ -89,6 +89,8 @@ fn change_of(image: &[u8], step: Step, k: usize) -> Change
         }
         Move::CellNew => when(k == names, Change::Holds(Image::CELL), kept),
         Move::CellExch(cell, _, _) => when(k == cell, Change::Holds(Image::CELL), kept),
+        Move::CasePair(_) => kept,
+        Move::CaseList(_) => kept,
     }
 }
 
@@ -105,8 +107,8 @@ fn put_started(out: &mut [u8], at: usize, image: &[u8], step: Step) -> usize
 
 // How many bytes it has.
 fn started_size(meeting: Meeting) -> usize
-    requires { ⌜ (meeting .argument ≤ meeting .end) × (meeting .end < two-byte-values) ⌝ }
-    ensures { λ r. ⌜ r ≡ meeting .end - meeting .argument + (application-length + name-length) ⌝ }
+    requires { ⌜ (meeting .second ≤ meeting .end) × (meeting .end < two-byte-values) ⌝ }
+    ensures { λ r. ⌜ r ≡ meeting .end - meeting .second + (application-length + name-length) ⌝ }
 {
     argument_size(meeting) + (Step::APPLICATION + Step::NAME)
 }

@@ -6,13 +6,13 @@ use Prim.Native.Nat.{_*_, _+_, ℕ}
 use native.Mathlib.Omega.{arith}
 use lib.Dec.{T}
 use Rattle.calculus.specs.Bytes.{two-bytes, word}
-use Rattle.calculus.specs.Syntax.{num, op, exch, handle, app, const, Exp, lam, name, var}
+use Rattle.calculus.specs.Syntax.{num, op, exch, handle, app, both, case-of, const, Exp, lam, list, name, pair, var}
 use Rattle.term.specs.declared.Front.the-variants.{Is}
 use Rattle.term.specs.Numbers.{value-of}
 use Rattle.term.specs.Forms.{form-of, forms, num-tag, to-nothing}
 use Rattle.term.specs.Tree.{forms-below}
 use Rattle.term.specs.Reader.{node-of, of-edition, one-term, read, read-term}
-use Rattle.term.specs.Expressions.{bytes, const-bytes, exp-of, leaf-exp, leaf-forms, op-tag, term-at, term-of, two-exp}
+use Rattle.term.specs.Expressions.{bytes, const-bytes, exp-of, leaf-exp, leaf-forms, op-tag, both-tag, case-tag, term-at, term-of, two-exp, two-forms}
 use Rattle.term.proofs.Nodes.{head-node}
 
 -- case B: exch applied to the setting and to 250
@@ -27,7 +27,7 @@ unfolding bytes const-bytes op-tag two-bytes
 case-B = refl
 
 case-B-back : term-at bytes-B 0 ≡ term-B
-unfolding term-of read-term read form-of forms value-of word exp-of leaf-exp leaf-forms two-exp
+unfolding term-of read-term read form-of forms value-of word exp-of leaf-exp leaf-forms two-exp two-forms
 case-B-back = refl
 
 -- case C: handle applied to a function that binds its future to itself
@@ -42,8 +42,24 @@ unfolding bytes const-bytes op-tag two-bytes
 case-C = refl
 
 case-C-back : term-at bytes-C 0 ≡ term-C
-unfolding term-of read-term read form-of forms value-of word exp-of leaf-exp leaf-forms two-exp
+unfolding term-of read-term read form-of forms value-of word exp-of leaf-exp leaf-forms two-exp two-forms
 case-C-back = refl
+
+-- T-03: case (250, 7) of (x, y) ⇒ case x :: (y :: x) of (x, y) ⇒ y, node by node; types are numbered 5 and 6
+abbrev term-pair : Exp
+term-pair = case-of pair (both pair 5 (const (num 250)) (const (num 7))) (case-of list (both list 6 (var 1) (both list 6 (var 0) (var 1))) (var 0))
+
+abbrev bytes-pair : List ℕ
+bytes-pair =
+    0x0C ∷ 0x0A ∷ 0x05 ∷ 0x04 ∷ 0xFA ∷ 0x00 ∷ 0x04 ∷ 0x07 ∷ 0x00 ∷ 0x0D ∷ 0x0B ∷ 0x06 ∷ 0x00 ∷ 0x01 ∷ 0x0B ∷ 0x06 ∷ 0x00 ∷ 0x00 ∷ 0x00 ∷ 0x01 ∷ 0x00 ∷ 0x00 ∷ []
+
+case-pair : bytes term-pair ≡ bytes-pair
+unfolding bytes const-bytes both-tag case-tag two-bytes
+case-pair = refl
+
+case-pair-back : term-at bytes-pair 0 ≡ term-pair
+unfolding term-of read-term read form-of forms value-of word exp-of leaf-exp leaf-forms two-exp two-forms
+case-pair-back = refl
 
 -- cause 5: exactly one term, or not
 abbrev every-is : Bool → List (List ℕ) → Bool
@@ -59,11 +75,13 @@ every-is answer (l ∷ ls) = same answer (one-term (read-term l)) && every-is an
 abbrev terms : List (List ℕ)
 terms = (0x03 ∷ []) ∷ (0x02 ∷ 0x03 ∷ 0x03 ∷ []) ∷ (0x00 ∷ 0x00 ∷ []) ∷ (0x04 ∷ 0xE8 ∷ 0x03 ∷ []) ∷ (0x04 ∷ 0xE9 ∷ 0x03 ∷ []) ∷ (0x04 ∷ 0xFF ∷ 0xFF ∷ []) ∷ []
 
--- nothing, an unknown tag, a cut term, a cut head, bytes over, and a num cut
+-- nothing, an unknown tag, a pair and a case cut, a cut term, a cut head, bytes over, and a num cut
 abbrev damaged : List (List ℕ)
 damaged =
     []
-    ∷ (0x0A ∷ [])
+    ∷ (0x0E ∷ [])
+    ∷ (0x0A ∷ 0x03 ∷ 0x03 ∷ [])
+    ∷ (0x0C ∷ 0x03 ∷ [])
     ∷ (0x02 ∷ 0x03 ∷ [])
     ∷ (0x01 ∷ [])
     ∷ (0x03 ∷ 0x03 ∷ [])
@@ -78,8 +96,9 @@ are-damaged : T (every-is false damaged)
 unfolding one-term read-term read form-of forms value-of word
 are-damaged = tt
 
--- an edition has the first so many forms: without the tenth, case B is no term for the name in it, and case C, which has none, is one
-by-edition : T (one-term (of-edition 10 (read-term bytes-B)) && (not (one-term (of-edition 9 (read-term bytes-B))) && one-term (of-edition 9 (read-term bytes-C))))
+-- an edition has the first so many forms: with ten, case B is a term and the pair is none; with fourteen the pair is one, with thirteen not for its last case
+by-edition : T (one-term (of-edition 10 (read-term bytes-B)) && (not (one-term (of-edition 10 (read-term bytes-pair))) &&
+    (one-term (of-edition 14 (read-term bytes-pair)) && not (one-term (of-edition 13 (read-term bytes-pair))))))
 unfolding one-term of-edition forms-below read-term read form-of forms value-of word
 by-edition = tt
 

@@ -11,7 +11,7 @@ use Rattle.calculus.specs.Names.{count}
 use Rattle.calculus.specs.Limits.{byte-values}
 use Rattle.calculus.specs.Image.{nodes, WritableConst}
 use Rattle.calculus.specs.Theory.Expressions.{count-other}
-use Rattle.term.specs.Forms.{form-of, forms, variable-tag, unit-tag, num-tag, cell-tag, handle-tag, name-tag, tags}
+use Rattle.term.specs.Forms.{form-of, forms, variable-tag, unit-tag, num-tag, cell-tag, handle-tag, name-tag, pair-tag}
 use Rattle.term.specs.Tree.{InTable, leaf}
 use Rattle.term.specs.Expressions.{const-tree, leaf-exp, leaf-forms, nesting, op-tag, tree-of, FitsBytes}
 use Rattle.term.proofs.Table.{below, end-of-row, every, every-at, Row, _∣_}
@@ -30,13 +30,13 @@ pub leaf-nesting : (tag arg : ℕ) → nesting (leaf-exp tag arg) ≡ 1
 unfolding nesting leaf-forms
 leaf-nesting tag arg = eqb→eq (nesting (leaf-exp tag arg)) 1 (leaf-rule (λ e. eqb (nesting e) 1) tag arg tt tt)
 
--- what is no tag
+-- what is no leaf's tag
 past-end : {A : Type 0} (xs : List A) (d : A) (k : ℕ) → length xs ≤ k → getD xs k d ≡ d
 past-end [] d k h = refl
 past-end (x ∷ xs) d zero h = absurd (omega arith)
 past-end (x ∷ xs) d (suc k) h = past-end xs d k (omega arith)
 
-pub leaf-unknown : (tag arg : ℕ) → tags ≤ tag → leaf-exp tag arg ≡ const unit
+pub leaf-unknown : (tag arg : ℕ) → pair-tag ≤ tag → leaf-exp tag arg ≡ const unit
 unfolding leaf-exp leaf-forms
 leaf-unknown tag arg h = past-end (leaf-forms arg) (const unit) tag h
 

@@ -8,7 +8,7 @@ use Rattle.term.specs.Forms.{form, form-of, forms, tags}
 use Rattle.term.proofs.Table.{below, end-of-row, Row, _∣_}
 
 abbrev packed : List ℕ
-packed = 65 ∷ 149 ∷ 8 ∷ 0 ∷ 2 ∷ 129 ∷ 129 ∷ 129 ∷ 129 ∷ 193 ∷ []
+packed = 65 ∷ 149 ∷ 8 ∷ 0 ∷ 2 ∷ 129 ∷ 129 ∷ 129 ∷ 129 ∷ 193 ∷ 137 ∷ 137 ∷ 40 ∷ 40 ∷ []
 
 abbrev unpacked : ℕ → Form
 unpacked x = form (x % 4) (x / 4 % 4) (x / 16 % 4) (x / 64)
@@ -18,4 +18,4 @@ unfolding form-of forms
 unpacked-form = below row
   where
     row : Row (λ tag. unpacked (getD packed tag 0) ≡ form-of tag) 0 tags
-    row = refl ∣ refl ∣ refl ∣ refl ∣ refl ∣ refl ∣ refl ∣ refl ∣ refl ∣ refl ∣ end-of-row
+    row = refl ∣ refl ∣ refl ∣ refl ∣ refl ∣ refl ∣ refl ∣ refl ∣ refl ∣ refl ∣ refl ∣ refl ∣ refl ∣ refl ∣ end-of-row

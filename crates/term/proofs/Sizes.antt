@@ -3,7 +3,7 @@ use mathlib.Core.Path.{_≡_, refl, sym}
 use native.Mathlib.Omega.{arith}
 use lib.ListN.{length, length-append}
 use Rattle.calculus.specs.Bytes.{two-bytes}
-use Rattle.calculus.specs.Syntax.{Const, unit, num, op, Exp, var, name, const, lam, app}
+use Rattle.calculus.specs.Syntax.{Const, unit, num, op, Exp, var, name, const, lam, app, both, case-of}
 use Rattle.calculus.specs.Image.{const-size, nodes, size}
 use Rattle.term.specs.Tree.{Tree, leaf, one, tree-depth, tree-nodes, two}
 use Rattle.term.specs.Expressions.{bytes, const-bytes, exp-of, nesting}
@@ -36,3 +36,5 @@ length-bytes (name k) = refl
 length-bytes (const c) = const-length c
 length-bytes (lam t e) = omega (arith, length-bytes e)
 length-bytes (app f a) = simp (length-append, length-bytes f, length-bytes a) (omega arith)
+length-bytes (both s t e₁ e₂) = simp (length-append, length-bytes e₁, length-bytes e₂) (omega arith)
+length-bytes (case-of s e₁ e₂) = simp (length-append, length-bytes e₁, length-bytes e₂) (omega arith)

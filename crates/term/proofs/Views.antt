@@ -7,17 +7,17 @@ use native.Mathlib.Omega.{arith}
 use lib.ListN.{drop, length, length-drop}
 use lib.Seq.{drop-drop}
 use Rattle.calculus.specs.Bytes.{Bytes, two-byte-values}
-use Rattle.calculus.specs.Syntax.{app, lam}
+use Rattle.calculus.specs.Syntax.{app, both, case-of, lam, list, pair, Shape}
 use Rattle.term.specs.declared.Front.the-variants.{Bad, Is}
 use Rattle.term.specs.declared.Node.{Node}
 use Rattle.term.specs.Forms.{application-tag, binders-of, form-of, forms, lambda-tag, refers-of, subterms-of, to-name}
 use Rattle.term.specs.Tree.{HasForm, leaf, one, Shaped, tree-nodes, tree-size, two}
 use Rattle.term.specs.Reader.{end-at, first-tree, Good, GoodAt, node-at, tree-at}
-use Rattle.term.specs.Expressions.{exp-of, leaf-exp, term-at, term-of, two-exp}
+use Rattle.term.specs.Expressions.{both-tag, case-tag, exp-of, leaf-exp, term-at, term-of, two-exp}
 use Rattle.term.proofs.Nodes.{arg-small, binders-at-most, head-is, refers-at-most, subterms-at-most}
 use Rattle.term.proofs.Reading.{nodes-size, shaped-term, size-some}
 use Rattle.term.proofs.Terms.{bytes-drop}
-use Rattle.term.proofs.Shapes.{one-tag, two-app, two-tag}
+use Rattle.term.proofs.Shapes.{one-tag, two-app, two-both, two-case, two-tag}
 use Rattle.term.proofs.Fronts.{after, front-not-bad, good-fits, leaf-front, one-front, two-front}
 
 -- a node at a position: it takes a byte or more, it ends inside, and it has 0, 1 or 2 subterms and binders, as the table says of its tag
@@ -64,6 +64,22 @@ pub record AppAt (l : List ℕ) (at : ℕ) (h : Node) : Type 0 where
 
 pub app-from : {l : List ℕ} {at : ℕ} {h : Node} → TwoAt l at h → h .tag ≡ application-tag → AppAt l at h
 app-from {h = h} o t = record { two = o; term = o .term ∙ two-app (h .arg) _ _ t }
+
+-- a pair or list front
+pub record BothAt (s : Shape) (l : List ℕ) (at : ℕ) (h : Node) : Type 0 where
+  pub two : TwoAt l at h
+  pub term : term-at l at ≡ both s (h .arg) (term-at l (at + h .size)) (term-at l (past-first l at h))
+
+pub both-from : {s : Shape} {l : List ℕ} {at : ℕ} {h : Node} → TwoAt l at h → h .tag ≡ both-tag s → BothAt s l at h
+both-from {s = s} {h = h} o t = record { two = o; term = o .term ∙ two-both s (h .arg) _ _ t }
+
+-- what takes one apart
+pub record CaseAt (s : Shape) (l : List ℕ) (at : ℕ) (h : Node) : Type 0 where
+  pub two : TwoAt l at h
+  pub term : term-at l at ≡ case-of s (term-at l (at + h .size)) (term-at l (past-first l at h))
+
+pub case-from : {s : Shape} {l : List ℕ} {at : ℕ} {h : Node} → TwoAt l at h → h .tag ≡ case-tag s → CaseAt s l at h
+case-from {s = s} {h = h} o t = record { two = o; term = o .term ∙ two-case s (h .arg) _ _ t }
 
 -- a term at a position ends inside, past the position, and has no more nodes than bytes
 pub end-inside : {l : List ℕ} {at : ℕ} → GoodAt l at → end-at l at ≤ length l
@@ -117,14 +133,24 @@ pub application-two : {l : List ℕ} {at : ℕ} {h : Node} → NodeAt l at h →
 unfolding form-of forms
 application-two n t = sym (n .form .shape) ∙ ap subterms-of t
 
--- a node with subterms that is no lambda is an application
-pub rest-application : {l : List ℕ} {at : ℕ} {h : Node} → NodeAt l at h → (h .subterms ≡ 0 → ⊥) → (h .tag ≡ lambda-tag → ⊥) → h .tag ≡ application-tag
-rest-application {h = h} n not-0 not-lambda = by (h .subterms) refl (n .form) (n .few)
+-- what a node with two subterms is
+pub data TwoForm (tag : ℕ) : Type 0 where
+  is-application : tag ≡ application-tag → TwoForm tag
+  is-both : (s : Shape) → tag ≡ both-tag s → TwoForm tag
+  is-case : (s : Shape) → tag ≡ case-tag s → TwoForm tag
+
+pub two-form : (tag : ℕ) → HasForm tag 2 → TwoForm tag
+unfolding both-tag case-tag
+two-form = two-tag TwoForm (is-application refl) (is-both pair refl) (is-both list refl) (is-case pair refl) (is-case list refl)
+
+-- a node with subterms that is no lambda has two
+pub rest-two : {l : List ℕ} {at : ℕ} {h : Node} → NodeAt l at h → (h .subterms ≡ 0 → ⊥) → (h .tag ≡ lambda-tag → ⊥) → h .subterms ≡ 2
+rest-two {h = h} n not-0 not-lambda = by (h .subterms) refl (n .form) (n .few)
   where
-    by : (k : ℕ) → h .subterms ≡ k → HasForm (h .tag) k → k ≤ 2 → h .tag ≡ application-tag
+    by : (k : ℕ) → h .subterms ≡ k → HasForm (h .tag) k → k ≤ 2 → h .subterms ≡ 2
     by zero e f few = absurd (not-0 e)
     by (suc zero) e f few = absurd (not-lambda (one-tag (λ tag. tag ≡ lambda-tag) refl (h .tag) f))
-    by (suc (suc zero)) e f few = two-tag (λ tag. tag ≡ application-tag) refl (h .tag) f
+    by (suc (suc zero)) e f few = e
     by (suc (suc (suc k))) e f few = absurd (omega arith)
 
 pub leaf-from : {l : List ℕ} {at : ℕ} {h : Node} → node-at l at ≡ Is h → GoodAt l at → h .subterms ≡ 0 → LeafAt l at h

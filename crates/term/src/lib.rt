@@ -1,11 +1,11 @@
-// Terms written root first, by document 01's table of node forms. A function that walks a term takes the whole slice and the position of the
+// Terms written root first, by the table of node forms. A function that walks a term takes the whole slice and the position of the
 // next node, reads that node's head, and goes on where the head ends: what falls is the part still unread.
 use numbers::Byte;
 ghost use mathlib.Core.Path.{_≡_};
 ghost use Prim.Native.Nat.{_≤_, _<_};
 ghost use lib.ListN.{length, drop};
 ghost use Rattle.term.specs.Numbers.{value-of};
-ghost use Rattle.term.specs.Forms.{form-of, tags};
+ghost use Rattle.term.specs.Forms.{form-of, is-case-tag, tags};
 ghost use Rattle.term.specs.Reader.{node-at, node-of};
 
 // What the table of node forms says of a tag: the number of bytes after the tag, the number of subterms, how many variables the last subterm has more than
@@ -76,7 +76,15 @@ impl Node {
 
     pub const NAME: u8 = 9;
 
-    pub const TAGS: u8 = 10;
+    pub const PAIR: u8 = 10;
+
+    pub const LIST: u8 = 11;
+
+    pub const CASE_PAIR: u8 = 12;
+
+    pub const CASE_LIST: u8 = 13;
+
+    pub const TAGS: u8 = 14;
 
     // How many numbers can stand after a tag: what two bytes say.
     pub const OPERANDS: usize = Byte::VALUES * Byte::VALUES;
@@ -88,7 +96,7 @@ pub enum Front {
     Bad,
 }
 
-// Document 01, the table of node forms, in the order of the tags. An entry is one byte, since a constant table is laid out anew at each use: as a table of
+// Document 01's and T-03's table of node forms, in the order of the tags. An entry is one byte, since a constant table is laid out anew at each use: as a table of
 // structs that takes longer than all else of reading a node.
 pub const FORMS: [u8; Node::TAGS as usize] = [
     Form::VARIABLE_BYTE, // variable
@@ -101,6 +109,10 @@ pub const FORMS: [u8; Node::TAGS as usize] = [
     Form::TYPE_BYTE, // thread
     Form::TYPE_BYTE, // handle
     Form::NAME_BYTE, // name
+    Form::TYPE_BYTE + 2 * Form::SUBTERM, // pair
+    Form::TYPE_BYTE + 2 * Form::SUBTERM, // list front
+    2 * Form::SUBTERM + 2 * Form::BINDER, // a pair taken apart
+    2 * Form::SUBTERM + 2 * Form::BINDER, // a list taken apart
 ];
 
 pub fn form_of(tag: u8) -> Form
@@ -160,4 +172,11 @@ pub fn node_at(s: &[u8], at: usize) -> Front
     ensures { λ r. ⌜ r ≡ node-at (now (s .entry)) at ⌝ }
 {
     node_of(&s[at..])
+}
+
+// Whether a node with this tag is a case, which takes a pair or list apart.
+pub fn is_case(tag: u8) -> bool
+    ensures { λ r. ⌜ r ≡ is-case-tag tag ⌝ }
+{
+    tag == Node::CASE_PAIR || tag == Node::CASE_LIST
 }

@@ -5,20 +5,24 @@ use Prim.Native.Nat.{_+_, _-_, ℕ}
 use native.Mathlib.Omega.{arith}
 use lib.ListN.{drop, length, length-append, length-drop, take}
 use lib.Seq.{drop-at, drop-drop, take-at}
-use Rattle.calculus.specs.Syntax.{Exp, app, each-app}
-use Rattle.calculus.specs.Reduction.{Context, hole, in-function, in-argument, plug}
-use Rattle.calculus.specs.Names.{count}
-use Rattle.calculus.specs.Image.{Closed, closed-app, nodes, size}
-use Rattle.term.specs.Expressions.{bytes, TermAt, FitsBytes}
+use Rattle.calculus.specs.Syntax.{Exp, app, both, case-of, Shape}
+use Rattle.calculus.specs.Reduction.{Context, hole, in-function, in-argument, in-first, in-second, in-subject, plug}
+use Rattle.calculus.specs.Step.{application, Redex, subject}
+use Rattle.calculus.specs.Image.{Closed, closed-app, closed-both, closed-case, nodes, size}
+use Rattle.term.specs.Expressions.{both-tag, bytes, case-tag, TermAt, FitsBytes}
 use Rattle.term.proofs.Sizes.{length-bytes}
-use Rattle.term.proofs.Trees.{fits-app}
+use Rattle.term.proofs.Trees.{fits-app, fits-both, fits-case}
 use Rattle.term_redex.specs.Contexts.{back, context-nodes, front, hole-at}
+use Rattle.term_redex.specs.Places.{first-part, second-part}
 
 pub plug-bytes : (F : Context) (e : Exp) → bytes (plug F e) ≡ front F ++ (bytes e ++ back F)
 unfolding bytes plug front back
 plug-bytes hole e = sym (append-nil (bytes e))
 plug-bytes (in-function F a) e = ap (λ (l : List ℕ). 2 ∷ (l ++ bytes a)) (plug-bytes F e) ∙ simp append-assoc
 plug-bytes (in-argument v w F) e = ap (λ (l : List ℕ). 2 ∷ (bytes v ++ l)) (plug-bytes F e) ∙ simp append-assoc
+plug-bytes (in-first s t F e₂) e = ap (λ (l : List ℕ). both-tag s ∷ t ∷ (l ++ bytes e₂)) (plug-bytes F e) ∙ simp append-assoc
+plug-bytes (in-second s t v w F) e = ap (λ (l : List ℕ). both-tag s ∷ t ∷ (bytes v ++ l)) (plug-bytes F e) ∙ simp append-assoc
+plug-bytes (in-subject s F e₂) e = ap (λ (l : List ℕ). case-tag s ∷ (l ++ bytes e₂)) (plug-bytes F e) ∙ simp append-assoc
 
 pub plug-size : (F : Context) (e : Exp) → size (plug F e) ≡ hole-at F + size e + length (back F)
 unfolding hole-at
@@ -31,41 +35,40 @@ unfolding nodes plug context-nodes
 plug-nodes hole e = omega arith
 plug-nodes (in-function F a) e = omega (arith, plug-nodes F e)
 plug-nodes (in-argument v w F) e = omega (arith, plug-nodes F e)
+plug-nodes (in-first s t F e₂) e = omega (arith, plug-nodes F e)
+plug-nodes (in-second s t v w F) e = omega (arith, plug-nodes F e)
+plug-nodes (in-subject s F e₂) e = omega (arith, plug-nodes F e)
 
 -- What fits in bytes
-
-pub fits-in-app : {f a : Exp} → FitsBytes f → FitsBytes a → FitsBytes (app f a)
-unfolding count
-fits-in-app p q = record { writable = each-app (p .writable) (q .writable); names = λ k le. omega (arith, p .names k le, q .names k le) }
 
 pub plug-fits : (F : Context) (e : Exp) → FitsBytes (plug F e) → FitsBytes e
 unfolding plug
 plug-fits hole e p = p
 plug-fits (in-function F a) e p = plug-fits F e (fits-app p .0)
 plug-fits (in-argument v w F) e p = plug-fits F e (fits-app p .1)
-
-pub plug-fits-other : (F : Context) (e r : Exp) → FitsBytes (plug F e) → FitsBytes r → FitsBytes (plug F r)
-unfolding plug
-plug-fits-other hole e r p q = q
-plug-fits-other (in-function F a) e r p q = fits-in-app (plug-fits-other F e r (fits-app p .0) q) (fits-app p .1)
-plug-fits-other (in-argument v w F) e r p q = fits-in-app (fits-app p .0) (plug-fits-other F e r (fits-app p .1) q)
+plug-fits (in-first s t F e₂) e p = plug-fits F e (fits-both p .1)
+plug-fits (in-second s t v w F) e p = plug-fits F e (fits-both p .2)
+plug-fits (in-subject s F e₂) e p = plug-fits F e (fits-case p .0)
 
 -- Variables bound inside
 
 pub closed-parts : {f a : Exp} → Closed 0 (app f a) → Closed 0 f × Closed 0 a
 closed-parts (closed-app p q) = (p, q)
 
+pub closed-components : {s : Shape} {t : ℕ} {e f : Exp} → Closed 0 (both s t e f) → Closed 0 e × Closed 0 f
+closed-components (closed-both p q) = (p, q)
+
+pub closed-subject : {s : Shape} {e f : Exp} → Closed 0 (case-of s e f) → Closed 0 e × Closed 2 f
+closed-subject (closed-case p q) = (p, q)
+
 pub plug-closed : (F : Context) (e : Exp) → Closed 0 (plug F e) → Closed 0 e
 unfolding plug
 plug-closed hole e c = c
 plug-closed (in-function F a) e c = plug-closed F e (closed-parts c .0)
 plug-closed (in-argument v w F) e c = plug-closed F e (closed-parts c .1)
-
-pub plug-closed-other : (F : Context) (e r : Exp) → Closed 0 (plug F e) → Closed 0 r → Closed 0 (plug F r)
-unfolding plug
-plug-closed-other hole e r c d = d
-plug-closed-other (in-function F a) e r c d = closed-app (plug-closed-other F e r (closed-parts c .0) d) (closed-parts c .1)
-plug-closed-other (in-argument v w F) e r c d = closed-app (closed-parts c .0) (plug-closed-other F e r (closed-parts c .1) d)
+plug-closed (in-first s t F e₂) e c = plug-closed F e (closed-components c .0)
+plug-closed (in-second s t v w F) e c = plug-closed F e (closed-components c .1)
+plug-closed (in-subject s F e₂) e c = plug-closed F e (closed-subject c .0)
 
 -- Where it stands
 
@@ -99,32 +102,43 @@ hole-stands {l} {at} F e t =
       ends = omega (arith, plug-size F e);
     }
 
--- function and argument of an application that stands at a position
-pub record PartsAt (l : List ℕ) (at : ℕ) (f a : Exp) : Type 0 where
-  pub function : TermAt l (at + 1) f
-  pub argument : TermAt l (at + 1 + size f) a
-  pub ends : at + size (app f a) ≡ at + 1 + size f + size a
+-- the two subterms of a node that stands at a position, past the bytes before them
+pub record PartsAt (l : List ℕ) (at before : ℕ) (e f whole : Exp) : Type 0 where
+  pub first : TermAt l (at + before) e
+  pub second : TermAt l (at + before + size e) f
+  pub ends : at + size whole ≡ at + before + size e + size f
 
-pub parts-stand : {l : List ℕ} {at : ℕ} {f a : Exp} → TermAt l at (app f a) → PartsAt l at f a
-unfolding bytes size
-parts-stand {l} {at} {f} {a} t =
-    let rest = drop (at + size (app f a)) l in
-    let s : drop at l ≡ (2 ∷ []) ++ (bytes f ++ (bytes a ++ rest)) = t .stands ∙ ap (λ (x : List ℕ). 2 ∷ x) (simp append-assoc) in
-    let p = part-after l at 1 (2 ∷ []) (bytes f ++ (bytes a ++ rest)) s refl in
-    let q = part-after l (at + 1) (size f) (bytes f) (bytes a ++ rest) p (length-bytes f) in
-    let r : at + size (app f a) ≡ at + 1 + size f + size a = omega arith in
-    let n : length l - at ≡ 1 + length (bytes f ++ (bytes a ++ rest)) = omega (arith, ap length s, length-drop at l) in
-    let fits = fits-app (t .fits) in
+parts-stand : {l : List ℕ} {at : ℕ} (head : List ℕ) (e f whole : Exp) → bytes whole ≡ head ++ (bytes e ++ bytes f) → FitsBytes e → FitsBytes f → TermAt l at whole →
+    PartsAt l at (length head) e f whole
+parts-stand {l} {at} head e f whole is fits fits′ t =
+    let rest = drop (at + size whole) l in
+    let s : drop at l ≡ head ++ (bytes e ++ (bytes f ++ rest)) = t .stands ∙ ap (λ (x : List ℕ). x ++ rest) is ∙ simp append-assoc in
+    let p = part-after l at (length head) head (bytes e ++ (bytes f ++ rest)) s refl in
+    let q = part-after l (at + length head) (size e) (bytes e) (bytes f ++ rest) p (length-bytes e) in
+    let r : at + size whole ≡ at + length head + size e + size f =
+    omega (arith, ap length is, length-bytes whole, length-append head (bytes e ++ bytes f), length-append (bytes e) (bytes f), length-bytes e, length-bytes f) in
+    let n : length l - at ≡ length head + length (bytes e ++ (bytes f ++ rest)) = omega (arith, ap length s, length-drop at l, length-append head (bytes e ++ (bytes f ++ rest))) in
     record {
-      function = record {
+      first = record {
         inside = omega (arith, t .inside, n);
-        stands = p ∙ ap (λ (x : List ℕ). bytes f ++ x) (sym q);
-        fits = fits .0;
+        stands = p ∙ ap (λ (x : List ℕ). bytes e ++ x) (sym q);
+        fits = fits;
       };
-      argument = record {
-        inside = omega (arith, t .inside, n, length-append (bytes f) (bytes a ++ rest), length-bytes f);
-        stands = q ∙ ap (λ (k : ℕ). bytes a ++ drop k l) r;
-        fits = fits .1;
+      second = record {
+        inside = omega (arith, t .inside, n, length-append (bytes e) (bytes f ++ rest), length-bytes e);
+        stands = q ∙ ap (λ (k : ℕ). bytes f ++ drop k l) r;
+        fits = fits′;
       };
       ends = r;
     }
+
+-- function and argument, subject and body
+pub redex-stands : {l : List ℕ} {at : ℕ} {r : Exp} (d : Redex r) → TermAt l at r → PartsAt l at 1 (first-part d) (second-part d) r
+unfolding bytes
+redex-stands (application {f = f} {v = v} wf wv) t = parts-stand (2 ∷ []) f v (app f v) refl (fits-app (t .fits) .0) (fits-app (t .fits) .1) t
+redex-stands (subject {s = s} {v = v} {e = e} w) t = parts-stand (case-tag s ∷ []) v e (case-of s v e) refl (fits-case (t .fits) .0) (fits-case (t .fits) .1) t
+
+-- the components of a pair or list front
+pub components-stand : {l : List ℕ} {at : ℕ} {s : Shape} {t : ℕ} {e f : Exp} → TermAt l at (both s t e f) → PartsAt l at 2 e f (both s t e f)
+unfolding bytes
+components-stand {s = s} {t = t} {e = e} {f = f} h = parts-stand (both-tag s ∷ t ∷ []) e f (both s t e f) refl (fits-both (h .fits) .1) (fits-both (h .fits) .2) h

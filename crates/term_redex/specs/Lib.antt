@@ -6,5 +6,5 @@ pub mod Contexts
 pub mod Shapes
 -- the place of an expression, as positions
 pub mod Places
--- what exch is applied to, at a position
-pub mod Exchanges
+-- the place among terms that stand one after the other
+pub mod Stops

@@ -1,14 +1,6 @@
--- What a search of an expression asks of a node: is it an application, and is it exch applied.
-use mathlib.Core.Bool.{Bool, false, true}
-use Rattle.calculus.specs.Syntax.{Const, unit, num, op, Exp, var, name, const, lam, app, Op, cell, exch, thread, handle}
-
--- an application
-unfoldable pub is-application : Exp → Bool
-is-application (app f a) = true
-is-application (var i) = false
-is-application (name k) = false
-is-application (const c) = false
-is-application (lam t e) = false
+-- What a search of an expression asks of a node: is it exch, does the search stop at it, is it a case.
+use mathlib.Core.Bool.{Bool, false, not, true}
+use Rattle.calculus.specs.Syntax.{Const, unit, num, op, Exp, var, name, const, lam, app, both, case-of, Op, cell, exch, thread, handle}
 
 -- the constant exch, step by step
 unfoldable pub op-is-exch : Op → Bool
@@ -29,11 +21,25 @@ exp-is-exch (var i) = false
 exp-is-exch (name k) = false
 exp-is-exch (lam t e) = false
 exp-is-exch (app f a) = false
+exp-is-exch (both s t e₁ e₂) = false
+exp-is-exch (case-of s e₁ e₂) = false
 
--- exch applied to anything: a value if the argument is one (document 01, "exch applied to a value")
-unfoldable pub is-exchange : Exp → Bool
-is-exchange (app f a) = exp-is-exch f
-is-exchange (var i) = false
-is-exchange (name k) = false
-is-exchange (const c) = false
-is-exchange (lam t e) = false
+-- what is never a value, whatever its subterms are: an application but that of exch (document 01, "exch applied to a value"), a case, a variable
+unfoldable pub is-stop : Exp → Bool
+is-stop (app f a) = not (exp-is-exch f)
+is-stop (case-of s e₁ e₂) = true
+is-stop (var i) = true
+is-stop (name k) = false
+is-stop (const c) = false
+is-stop (lam t e) = false
+is-stop (both s t e₁ e₂) = false
+
+-- a case, whose body is not evaluated
+unfoldable pub is-case : Exp → Bool
+is-case (case-of s e₁ e₂) = true
+is-case (app f a) = false
+is-case (var i) = false
+is-case (name k) = false
+is-case (const c) = false
+is-case (lam t e) = false
+is-case (both s t e₁ e₂) = false

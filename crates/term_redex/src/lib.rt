@@ -1,37 +1,41 @@
-// Document 01, "A step": "Otherwise Fig. 3 gives one place where two values meet". An application whose function is not the constant exch is
-// never a value, so the place is inside it or it is the place itself: the search goes down, and never comes back up.
+// Document 01, "A step": "Otherwise Fig. 3 gives one place where two values meet". An application whose function is not the constant exch is never a value,
+// and a case is none, so the place is inside such a node or it is the node itself: the search goes forward, node by node, and never comes back.
 use term::Form;
 use term::Front;
 use term::Node;
+use term::is_case;
 use term_scan::Extent;
 ghost use mathlib.Core.Path.{_≡_};
-ghost use mathlib.Core.Bool.{false};
 ghost use Rattle.calculus.specs.Step.{place};
 ghost use Rattle.calculus.specs.Image.{is-settled};
 ghost use Rattle.term.specs.declared.Front.the-variants.{Is};
 ghost use Rattle.term.specs.Reader.{end-at, GoodAt, node-at};
 ghost use Rattle.term.specs.Expressions.{term-at};
-ghost use Rattle.term_redex.specs.Shapes.{is-application, is-exchange};
+ghost use Rattle.term_redex.specs.Shapes.{is-case, is-stop};
 ghost use Rattle.term_redex.specs.Places.{place-of, Searchable};
-ghost use Rattle.term_redex.specs.Exchanges.{Inner};
+ghost use Rattle.term_redex.specs.Stops.{Stopped, StoppedBeside, TaggedAt};
 
-// Where two values meet: the application, its argument, and where it ends.
+// Where values meet: the application or the case, its second subterm, and where it ends.
 pub struct Meeting {
     pub at: usize,
-    pub argument: usize,
+    pub second: usize,
     pub end: usize,
 }
 
-// A value, or the place where two values meet.
+// A value, or the place where values meet.
 pub enum Place {
     Done,
     Meet(Meeting),
 }
 
-// From an application to its function; to what exch is applied to, past the application and the constant.
-const FUNCTION: usize = 1;
+// What a search of a term comes to: a node in it that is no value, or, past a value, where the term ends.
+pub enum Stop {
+    At(usize),
+    Past(usize),
+}
 
-const EXCHANGED: usize = 3;
+// From an application or a case to its first subterm.
+const FIRST: usize = 1;
 
 // The node at the front of a term.
 fn known_node(s: &[u8], at: usize) -> Node
@@ -52,7 +56,7 @@ fn known_node(s: &[u8], at: usize) -> Node
 }
 
 // Where a term ends.
-fn end_of(s: &[u8], at: usize) -> usize
+pub fn end_of(s: &[u8], at: usize) -> usize
     requires { ⌜ GoodAt (now s) at ⌝ }
     ensures { λ r. ⌜ r ≡ end-at (now (s .entry)) at ⌝ }
 {
@@ -62,79 +66,98 @@ fn end_of(s: &[u8], at: usize) -> usize
     end
 }
 
-// Whether a term is an application.
-fn is_application(s: &[u8], at: usize) -> bool
-    requires { ⌜ GoodAt (now s) at ⌝ }
-    ensures { λ r. ⌜ r ≡ is-application (term-at (now (s .entry)) at) ⌝ }
+// Whether a term with this tag is no value whatever its subterms are: an application of anything but exch, a case, a variable.
+fn is_stop(s: &[u8], at: usize, tag: u8) -> bool
+    requires { ⌜ TaggedAt (now s) at tag ⌝ }
+    ensures { λ r. ⌜ r ≡ is-stop (term-at (now (s .entry)) at) ⌝ }
 {
-    let node = known_node(s, at);
-    node.tag == Node::APPLICATION
-}
-
-// Whether a term is exch applied to something.
-fn is_exchange(s: &[u8], at: usize) -> bool
-    requires { ⌜ GoodAt (now s) at ⌝ }
-    ensures { λ r. ⌜ r ≡ is-exchange (term-at (now (s .entry)) at) ⌝ }
-{
-    if !is_application(s, at) {
-        return false;
+    match tag {
+        Node::APPLICATION => {
+            let function = known_node(s, at + FIRST);
+            function.tag != Node::EXCH
+        }
+        Node::VARIABLE => true,
+        _ => is_case(tag),
     }
-    let node = known_node(s, at + FUNCTION);
-    node.tag == Node::EXCH
 }
 
-// The term that exch, exch of exch and so on are applied to in the term at a position; the term itself, if none is.
-fn past_exchanges(s: &[u8], at: usize) -> usize
+// A search of a term, node by node. A pair, a list front and exch applied are opened; what is no stop and has no subterm is a value, and a lambda is one with all
+// that is in it.
+fn next_stop(s: &[u8], at: usize) -> Stop
     requires { ⌜ GoodAt (now s) at ⌝ }
-    ensures { λ r. ⌜ Inner (now (s .entry)) at r ⌝ }
-    ensures { λ r. ⌜ is-exchange (term-at (now (s .entry)) r) ≡ false ⌝ }
+    ensures { λ r. ⌜ Stopped (now (s .entry)) at r ⌝ }
 {
     let mut here = at;
-    while is_exchange(s, here) {
-        here += EXCHANGED;
+    let mut waits: usize = 1; // terms still to come, one after the other
+    while 0 < waits {
+        let node = known_node(s, here);
+        if is_stop(s, here, node.tag) {
+            return Stop::At(here);
+        }
+        if node.subterms == 1 {
+            here = end_of(s, here);
+            waits -= 1;
+        } else {
+            here += node.size;
+            waits = waits - 1 + (node.subterms as usize);
+        }
     }
-    here
+    Stop::Past(here)
 }
 
-// Document 01: "a value (name, constant, lambda, or exch applied to a value)".
+// Document 01: "a value (name, constant, lambda, or exch applied to a value)"; T-03: "Pairs and list fronts of two values are values".
 pub fn is_value(s: &[u8], at: usize) -> bool
     requires { ⌜ GoodAt (now s) at ⌝ }
     ensures { λ r. ⌜ r ≡ is-settled (place (term-at (now (s .entry)) at)) ⌝ }
 {
-    let inner = past_exchanges(s, at);
-    if is_application(s, inner) {
-        return false;
-    }
-    let node = known_node(s, inner);
-    node.tag != Node::VARIABLE
+    let Stop::At(_) = next_stop(s, at) else {
+        return true;
+    };
+    false
 }
 
-// The search goes into a function before it goes into the argument beside it, and never into a lambda: each node is met a few times at most.
+// A search of a stop's second subterm, where the first is a value: an argument is searched, the body of a case is passed whatever it is.
+fn second_stop(s: &[u8], node: usize, second: usize) -> Stop
+    requires { ⌜ GoodAt (now s) node × GoodAt (now s) second ⌝ }
+    ensures { λ r. ⌜ StoppedBeside (now (s .entry)) second (is-case (term-at (now (s .entry)) node)) r ⌝ }
+{
+    let root = known_node(s, node);
+    if is_case(root.tag) {
+        return Stop::Past(end_of(s, second));
+    }
+    next_stop(s, second)
+}
+
+// Each stop inside the last one is nearer to the place; where there is none, the last one is it.
 pub fn find_place(s: &[u8], at: usize) -> Place
     requires { ⌜ Searchable (now s) at ⌝ }
     ensures { λ r. ⌜ r ≡ place-of at (place (term-at (now (s .entry)) at)) ⌝ }
 {
-    let mut node = past_exchanges(s, at);
-    if !is_application(s, node) {
+    let Stop::At(outermost) = next_stop(s, at) else {
         return Place::Done;
-    }
+    };
+    let mut node = outermost;
     loop {
-        let function = past_exchanges(s, node + FUNCTION);
-        if is_application(s, function) {
-            node = function;
-            continue;
+        let first = next_stop(s, node + FIRST);
+        match first {
+            Stop::At(inner) => {
+                node = inner;
+            }
+            Stop::Past(second) => {
+                let beside = second_stop(s, node, second);
+                match beside {
+                    Stop::At(inner) => {
+                        node = inner;
+                    }
+                    Stop::Past(end) => {
+                        return Place::Meet(Meeting {
+                            at: node,
+                            second,
+                            end,
+                        });
+                    }
+                }
+            }
         }
-        let argument = end_of(s, function);
-        let inner = past_exchanges(s, argument);
-        if is_application(s, inner) {
-            node = inner;
-            continue;
-        }
-        let end = end_of(s, inner);
-        return Place::Meet(Meeting {
-            at: node,
-            argument,
-            end,
-        });
     }
 }

@@ -6,7 +6,7 @@ use Prim.Native.Nat.{_+_, _<_, _≤_, suc, zero, ℕ}
 use native.Mathlib.Omega.{arith}
 use borrow.Author.Tests.{lt-ltb}
 use lib.Dec.{ltb}
-use Rattle.calculus.specs.Syntax.{Const, unit, num, op, Each, each-app, each-const, each-lam, each-name, each-var, Exp, var, name, const, lam, app}
+use Rattle.calculus.specs.Syntax.{Const, unit, num, op, Each, each-app, each-both, each-case, each-const, each-lam, each-name, each-var, Exp, var, name, const, lam, app, both, case-of}
 use Rattle.calculus.specs.Bytes.{two-byte-values}
 use Rattle.calculus.specs.Limits.{byte-values}
 use Rattle.calculus.specs.Image.{expression-test, Writable, WritableConst}
@@ -14,8 +14,8 @@ use Rattle.calculus.specs.Verdict.{scoped, scoped-const}
 use Rattle.term.specs.Forms.{binders-of, form-of, forms, refers-of, to-name}
 use Rattle.term.specs.Tree.{HasForm}
 use Rattle.term.specs.Reader.{first-tree, GoodAt, tree-at}
-use Rattle.term.specs.Expressions.{exp-of, leaf-exp, leaf-forms, term-at, term-of, two-exp}
-use Rattle.term.proofs.Shapes.{at-0, at-1, leaf-tag, one-tag, two-tag}
+use Rattle.term.specs.Expressions.{exp-of, leaf-exp, leaf-forms, term-at, term-of, two-exp, two-forms}
+use Rattle.term.proofs.Shapes.{at-0, at-1, at-2, leaf-tag, one-tag, two-tag}
 use Rattle.term_walk.proofs.Law.{from, Walk}
 use Rattle.term_walk.proofs.Asking.{asked, asking}
 use Rattle.term_scan.specs.Scopes.{bound-of, operand-scoped}
@@ -48,12 +48,14 @@ module _ (types names : ℕ) where
   two-scoped : (d arg : ℕ) (e f : Exp) (tag : ℕ) → HasForm tag 2 →
       scoped types names d (two-exp tag arg e f)
       ≡ (operand-scoped types names d (refers-of tag) arg && (scoped types names d e && scoped types names (d + binders-of tag) f))
-  unfolding scoped two-exp operand-scoped bound-of form-of forms
+  unfolding scoped two-exp two-forms operand-scoped bound-of form-of forms
   two-scoped d arg e f =
+      let g : ℕ → Bool = λ x. scoped types names d e && scoped types names x f in
+      let h : ℕ → Bool = λ x. ltb arg types && g x in
       two-tag
       (λ tag. scoped types names d (two-exp tag arg e f)
       ≡ (operand-scoped types names d (refers-of tag) arg && (scoped types names d e && scoped types names (d + binders-of tag) f)))
-      (at-0 (λ x. scoped types names d e && scoped types names x f) d)
+      (at-0 g d) (at-0 h d) (at-0 h d) (at-2 g d) (at-2 g d)
 
   -- the walk whose frames are the numbers of variables around
   abbrev pub scoping : Walk Bool
@@ -81,3 +83,6 @@ scoped-image m depth (name k) each-name = refl
 scoped-image m depth (const c) (each-const w) = const-image c w
 scoped-image m depth (lam t e) (each-lam h w) = ap₂ _&&_ (lt-ltb t byte-values h) (scoped-image m (suc depth) e w)
 scoped-image m depth (app f a) (each-app w v) = ap₂ _&&_ (scoped-image m depth f w) (scoped-image m depth a v)
+scoped-image m depth (both s t e₁ e₂) (each-both h w v) =
+    ap₂ _&&_ (lt-ltb t byte-values h) (ap₂ _&&_ (scoped-image m depth e₁ w) (scoped-image m depth e₂ v))
+scoped-image m depth (case-of s e₁ e₂) (each-case w v) = ap₂ _&&_ (scoped-image m depth e₁ w) (scoped-image m (suc (suc depth)) e₂ v)

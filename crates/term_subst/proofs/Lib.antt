@@ -1,8 +1,8 @@
--- Laws of the walks that count and replace a variable.
+-- Laws of the walks that count and replace two variables.
 
--- the variable at a node
+-- a variable at a node
 pub mod Nodes
--- counting its places
+-- counting the places
 pub mod Counting
 -- the bytes of a node and of a term
 pub mod Copies

@@ -21,4 +21,4 @@ none-one d arg = one-tag (λ tag. is-variable (refers-of tag) arg d ≡ false) r
 
 pub none-two : (d arg tag : ℕ) → HasForm tag 2 → is-variable (refers-of tag) arg d ≡ false
 unfolding is-variable form-of forms
-none-two d arg = two-tag (λ tag. is-variable (refers-of tag) arg d ≡ false) refl
+none-two d arg = two-tag (λ tag. is-variable (refers-of tag) arg d ≡ false) refl refl refl refl refl

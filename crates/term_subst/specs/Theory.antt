@@ -1,4 +1,4 @@
--- What is proved of a substitution; nobody needs to read it in order to believe the definitions.
+-- What is proved of a substitution in bytes; nobody needs to read it in order to believe the definitions.
 
--- the outcome: its nodes, its size, and that a variable has no more places than there are nodes
+-- the outcome: it is the rules', its length, and that the two variables have no more places than there are nodes
 pub mod Outcome

@@ -1,5 +1,6 @@
-// Rule BETA on bytes: how often the variable of a lambda stands in its body, and the body with a closed value in its place. Both are walks (crate
-// term_walk), whose frames are the numbers of variables around the terms still to come, so that no term is too deep for them.
+// Rules 1, 8 and 9 on bytes: how often the two innermost variables around a term stand in it, and the term with closed values in their places. BETA has one
+// such variable, taking apart has two. Both are walks (crate term_walk), whose frames are the numbers of variables around the terms still to come, so that no
+// term is too deep for them.
 use buffer::put_part;
 use term::Form;
 use term::Front;
@@ -7,16 +8,16 @@ use term_walk::Frames;
 use term_walk::pass;
 ghost use mathlib.Core.Path.{_≡_};
 ghost use mathlib.Core.Bool.{cond};
-ghost use Prim.Native.Nat.{_+_, _≤_};
+ghost use Prim.Native.Nat.{_*_, _+_, _≤_};
 ghost use lib.ListN.{length};
 ghost use Rattle.calculus.specs.Limits.{max-nodes};
-ghost use Rattle.calculus.specs.Reduction.{substitute};
 ghost use Rattle.calculus.specs.Names.{uses};
-ghost use Rattle.calculus.specs.Image.{nodes, size};
+ghost use Rattle.calculus.specs.Image.{nodes};
 ghost use Rattle.term.specs.Reader.{end-at, GoodAt};
 ghost use Rattle.term.specs.Expressions.{bytes, term-at};
 ghost use Rattle.buffer.specs.Written.{Wrote};
-ghost use Rattle.term_subst.specs.Variable.{is-variable, span};
+ghost use Rattle.term_subst.specs.Variable.{is-variable};
+ghost use Rattle.term_subst.specs.Replaced.{replaced};
 
 // Whether a node refers to the variable with number `depth` around it.
 fn is_variable(refers: u8, arg: usize, depth: usize) -> bool
@@ -30,7 +31,7 @@ fn is_variable(refers: u8, arg: usize, depth: usize) -> bool
 
 // How often it does: once or not.
 fn use_of(refers: u8, arg: usize, depth: usize) -> usize
-    ensures { λ r. ⌜ r ≡ cond (is-variable refers arg depth) 1 0 ⌝ }
+    ensures { λ r. ⌜ (r ≡ cond (is-variable refers arg depth) 1 0) × (r ≤ 1) ⌝ }
 {
     if is_variable(refers, arg, depth) {
         return 1;
@@ -38,34 +39,36 @@ fn use_of(refers: u8, arg: usize, depth: usize) -> usize
     0
 }
 
-// How often the variable of a lambda stands in its body, the term at `at`.
-pub fn count_uses(s: &[u8], at: usize) -> usize
+// How often two variables stand in a term: the innermost around it, and the next.
+pub struct Uses {
+    pub inner: usize,
+    pub outer: usize,
+}
+
+// How often the two innermost variables around the term at `at` stand in it.
+pub fn count_uses(s: &[u8], at: usize) -> Uses
     requires { ⌜ GoodAt (now s) at × (nodes (term-at (now s) at) ≤ max-nodes) ⌝ }
-    ensures { λ r. ⌜ r ≡ uses 0 (term-at (now (s .entry)) at) ⌝ }
+    ensures { λ r. ⌜ (r .inner ≡ uses 0 (term-at (now (s .entry)) at)) × (r .outer ≡ uses 1 (term-at (now (s .entry)) at)) ⌝ }
 {
     let mut frames = [0u16; Frames::MAX_WAITS];
     let mut waits: usize = 1;
     let mut here = at;
-    let mut found: usize = 0;
+    let mut inner: usize = 0;
+    let mut outer: usize = 0;
     while 0 < waits {
         let Front::Is(node) = term::node_at(s, here) else {
-            return found;
+            return Uses { inner, outer };
         };
         let around = frames[waits - 1];
         let size = node.size;
         let subterms = node.subterms;
-        let binders = node.binders;
-        found += use_of(node.refers, node.arg, around as usize);
-        waits = pass(
-            &mut frames,
-            waits,
-            subterms,
-            around,
-            around + (binders as u16),
-        );
+        let last = around + (node.binders as u16);
+        inner += use_of(node.refers, node.arg, around as usize);
+        outer += use_of(node.refers, node.arg, (around as usize) + 1);
+        waits = pass(&mut frames, waits, subterms, around, last);
         here += size;
     }
-    found
+    Uses { inner, outer }
 }
 
 // Bytes of a slice, from one position to another.
@@ -74,26 +77,35 @@ pub struct Span {
     pub to: usize,
 }
 
-// What is written for a node: the value for the variable, any other node as it stands.
-fn span_for(variable: bool, from: usize, to: usize, here: usize, past: usize) -> Span
-    ensures { λ r. ⌜ r ≡ cond variable (span from to) (span here past) ⌝ }
+// What is written for a node: the values for the two variables, any other node as it stands.
+fn span_for(refers: u8, arg: usize, depth: usize, itself: Span, inner: Span, outer: Span) -> Span
+    requires { ⌜ depth ≤ 2 * max-nodes ⌝ }
+    ensures { λ r. ⌜ r ≡ cond (is-variable refers arg depth) inner (cond (is-variable refers arg (depth + 1)) outer itself) ⌝ }
 {
-    if variable {
-        return Span { from, to };
+    if is_variable(refers, arg, depth) {
+        return inner;
     }
-    Span {
-        from: here,
-        to: past,
+    if is_variable(refers, arg, depth + 1) {
+        return outer;
     }
+    itself
 }
 
-// Writes the body of a lambda, the term at `at`, with the value from `from` to `to` in each place of the lambda's variable. Nothing else changes: every other
-// node is copied as it stands.
-pub fn put_applied(out: &mut [u8], pos: usize, s: &[u8], at: usize, from: usize, to: usize) -> usize
+// Writes the term at `at` with the value at `inner` in each place of the innermost variable around it, and that at `outer` in those of the next. Nothing else
+// changes: every other node is copied as it stands.
+pub fn put_substituted(
+    out: &mut [u8],
+    pos: usize,
+    s: &[u8],
+    at: usize,
+    inner: Span,
+    outer: Span,
+) -> usize
     requires { ⌜ GoodAt (now s) at × (nodes (term-at (now s) at) ≤ max-nodes) ⌝ }
-    requires { ⌜ GoodAt (now s) from × (to ≡ end-at (now s) from) ⌝ }
-    requires { ⌜ pos + size (substitute 0 (term-at (now s) from) (term-at (now s) at)) ≤ length (now out) ⌝ }
-    ensures { λ r. ⌜ Wrote (now (out .entry)) pos (bytes (substitute 0 (term-at (now (s .entry)) from) (term-at (now (s .entry)) at))) (now (out .exit)) r ⌝ }
+    requires { ⌜ GoodAt (now s) (inner .from) × (inner .to ≡ end-at (now s) (inner .from)) ⌝ }
+    requires { ⌜ GoodAt (now s) (outer .from) × (outer .to ≡ end-at (now s) (outer .from)) ⌝ }
+    requires { ⌜ pos + length (replaced 0 (bytes (term-at (now s) (inner .from))) (bytes (term-at (now s) (outer .from))) (term-at (now s) at)) ≤ length (now out) ⌝ }
+    ensures { λ r. ⌜ Wrote (now (out .entry)) pos (replaced 0 (bytes (term-at (now (s .entry)) (inner .from))) (bytes (term-at (now (s .entry)) (outer .from))) (term-at (now (s .entry)) at)) (now (out .exit)) r ⌝ }
 {
     let mut frames = [0u16; Frames::MAX_WAITS];
     let mut waits: usize = 1;
@@ -105,18 +117,15 @@ pub fn put_applied(out: &mut [u8], pos: usize, s: &[u8], at: usize, from: usize,
         };
         let around = frames[waits - 1];
         let subterms = node.subterms;
-        let binders = node.binders; // more variables around its last subterm
+        let last = around + (node.binders as u16); // variables around its last subterm
         let past = here + node.size;
-        let variable = is_variable(node.refers, node.arg, around as usize);
-        let span = span_for(variable, from, to, here, past);
+        let itself = Span {
+            from: here,
+            to: past,
+        };
+        let span = span_for(node.refers, node.arg, around as usize, itself, inner, outer);
         next = put_part(out, next, s, span.from, span.to);
-        waits = pass(
-            &mut frames,
-            waits,
-            subterms,
-            around,
-            around + (binders as u16),
-        );
+        waits = pass(&mut frames, waits, subterms, around, last);
         here = past;
     }
     next

@@ -2,6 +2,7 @@
 
 use model::answers::{Implementation, Model, Plain, RULE};
 use model::draw::Draw;
+use model::editions::{Edition, FIRST, SECOND};
 use model::examples;
 use model::ffi::Library;
 use model::format::write_parts;
@@ -20,34 +21,39 @@ struct Corpus {
     files: Vec<Vec<u8>>,
 }
 
+/// How many files a drawn corpus has.
+const DRAWN: usize = 2_000;
+
+/// Accepted recipes of an edition.
+fn well_typed(draw: &mut Draw, edition: Edition) -> Vec<Vec<u8>> {
+    let recipes = std::iter::repeat_with(|| recipes::well_typed(draw));
+    let recipes = recipes.filter(|recipe| recipe.edition == edition.number);
+    recipes.take(DRAWN).map(|recipe| recipe.write()).collect()
+}
+
 fn corpora() -> Vec<Corpus> {
     let mut draw = Draw::new(2_006);
     let case_a = examples::all().swap_remove(0).file();
-    let mixed = (0..2_000).map(|_| recipes::file(&mut draw)).collect();
-    let accepted = (0..2_000).map(|_| recipes::well_typed(&mut draw).write());
-    let accepted = accepted.collect();
-    let largest = recipes::largest(&mut draw).write();
+    let corpus = |name, files| Corpus { name, files };
     vec![
-        Corpus {
-            name: "case A, 22 bytes",
-            files: vec![case_a],
-        },
-        Corpus {
-            name: "well-typed recipes",
-            files: accepted,
-        },
-        Corpus {
-            name: "the corpus of the comparison",
-            files: mixed,
-        },
-        Corpus {
-            name: "largest accepted: 1,024 nodes, 256 entries, 16 bays",
-            files: vec![largest],
-        },
-        Corpus {
-            name: "8,192 bytes, 8,171 nodes, refused 6",
-            files: vec![longest()],
-        },
+        corpus("case A, 22 bytes", vec![case_a]),
+        corpus(
+            "well-typed recipes of edition 1",
+            well_typed(&mut draw, FIRST),
+        ),
+        corpus(
+            "well-typed recipes of edition 2",
+            well_typed(&mut draw, SECOND),
+        ),
+        corpus(
+            "the corpus of the comparison",
+            (0..DRAWN).map(|_| recipes::file(&mut draw)).collect(),
+        ),
+        corpus(
+            "largest accepted: 1,024 nodes, 256 entries, 16 bays",
+            vec![recipes::largest(&mut draw).write()],
+        ),
+        corpus("8,192 bytes, 8,171 nodes, refused 6", vec![longest()]),
     ]
 }
 
@@ -56,7 +62,7 @@ fn longest() -> Vec<u8> {
     let table = vec![0, 0, 0, 1, 0, 0, 2, 1, 0];
     let nodes = *limits::FILE_BYTES.end() - 12 - table.len();
     let term = [vec![2; nodes / 2], vec![3; nodes - nodes / 2]].concat();
-    write_parts(&[table, term])
+    write_parts(FIRST.number, &[table, term])
 }
 
 /// One row: the library, the plain implementation and the model on the same input.
@@ -111,21 +117,16 @@ fn images() -> Vec<(&'static str, Vec<u8>, u64)> {
         let loaded = Model.load(file, &mut out).unwrap_or_default();
         out[..loaded.length as usize].to_vec()
     };
-    let named = |name: &str| examples::all().into_iter().find(|e| e.name == name);
-    let recursion = named("recursion").map(|e| image(&e.file()));
-    let mutex = named("mutex").map(|e| image(&e.file()));
+    let mut named = |name: &str| {
+        let example = examples::all().into_iter().find(|e| e.name == name);
+        example.map(|e| image(&e.file())).unwrap_or_default()
+    };
+    let [recursion, mutex, queue] = ["recursion", "mutex", "queue"].map(&mut named);
     let largest = image(&recipes::largest(&mut Draw::new(2_006)).write());
     vec![
-        (
-            "recursion, which runs for ever",
-            recursion.unwrap_or_default(),
-            1,
-        ),
-        (
-            "mutex, one step after the other",
-            mutex.unwrap_or_default(),
-            1,
-        ),
+        ("recursion, which runs for ever", recursion, 1),
+        ("mutex, one step after the other", mutex, 1),
+        ("queue, with rules 8 and 9", queue, 1),
         ("largest recipe's image, first bay", largest, 16),
     ]
 }

@@ -2,6 +2,7 @@
 //! run, prints the numbers, and draws them.
 
 use model::answers::{Implementation, Plain};
+use model::editions;
 use model::ffi::Library;
 use model::format::write_parts;
 use model::timing::{fastest, opaque, Work};
@@ -72,7 +73,7 @@ fn recipe_of_nesting(nesting: usize) -> Vec<u8> {
         table.extend([4, 0, result as u8]);
         term.splice(0..0, [1, (depth + 2) as u8]);
     }
-    write_parts(&[table, term])
+    write_parts(editions::FIRST.number, &[table, term])
 }
 
 fn curves() -> Vec<Curve> {

@@ -6,7 +6,7 @@ use crate::expression::Expression;
 use crate::limits;
 use crate::nodes::Node;
 use crate::reduce::{move_of, Move};
-use crate::types::Constant;
+use crate::types::{Constant, Shape};
 use std::rc::Rc;
 
 /// Makes expressions over a number of names, root first.
@@ -34,49 +34,86 @@ impl<'a> Maker<'a> {
         }
     }
 
-    fn leaf(&mut self, lambdas: usize) {
+    fn leaf(&mut self, variables: usize) {
         let node = match self.draw.below(6) {
             0 => Node::Unit,
             1 if self.draw.one_in(3) => Node::Num(u16::MAX),
             1 => Node::Num(self.draw.between(0, usize::from(u16::MAX)) as u16),
             2 => Node::Constant(self.draw.pick(&CONSTANTS), self.draw.byte()),
-            3 | 4 if lambdas > 0 => Node::Variable(self.draw.below(lambdas.min(256)) as u8),
-            _ => Node::Name(self.draw.below(self.names) as u8),
+            3 | 4 if variables > 0 => Node::Variable(self.draw.below(variables.min(256)) as u8),
+            _ => self.name(),
         };
         self.nodes.push(node);
     }
 
-    fn any(&mut self, lambdas: usize) {
+    fn name(&mut self) -> Node {
+        Node::Name(self.draw.below(self.names) as u8)
+    }
+
+    fn any(&mut self, variables: usize) {
         if self.fuel == 0 {
-            return self.leaf(lambdas);
+            return self.leaf(variables);
         }
         self.fuel -= 1;
-        match self.draw.below(5) {
-            0 => self.leaf(lambdas),
-            1 | 2 => self.lambda(lambdas),
+        match self.draw.below(8) {
+            0 => self.leaf(variables),
+            1 | 2 => self.lambda(variables),
+            3 => {
+                self.compound();
+                self.any(variables);
+                self.any(variables);
+            }
+            4 => {
+                self.case();
+                self.any(variables);
+                self.any(variables + 2);
+            }
             _ => {
                 self.nodes.push(Node::Application);
-                self.any(lambdas);
-                self.any(lambdas);
+                self.any(variables);
+                self.any(variables);
             }
         }
     }
 
-    fn lambda(&mut self, lambdas: usize) {
+    fn lambda(&mut self, variables: usize) {
         self.nodes.push(Node::Lambda(self.draw.byte()));
-        self.any(lambdas + 1);
+        self.any(variables + 1);
+    }
+
+    /// A pair or a front, still without its components.
+    fn compound(&mut self) {
+        let number = self.draw.byte();
+        let node = self.draw.pick(&[Node::Pair(number), Node::Front(number)]);
+        self.nodes.push(node);
+    }
+
+    /// A case, still without its subject and its body.
+    fn case(&mut self) {
+        let shape = self.draw.pick(&[Shape::Pair, Shape::List]);
+        self.nodes.push(Node::Case(shape));
     }
 
     /// A value without free variables.
     fn value(&mut self) {
-        match self.draw.below(6) {
+        match self.draw.below(8) {
             0 | 1 => self.lambda(0),
             2 if self.draw.one_in(2) => {
                 self.exch();
                 self.value();
             }
+            3 | 4 if self.fuel > 0 => {
+                self.fuel -= 1;
+                self.compound_value();
+            }
             _ => self.leaf(0),
         }
+    }
+
+    fn compound_value(&mut self) {
+        self.compound();
+        self.value();
+        self.value();
     }
 
     /// exch, still without its argument.
@@ -86,18 +123,35 @@ impl<'a> Maker<'a> {
         self.nodes.push(exch);
     }
 
-    /// Two values that meet, with layers of Fig. 3's contexts around them.
-    fn meeting(&mut self, layers: usize) {
+    /// A place with layers of Fig. 3's contexts around it.
+    fn in_context(&mut self, layers: usize) {
         if layers == 0 {
-            return self.two_values();
+            return self.place();
         }
-        self.nodes.push(Node::Application);
+        match self.draw.below(6) {
+            0 => {
+                self.case();
+                self.in_context(layers - 1);
+                return self.any(2);
+            }
+            1 | 2 => self.compound(),
+            _ => self.nodes.push(Node::Application),
+        }
         if self.draw.one_in(2) {
-            self.meeting(layers - 1);
+            self.in_context(layers - 1);
             self.any(0);
         } else {
             self.value();
-            self.meeting(layers - 1);
+            self.in_context(layers - 1);
+        }
+    }
+
+    /// Two values that meet, or a case of a value.
+    fn place(&mut self) {
+        if self.draw.one_in(2) {
+            self.case_of_value();
+        } else {
+            self.two_values();
         }
     }
 
@@ -109,9 +163,10 @@ impl<'a> Maker<'a> {
                 let constant = self.draw.pick(&CONSTANTS);
                 self.nodes.push(Node::Constant(constant, self.draw.byte()));
             }
-            3 | 4 => self
-                .nodes
-                .push(Node::Name(self.draw.below(self.names) as u8)),
+            3 | 4 => {
+                let name = self.name();
+                self.nodes.push(name);
+            }
             5 | 6 => {
                 self.exch();
                 self.leaf(0);
@@ -120,16 +175,29 @@ impl<'a> Maker<'a> {
         }
         self.value();
     }
+
+    fn case_of_value(&mut self) {
+        self.case();
+        match self.draw.below(7) {
+            0 | 1 => self.compound_value(),
+            2..=5 => {
+                let name = self.name();
+                self.nodes.push(name);
+            }
+            _ => self.value(),
+        }
+        self.any(2);
+    }
 }
 
 fn thread_nodes(draw: &mut Draw, names: usize, fuel: usize) -> Vec<Node> {
     let layers = draw.pick(&[0, 0, 0, 1, 2, 5]);
-    let form = draw.below(5);
+    let form = draw.below(8);
     let mut maker = Maker::new(draw, names, fuel);
     match form {
-        0 => maker.value(),
-        1 => maker.any(0),
-        _ => maker.meeting(layers),
+        0 | 1 => maker.value(),
+        2 => maker.any(0),
+        _ => maker.in_context(layers),
     }
     maker.nodes
 }
@@ -207,7 +275,8 @@ pub fn outcome_at_limit(draw: &mut Draw) -> Configuration {
     let mut configuration = configuration_of(draw, names, 8);
     let first = configuration.components.first();
     if matches!(first, Some(Component::Thread(_))) && draw.one_in(2) {
-        configuration.components[0] = Component::Thread(tree(&growing(draw)));
+        let grows = draw.pick(&[growing, growing_case]);
+        configuration.components[0] = Component::Thread(tree(&grows(draw)));
     }
     let outcomes: Vec<usize> = (0..names)
         .filter(|name| matches!(configuration.components[*name], Component::Thread(_)))
@@ -235,6 +304,23 @@ fn growing(draw: &mut Draw) -> Vec<Node> {
     term.push(Node::Unit);
     term.extend(std::iter::repeat(Node::Lambda(2)).take(draw.between(5, 20)));
     term.push(Node::Unit);
+    term
+}
+
+/// case (v, w) of (x, y) ⇒ (x, (y, .. unit)), with values large enough that rule 8 or 9 adds nodes.
+fn growing_case(draw: &mut Draw) -> Vec<Node> {
+    let (shape, compound) =
+        draw.pick(&[(Shape::Pair, Node::Pair(3)), (Shape::List, Node::Front(4))]);
+    let mut term = vec![Node::Case(shape), compound];
+    for _ in 0..2 {
+        let lambdas = draw.between(1, 20);
+        term.extend(std::iter::repeat(Node::Lambda(2)).take(lambdas));
+        term.push(Node::Unit);
+    }
+    for _ in 0..draw.between(1, 5) {
+        term.extend([Node::Pair(5), Node::Variable(draw.below(2) as u8)]);
+    }
+    term.push(draw.pick(&[Node::Unit, Node::Variable(0), Node::Variable(1)]));
     term
 }
 

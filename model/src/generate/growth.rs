@@ -5,7 +5,7 @@ use crate::generate::recipes::Draft;
 use crate::limits;
 use crate::nodes::{standings, Node};
 use crate::table::{NUM_ENTRY, SETTING_ENTRY, UNIT_ENTRY};
-use crate::types::{Constant, Multiplicity};
+use crate::types::{Constant, Multiplicity, Shape};
 
 /// The types that growth needs.
 struct Steps {
@@ -13,6 +13,8 @@ struct Steps {
     num_to_num: u8,
     num_to_unit: u8,
     exch: u8,
+    /// unit ×ω unit, where the edition has pairs.
+    units: Option<u8>,
 }
 
 impl Steps {
@@ -25,6 +27,7 @@ impl Steps {
             num_to_num,
             num_to_unit: table.function(many, NUM_ENTRY, UNIT_ENTRY)?,
             exch: table.function(many, SETTING_ENTRY, num_to_num)?,
+            units: table.pair(many, UNIT_ENTRY, UNIT_ENTRY),
         })
     }
 
@@ -40,6 +43,18 @@ impl Steps {
             Node::Variable(0),
             leaf,
         ]
+    }
+
+    /// What stands around a term like this leaf, one level further out: an identity, or a case; one
+    /// node more is one level deeper than the term.
+    fn around(&self, draw: &mut Draw, leaf: Node) -> Vec<Node> {
+        match self.units.filter(|_| draw.one_in(2)) {
+            Some(units) => {
+                let pair = Node::Pair(units);
+                vec![Node::Case(Shape::Pair), pair, Node::Unit, Node::Unit]
+            }
+            None => self.identity(leaf)[..3].to_vec(),
+        }
     }
 
     /// The leaf, or for unit a function that forgets a num: three nodes more.
@@ -103,7 +118,7 @@ pub fn grow_to_nodes(draft: &mut Draft, draw: &mut Draw, wanted: usize) -> Optio
     Some(())
 }
 
-/// Nests identities until the deepest node has that nesting.
+/// Nests identities and cases until the deepest node has that nesting.
 pub fn grow_to_nesting(draft: &mut Draft, draw: &mut Draw, wanted: usize) -> Option<()> {
     let steps = Steps::new(draft)?;
     let places = leaves(draft, false);
@@ -116,7 +131,7 @@ pub fn grow_to_nesting(draft: &mut Draft, draw: &mut Draw, wanted: usize) -> Opt
     let times = wanted.checked_sub(nesting + 1)?;
     let mut nested = vec![leaf];
     for _ in 0..times {
-        let mut around = steps.identity(leaf)[..3].to_vec();
+        let mut around = steps.around(draw, leaf);
         around.append(&mut nested);
         nested = around;
     }

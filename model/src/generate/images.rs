@@ -34,10 +34,10 @@ pub fn damage(image: &mut Vec<u8>, draw: &mut Draw) {
         2 => image[at] = image[at].wrapping_add(1),
         3 => image[at] = image[at].wrapping_sub(1),
         4 => image.truncate(at),
-        5 => image.push(draw.below(10) as u8),
+        5 => image.push(draw.below(14) as u8),
         6 => damage_head(image, draw),
         7 => damage_head(image, draw),
-        8 => image[at] = draw.below(11) as u8,
+        8 => image[at] = draw.below(15) as u8,
         _ => lengthen(image, draw),
     }
 }
@@ -78,7 +78,7 @@ fn damage_head(image: &mut [u8], draw: &mut Draw) {
 /// Bytes beyond the end, also past the longest image, the last length told of them.
 fn lengthen(image: &mut Vec<u8>, draw: &mut Draw) {
     let more = draw.pick(&[1, 2, 300, 4_096, 13_826, 16_000]);
-    let filler = draw.pick(&[2, 3, 1]);
+    let filler = draw.pick(&[2, 3, 1, 12]);
     image.resize(image.len() + more, filler);
     let names = usize::from(image[0]) + 256 * usize::from(image[1]);
     let last = limits::FIRST_HEAD + limits::HEAD_LENGTH * names;

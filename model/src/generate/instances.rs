@@ -1,9 +1,10 @@
-//! Every constant at every type of a table that is full of instances of Fig. 8 and of types that
-//! differ from one in one place.
+//! Every constant, pair and front at every type of a table that is full of instances of Fig. 8 and of
+//! types that differ from one in one place.
 
 use crate::draw::Draw;
+use crate::editions::{FIRST, SECOND};
 use crate::format::Recipe;
-use crate::generate::mutants::near_type;
+use crate::generate::mutants::entries::near_type;
 use crate::generate::tables::GrowingTable;
 use crate::limits;
 use crate::nodes::Node;
@@ -51,12 +52,15 @@ fn instance(draw: &mut Draw, table: &mut GrowingTable, constant: Constant) -> Op
 
 /// A table of 256 entries: instances of one constant, and types near them.
 fn table_of_instances(draw: &mut Draw) -> Recipe {
-    let mut table = GrowingTable::new(*limits::ENTRIES.end());
+    let edition = draw.pick(&[FIRST, SECOND, SECOND]);
+    let mut table = GrowingTable::new(edition, *limits::ENTRIES.end());
+    table.fill(draw, 8);
     let constant = draw.pick(&CONSTANTS);
     let instances: Vec<u8> = (0..4)
         .filter_map(|_| instance(draw, &mut table, constant))
         .collect();
     let mut recipe = Recipe {
+        edition: edition.number,
         entries: table.into_entries(),
         terms: Vec::new(),
     };
@@ -68,13 +72,20 @@ fn table_of_instances(draw: &mut Draw) -> Recipe {
     recipe
 }
 
-/// The files of one bay, each a constant at one type of the table, and of one more.
+/// The files of one bay, each a constant, a pair or a front at one type of the table, and of one
+/// more.
 pub fn constants_at_every_type(draw: &mut Draw) -> Vec<Vec<u8>> {
     let mut recipe = table_of_instances(draw);
     let mut files = Vec::new();
     for number in 0..=recipe.entries.len() {
-        for constant in CONSTANTS {
-            recipe.terms = vec![vec![Node::Constant(constant, number as u8)]];
+        let number = number as u8;
+        let constants = CONSTANTS.map(|constant| vec![Node::Constant(constant, number)]);
+        let compounds = [Node::Pair(number), Node::Front(number)];
+        let compounds = compounds.map(|node| vec![node, Node::Num(1), Node::Num(2)]);
+        let has_compounds = recipe.edition == SECOND.number;
+        let compounds = compounds.into_iter().filter(|_| has_compounds);
+        for term in constants.into_iter().chain(compounds) {
+            recipe.terms = vec![term];
             files.push(recipe.write());
         }
     }

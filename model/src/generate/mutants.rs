@@ -1,12 +1,14 @@
 //! Recipes with faults: in the terms and the table with the layout kept, and in the bytes.
 
+pub mod entries;
+
 use crate::draw::Draw;
 use crate::format::{write_parts, Recipe};
 use crate::generate::recipes::well_typed;
 use crate::limits;
 use crate::nodes::{end_of_term, Node};
-use crate::table::{entry, Entry, CELL, MANY, ONCE};
-use crate::types::Constant;
+use crate::types::{Constant, Shape};
+use entries::{change_entry, many_of_once, near_type};
 
 /// A recipe changed in one to four places, its layout kept.
 pub fn of_recipe(draw: &mut Draw, make: fn(&mut Draw) -> Recipe) -> Vec<u8> {
@@ -18,7 +20,7 @@ pub fn of_recipe(draw: &mut Draw, make: fn(&mut Draw) -> Recipe) -> Vec<u8> {
     if draw.one_in(6) {
         change_part(&mut parts, draw);
     }
-    write_parts(&parts)
+    write_parts(recipe.edition, &parts)
 }
 
 /// A file changed in one to four of its bytes or fields.
@@ -31,7 +33,14 @@ pub fn of_bytes(draw: &mut Draw, make: fn(&mut Draw) -> Recipe) -> Vec<u8> {
 }
 
 fn change(recipe: &mut Recipe, draw: &mut Draw) {
-    match draw.below(12) {
+    match draw.below(18) {
+        17 => many_of_once(recipe, draw),
+        16 => change_compound_type(recipe, draw),
+        12 => exchange_form(recipe, draw),
+        13 => swap_subterms(recipe, draw),
+        14 => double(recipe, draw),
+        15 if draw.one_in(2) => change_edition(recipe, draw),
+        15 => take_apart(recipe, draw),
         0 => change_entry(recipe, draw),
         1..=3 => change_operand(recipe, draw),
         10 | 11 => give_near_type(recipe, draw),
@@ -42,29 +51,6 @@ fn change(recipe: &mut Recipe, draw: &mut Draw) {
         8 => replace_leaf(recipe, draw),
         _ => change_bays(recipe, draw),
     }
-}
-
-fn change_entry(recipe: &mut Recipe, draw: &mut Draw) {
-    let count = recipe.entries.len();
-    let at = draw.below(count);
-    let other = recipe.entries[draw.below(count)];
-    let target = &mut recipe.entries[at];
-    match draw.below(8) {
-        0 => target.kind = draw.pick(&[0, 1, 2, 3, 4, 5, 255]),
-        1 => target.p = draw.byte(),
-        2 => target.q = draw.byte(),
-        3 => target.kind = target.kind.wrapping_add(1),
-        4 => *target = other,
-        5 => target.p = at as u8,
-        6 => recipe.entries.push(any_entry(draw)),
-        _ => {
-            recipe.entries.remove(at);
-        }
-    }
-}
-
-fn any_entry(draw: &mut Draw) -> Entry {
-    entry(draw.below(6) as u8, draw.byte() % 8, draw.byte() % 8)
 }
 
 /// Some node of some bay that the test picks out.
@@ -80,7 +66,7 @@ fn some_node(recipe: &Recipe, draw: &mut Draw, wanted: fn(Node) -> bool) -> Opti
 
 /// Another index, type number, name or value.
 fn change_operand(recipe: &mut Recipe, draw: &mut Draw) {
-    let has_operand = |n: Node| !matches!(n, Node::Application | Node::Unit);
+    let has_operand = |n: Node| !matches!(n, Node::Application | Node::Unit | Node::Case(_));
     let (bay, at) = match some_node(recipe, draw, has_operand) {
         Some(found) => found,
         None => return,
@@ -95,14 +81,30 @@ fn change_operand(recipe: &mut Recipe, draw: &mut Draw) {
     let node = &mut recipe.terms[bay][at];
     match node {
         Node::Variable(index) => *index = nearby(*index, draw),
-        Node::Lambda(t) | Node::Constant(_, t) => *t = number,
+        Node::Lambda(t) | Node::Constant(_, t) | Node::Pair(t) | Node::Front(t) => *t = number,
         Node::Name(k) => *k = draw.below(bays + 2) as u8,
         Node::Num(value) => *value = draw.pick(&[0, 255, 256, 1_000, 1_001, u16::MAX]),
-        Node::Application | Node::Unit => {}
+        Node::Application | Node::Unit | Node::Case(_) => {}
     }
 }
 
-/// A lambda or constant gets a type that differs from its own in one place.
+/// A pair or a front gets another type number, or one that is none.
+fn change_compound_type(recipe: &mut Recipe, draw: &mut Draw) {
+    let is_compound = |n: Node| matches!(n, Node::Pair(_) | Node::Front(_));
+    let types = recipe.entries.len();
+    if let Some((bay, at)) = some_node(recipe, draw, is_compound) {
+        let number = match draw.below(4) {
+            0 => types as u8,
+            1 => draw.byte(),
+            _ => draw.below(types) as u8,
+        };
+        if let Some(t) = recipe.terms[bay][at].type_number_mut() {
+            *t = number;
+        }
+    }
+}
+
+/// A node that carries a type gets one that differs from its own in one place.
 fn give_near_type(recipe: &mut Recipe, draw: &mut Draw) {
     let (bay, at) = match some_node(recipe, draw, |n| n.type_number().is_some()) {
         Some(found) => found,
@@ -111,43 +113,9 @@ fn give_near_type(recipe: &mut Recipe, draw: &mut Draw) {
     let number = recipe.terms[bay][at].type_number().unwrap_or(0);
     let levels = draw.below(4);
     let near = near_type(recipe, draw, number, levels);
-    if let Node::Lambda(t) | Node::Constant(_, t) = &mut recipe.terms[bay][at] {
+    if let Some(t) = recipe.terms[bay][at].type_number_mut() {
         *t = near;
     }
-}
-
-/// The number of a type that differs from that one in one place, so many levels down.
-pub fn near_type(recipe: &mut Recipe, draw: &mut Draw, number: u8, levels: usize) -> u8 {
-    let mut near = match recipe.entries.get(usize::from(number)).copied() {
-        Some(near) => near,
-        None => return number,
-    };
-    let other = draw.below(recipe.entries.len()) as u8;
-    let first = draw.one_in(2) || near.kind < ONCE;
-    if near.kind < CELL {
-        return other;
-    }
-    match (levels > 0, first) {
-        (true, true) => near.p = near_type(recipe, draw, near.p, levels - 1),
-        (true, false) => near.q = near_type(recipe, draw, near.q, levels - 1),
-        (false, _) => match draw.below(4) {
-            0 => near = entry(2, near.p, 0),
-            1 => near.p = other,
-            2 if near.kind >= ONCE => near.q = other,
-            _ => near.kind = if near.kind == MANY { ONCE } else { MANY },
-        },
-    }
-    number_of(recipe, near)
-}
-
-/// The number of that entry, added if it is new and finds room.
-fn number_of(recipe: &mut Recipe, wanted: Entry) -> u8 {
-    let found = recipe.entries.iter().position(|e| *e == wanted);
-    let number = found.unwrap_or_else(|| {
-        recipe.entries.push(wanted);
-        recipe.entries.len() - 1
-    });
-    u8::try_from(number).unwrap_or(0)
 }
 
 fn nearby(index: u8, draw: &mut Draw) -> u8 {
@@ -155,6 +123,88 @@ fn nearby(index: u8, draw: &mut Draw) -> u8 {
         0 | 1 => index.wrapping_add(1),
         2 | 3 => index.wrapping_sub(1),
         _ => draw.byte(),
+    }
+}
+
+/// Byte 2: the other edition, or none.
+fn change_edition(recipe: &mut Recipe, draw: &mut Draw) {
+    recipe.edition = match recipe.edition {
+        1 => draw.pick(&[2, 2, 2, 0, 3]),
+        _ => draw.pick(&[1, 1, 1, 0, 3, 255]),
+    };
+}
+
+/// A node of two subterms becomes another such node.
+fn exchange_form(recipe: &mut Recipe, draw: &mut Draw) {
+    let (bay, at) = match some_node(recipe, draw, |n| n.subterms() == 2) {
+        Some(found) => found,
+        None => return,
+    };
+    let node = recipe.terms[bay][at];
+    let any = draw.below(recipe.entries.len()) as u8;
+    let number = node.type_number().unwrap_or(any);
+    let forms = [
+        Node::Application,
+        Node::Pair(number),
+        Node::Front(number),
+        Node::Case(Shape::Pair),
+        Node::Case(Shape::List),
+    ];
+    let known = if recipe.edition == 1 && !draw.one_in(4) {
+        1
+    } else {
+        forms.len()
+    };
+    recipe.terms[bay][at] = draw.pick(&forms[..known]);
+}
+
+/// A node with two subterms: its bay, where the two begin, and where they end.
+fn some_two(recipe: &Recipe, draw: &mut Draw) -> Option<(usize, [usize; 3])> {
+    let (bay, at) = some_node(recipe, draw, |n| n.subterms() == 2)?;
+    let term = &recipe.terms[bay];
+    let second = end_of_term(term, at + 1);
+    Some((bay, [at + 1, second, end_of_term(term, second)]))
+}
+
+/// The two subterms of a node change places.
+fn swap_subterms(recipe: &mut Recipe, draw: &mut Draw) {
+    if let Some((bay, [first, second, end])) = some_two(recipe, draw) {
+        recipe.terms[bay][first..end].rotate_left(second - first);
+    }
+}
+
+/// One subterm of a node stands in the other's place too: a once-variable in both, or in none.
+fn double(recipe: &mut Recipe, draw: &mut Draw) {
+    let (bay, [first, second, end]) = match some_two(recipe, draw) {
+        Some(found) => found,
+        None => return,
+    };
+    let term = &mut recipe.terms[bay];
+    if draw.one_in(2) {
+        let kept = term[first..second].to_vec();
+        term.splice(second..end, kept);
+    } else {
+        let kept = term[second..end].to_vec();
+        term.splice(first..second, kept);
+    }
+}
+
+/// A subterm becomes the subject of a case, or the body of one.
+fn take_apart(recipe: &mut Recipe, draw: &mut Draw) {
+    let (bay, at) = match some_node(recipe, draw, |_| true) {
+        Some(found) => found,
+        None => return,
+    };
+    let case = Node::Case(draw.pick(&[Shape::Pair, Shape::List]));
+    let term = &mut recipe.terms[bay];
+    if draw.one_in(2) {
+        let end = end_of_term(term, at);
+        let component = Node::Variable(draw.below(3) as u8);
+        term.insert(end, draw.pick(&[Node::Unit, component]));
+        term.insert(at, case);
+    } else {
+        let subjects = [Node::Unit, Node::Name(0), Node::Variable(0)];
+        term.splice(at..at, [case, draw.pick(&subjects)]);
     }
 }
 
@@ -214,9 +264,12 @@ fn wrap(recipe: &mut Recipe, draw: &mut Draw) {
         None => return,
     };
     let number = draw.below(recipe.entries.len()) as u8;
-    let around = match draw.below(3) {
+    let kinds = if recipe.edition == 1 { 3 } else { 5 };
+    let around = match draw.below(kinds) {
         0 => vec![Node::Lambda(number)],
         1 => vec![Node::Application, Node::Unit],
+        3 => vec![Node::Pair(number), Node::Unit],
+        4 => vec![Node::Front(number), Node::Num(3)],
         _ => vec![Node::Application, Node::Lambda(number), Node::Variable(0)],
     };
     recipe.terms[bay].splice(at..at, around);
@@ -258,8 +311,8 @@ fn change_part(parts: &mut [Vec<u8>], draw: &mut Draw) {
     match draw.below(5) {
         0 => part.truncate(byte),
         1 => part.push(draw.byte()),
-        2 if byte < part.len() => part[byte] = draw.pick(&[2, 10, 11, 255]),
-        3 => part.insert(byte.min(part.len()), draw.below(11) as u8),
+        2 if byte < part.len() => part[byte] = draw.pick(&[2, 10, 11, 12, 13, 14, 255]),
+        3 => part.insert(byte.min(part.len()), draw.below(15) as u8),
         _ => part.extend([3; 3]),
     }
 }
@@ -272,10 +325,10 @@ fn damage(file: &mut Vec<u8>, draw: &mut Draw) {
     match draw.below(12) {
         0 => file[at] ^= 1 << draw.below(8),
         1 => file[at] = draw.byte(),
-        2 => file[at] = draw.below(11) as u8,
+        2 => file[at] = draw.below(15) as u8,
         3 => file.truncate(at),
         4 => file.extend((0..draw.between(1, 9)).map(|_| 3)),
-        5 => file.insert(at, draw.below(11) as u8),
+        5 => file.insert(at, draw.below(15) as u8),
         6 => {
             file.remove(at);
         }
@@ -307,14 +360,17 @@ fn resize(file: &mut Vec<u8>, draw: &mut Draw) {
 
 /// A file of about 8,192 bytes whose last part opens thousands of nodes, whole or cut.
 pub fn giant(draw: &mut Draw) -> Vec<u8> {
-    let mut parts = well_typed(draw).parts();
+    let recipe = well_typed(draw);
+    let mut parts = recipe.parts();
     parts.truncate(draw.between(1, 3).min(parts.len()));
     let length = draw.pick(&[8_190, 8_191, 8_192, 8_193, 4_000, 3_000]);
     let fixed = 4 + 4 * (parts.len() + 1) + parts.iter().map(Vec::len).sum::<usize>();
     let room = length.max(fixed + 3) - fixed;
     let many = draw.pick(&[room / 2, room / 2, room, 0]);
-    let mut part = match draw.below(3) {
+    let mut part = match draw.below(5) {
         0 => [vec![2; many], vec![3; room - many]].concat(),
+        3 => [vec![13; many], vec![3; room - many]].concat(),
+        4 => [12, 3].repeat(room / 2),
         1 => [2, 3].repeat(room / 2),
         _ => [1, 3].repeat(room / 2),
     };
@@ -323,5 +379,5 @@ pub fn giant(draw: &mut Draw) -> Vec<u8> {
         part[room - 1] = draw.pick(&[10, 200, 4]);
     }
     parts.push(part);
-    write_parts(&parts)
+    write_parts(recipe.edition, &parts)
 }

@@ -1,6 +1,7 @@
 //! Well-typed recipes, small ones and ones at the limits; and the corpus of files to compare.
 
 use crate::draw::Draw;
+use crate::editions::{FIRST, SECOND};
 use crate::format::Recipe;
 use crate::generate::growth::{grow_to_nesting, grow_to_nodes};
 use crate::generate::mutants;
@@ -8,6 +9,7 @@ use crate::generate::tables::GrowingTable;
 use crate::generate::terms::TermMaker;
 use crate::limits;
 use crate::nodes::Node;
+use crate::table::UNIT_ENTRY;
 
 /// A recipe in the making.
 #[derive(Debug, Clone)]
@@ -23,6 +25,7 @@ impl Draft {
 
     pub fn finish(self) -> Recipe {
         Recipe {
+            edition: self.table.edition().number,
             entries: self.table.into_entries(),
             terms: self.terms,
         }
@@ -46,6 +49,8 @@ struct Faults {
     careless: bool,
     /// Constants are used beyond Fig. 8's conditions on multiplicities.
     beyond: bool,
+    /// Once-variables go to both components of a pair.
+    both: bool,
 }
 
 impl Faults {
@@ -54,6 +59,7 @@ impl Faults {
             once_bay: draw.one_in(2),
             careless: draw.one_in(4),
             beyond: draw.one_in(3),
+            both: draw.one_in(4),
         }
     }
 }
@@ -67,6 +73,15 @@ pub fn well_typed(draw: &mut Draw) -> Recipe {
 pub fn careless(draw: &mut Draw) -> Recipe {
     let faults = Faults {
         careless: true,
+        ..Faults::default()
+    };
+    draft(draw, faults).finish()
+}
+
+/// A recipe with once-variables in both components of pairs.
+pub fn in_both_components(draw: &mut Draw) -> Recipe {
+    let faults = Faults {
+        both: true,
         ..Faults::default()
     };
     draft(draw, faults).finish()
@@ -124,7 +139,8 @@ fn draft(draw: &mut Draw, faults: Faults) -> Draft {
 }
 
 fn draft_as_wished(draw: &mut Draw, wish: &Wish) -> Draft {
-    let mut table = GrowingTable::new(*limits::ENTRIES.end());
+    let edition = draw.pick(&[FIRST, SECOND, SECOND]);
+    let mut table = GrowingTable::new(edition, *limits::ENTRIES.end());
     let more = draw.pick(&[0, 2, 6, 12, 30]);
     table.fill(draw, 3 + more);
     let mut terms = Vec::new();
@@ -138,16 +154,18 @@ fn draft_as_wished(draw: &mut Draw, wish: &Wish) -> Draft {
 /// A term for one bay; unit when no other is found.
 fn bay_term(draw: &mut Draw, table: &mut GrowingTable, wish: &Wish, once: bool) -> Vec<Node> {
     for _ in 0..4 {
-        let goal = if once {
-            table.any(draw)
-        } else {
-            table.any_many(draw)
+        let goal = match once {
+            true if table.has_compounds() && draw.one_in(2) => table.any_compound(draw),
+            true => Some(table.any(draw)),
+            false => Some(table.any_many(draw)),
         };
+        let goal = goal.unwrap_or(UNIT_ENTRY);
         let mut maker = TermMaker::new(draw, table, wish.bays);
         maker.fuel = wish.fuel;
         maker.deepest = wish.deepest;
         maker.careless = wish.faults.careless;
         maker.beyond = wish.faults.beyond;
+        maker.both = wish.faults.both;
         if let Some(term) = maker.make(goal) {
             return term;
         }
@@ -202,7 +220,8 @@ pub fn file(draw: &mut Draw) -> Vec<u8> {
     match draw.below(100) {
         0..=44 => well_typed(draw).write(),
         45 => at_a_limit(draw).write(),
-        46..=53 => careless(draw).write(),
+        46..=51 => careless(draw).write(),
+        52 | 53 => in_both_components(draw).write(),
         54..=61 => with_faults(draw).write(),
         62 => mutants::giant(draw),
         63 if draw.one_in(3) => mutants::of_recipe(draw, at_a_limit),

@@ -1,9 +1,11 @@
 //! Terms of a wanted type. Each once-variable that is handed down is used exactly once and stands
 //! under no many-lambda but its own, unless the maker is careless on purpose.
 
+mod compounds;
+mod simplest;
+
 use crate::draw::Draw;
 use crate::generate::tables::GrowingTable;
-use crate::limits;
 use crate::nodes::Node;
 use crate::table::{NUM_ENTRY, SETTING_ENTRY, UNIT_ENTRY};
 use crate::types::{Constant, Multiplicity};
@@ -21,7 +23,9 @@ pub struct TermMaker<'a> {
     pub careless: bool,
     /// Constants are used beyond Fig. 8's conditions on multiplicities: cause 8 becomes likely.
     pub beyond: bool,
-    /// The parameter type of each lambda around, outermost first.
+    /// Once-variables go to both components of a pair: cause 10 becomes likely.
+    pub both: bool,
+    /// The type of each variable bound around, outermost first.
     scope: Vec<u8>,
     nodes: Vec<Node>,
 }
@@ -39,6 +43,7 @@ impl<'a> TermMaker<'a> {
             deepest: 60,
             careless: false,
             beyond: false,
+            both: false,
             scope: Vec::new(),
             nodes: Vec::new(),
         }
@@ -67,6 +72,9 @@ impl<'a> TermMaker<'a> {
     }
 
     fn some_form(&mut self, goal: u8, duties: &Duties, nesting: usize) -> Option<()> {
+        if self.table.has_compounds() && self.draw.one_in(3) {
+            return self.some_compound_form(goal, duties, nesting);
+        }
         match self.draw.below(14) {
             0 => self.leaf(goal, duties),
             1 | 2 => self.lambda(goal, duties.clone(), nesting),
@@ -148,14 +156,19 @@ impl<'a> TermMaker<'a> {
         if multiplicity == Multiplicity::Many && !duties.is_empty() {
             return None;
         }
-        if self.table.is_once(parameter) && !self.careless {
-            duties.push(self.scope.len());
-        }
         self.nodes.push(Node::Lambda(goal));
-        self.scope.push(parameter);
+        self.bind(parameter, &mut duties);
         let made = self.term(result, duties, nesting + 1);
         self.scope.pop();
         made
+    }
+
+    /// One more variable, a duty where it is once.
+    fn bind(&mut self, of_type: u8, duties: &mut Duties) {
+        if self.table.is_once(of_type) && !self.careless {
+            duties.push(self.scope.len());
+        }
+        self.scope.push(of_type);
     }
 
     /// (λx.e) e', the argument of any type.
@@ -164,6 +177,11 @@ impl<'a> TermMaker<'a> {
             self.table.add_any(self.draw);
         }
         let argument = self.table.any(self.draw);
+        self.let_of(argument, goal, duties, nesting)
+    }
+
+    /// (λx.e) e', the argument of this type.
+    fn let_of(&mut self, argument: u8, goal: u8, duties: &Duties, nesting: usize) -> Option<()> {
         let (left, right) = self.share_out(duties);
         let multiplicity = self.multiplicity_for(&left);
         let function = self.table.function(multiplicity, argument, goal)?;
@@ -366,89 +384,5 @@ impl<'a> TermMaker<'a> {
             chosen.map(|(duty, _)| *duty).collect()
         };
         (on(true), on(false))
-    }
-
-    /// A small term of the type that does the duties one after the other.
-    fn simplest(&mut self, goal: u8, duties: Duties, nesting: usize) -> Option<()> {
-        if nesting > limits::MAX_NESTING {
-            return None;
-        }
-        match duties.split_last() {
-            None => self.simplest_free(goal, nesting),
-            Some((duty, rest)) => self.discharge(goal, *duty, rest.to_vec(), nesting),
-        }
-    }
-
-    /// x : α →1 β is applied to a simple argument, and the result dropped or used.
-    fn discharge(&mut self, goal: u8, duty: usize, rest: Duties, nesting: usize) -> Option<()> {
-        if rest.is_empty() && self.scope[duty] == goal {
-            self.nodes.push(self.variable_node(duty));
-            return Some(());
-        }
-        let (_, parameter, result) = self.table.function_parts(self.scope[duty])?;
-        if rest.is_empty() && result == goal {
-            self.nodes.push(Node::Application);
-            self.nodes.push(self.variable_node(duty));
-            return self.simplest(parameter, Vec::new(), nesting + 1);
-        }
-        let wanted = self.multiplicity_for(&rest);
-        let function = self.table.function(wanted, result, goal);
-        let function = match function {
-            None => self.table.function(Multiplicity::Once, result, goal)?,
-            Some(function) => function,
-        };
-        self.nodes.push(Node::Application);
-        self.simplest_lambda(function, rest, nesting + 1)?;
-        self.nodes.push(Node::Application);
-        self.nodes.push(self.variable_node(duty));
-        self.simplest(parameter, Vec::new(), nesting + 2)
-    }
-
-    fn simplest_lambda(&mut self, whole: u8, mut duties: Duties, nesting: usize) -> Option<()> {
-        let (_, parameter, result) = self.table.function_parts(whole)?;
-        if self.table.is_once(parameter) {
-            duties.push(self.scope.len());
-        }
-        self.nodes.push(Node::Lambda(whole));
-        self.scope.push(parameter);
-        let made = self.simplest(result, duties, nesting + 1);
-        self.scope.pop();
-        made
-    }
-
-    fn simplest_free(&mut self, goal: u8, nesting: usize) -> Option<()> {
-        if self.leaf(goal, &Vec::new()).is_some() {
-            return Some(());
-        }
-        if self.table.function_parts(goal).is_some() {
-            return self.simplest_lambda(goal, Vec::new(), nesting);
-        }
-        let start = self.nodes.len();
-        self.simplest_cell(goal, nesting).or_else(|| {
-            self.nodes.truncate(start);
-            self.simplest_future(goal, nesting)
-        })
-    }
-
-    fn simplest_cell(&mut self, goal: u8, nesting: usize) -> Option<()> {
-        let contents = self.table.contents(goal)?;
-        let whole = self.table.function(Multiplicity::Many, contents, goal)?;
-        self.nodes.push(Node::Application);
-        self.nodes.push(Node::Constant(Constant::Cell, whole));
-        self.simplest(contents, Vec::new(), nesting + 1)
-    }
-
-    /// thread λx.x: a future of any type of multiplicity many.
-    fn simplest_future(&mut self, goal: u8, nesting: usize) -> Option<()> {
-        let body = self.table.function(Multiplicity::Many, goal, goal)?;
-        let whole = self.table.function(Multiplicity::Many, body, goal)?;
-        if nesting + 2 > limits::MAX_NESTING {
-            return None;
-        }
-        self.nodes.push(Node::Application);
-        self.nodes.push(Node::Constant(Constant::Thread, whole));
-        self.nodes.push(Node::Lambda(body));
-        self.nodes.push(Node::Variable(0));
-        Some(())
     }
 }

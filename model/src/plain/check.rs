@@ -1,10 +1,11 @@
 //! Causes 1 to 4 in their order, then the terms: causes 5 to 8 in one pass, 9 to 11 in another.
 
 use crate::causes;
+use crate::editions::Edition;
 use crate::limits;
 use crate::plain::term::scan_term;
 use crate::plain::walk::Walk;
-use crate::table::{CELL, MANY, NUM, ONCE, UNIT};
+use crate::table::{CELL, MANY, MANY_LIST, MANY_PAIR, NUM, ONCE, ONCE_LIST, ONCE_PAIR, UNIT};
 
 /// The answer: the refusal or 0, the number of bays, and each bay's type number.
 #[derive(Debug, Clone, Copy, PartialEq, Eq)]
@@ -39,6 +40,11 @@ impl PlainTable<'_> {
         let at = usize::from(number) * limits::ENTRY_LENGTH;
         (self.bytes[at], self.bytes[at + 1], self.bytes[at + 2])
     }
+
+    pub fn is_once(self, number: u8) -> bool {
+        let kind = self.bytes[usize::from(number) * limits::ENTRY_LENGTH];
+        matches!(kind, ONCE | ONCE_PAIR | ONCE_LIST)
+    }
 }
 
 /// The verdict on a file.
@@ -54,17 +60,18 @@ fn try_check(file: &[u8]) -> Result<Answer, u32> {
         return Err(causes::FILE_LENGTH);
     }
     let n = usize::from(file[3]);
-    if file[..2] != limits::OPENING || file[2] != limits::EDITION || !limits::PARTS.contains(&n) {
+    let edition = Edition::of(file[2]).ok_or(causes::OPENING)?;
+    if file[..2] != limits::OPENING || !limits::PARTS.contains(&n) {
         return Err(causes::OPENING);
     }
     check_pairs(file, n)?;
     let table = PlainTable {
         bytes: part(file, 0),
     };
-    if !table_is_sound(table) {
+    if !table_is_sound(edition, table) {
         return Err(causes::TYPE_ENTRY);
     }
-    check_terms(file, n - 1, table)
+    check_terms(file, edition, n - 1, table)
 }
 
 fn number_at(file: &[u8], at: usize) -> usize {
@@ -100,20 +107,13 @@ fn table_length_is_sound(length: usize) -> bool {
     length % limits::ENTRY_LENGTH == 0 && limits::ENTRIES.contains(&(length / limits::ENTRY_LENGTH))
 }
 
-fn table_is_sound(table: PlainTable) -> bool {
+fn table_is_sound(edition: Edition, table: PlainTable) -> bool {
     if table.bytes[..9] != [0, 0, 0, 1, 0, 0, 2, 1, 0] {
         return false;
     }
     let mut keys = [0u32; limits::MAX_ENTRIES];
     for (own, e) in table.bytes.chunks_exact(limits::ENTRY_LENGTH).enumerate() {
-        let (kind, p, q) = (e[0], usize::from(e[1]), usize::from(e[2]));
-        let kept = match kind {
-            UNIT | NUM => p == 0 && q == 0,
-            CELL => p < own && q == 0,
-            ONCE | MANY => p < own && q < own,
-            _ => false,
-        };
-        if !kept {
+        if !edition.has_kind(e[0]) || !entry_is_sound(table, own, e) {
             return false;
         }
         keys[own] = u32::from_be_bytes([0, e[0], e[1], e[2]]);
@@ -123,11 +123,29 @@ fn table_is_sound(table: PlainTable) -> bool {
     keys.windows(2).all(|pair| pair[0] != pair[1])
 }
 
-fn check_terms(file: &[u8], bays: usize, table: PlainTable) -> Result<Answer, u32> {
+/// The rule that an entry keeps by itself.
+fn entry_is_sound(table: PlainTable, own: usize, e: &[u8]) -> bool {
+    let (p, q) = (usize::from(e[1]), usize::from(e[2]));
+    match e[0] {
+        UNIT | NUM => p == 0 && q == 0,
+        CELL | ONCE_LIST => p < own && q == 0,
+        ONCE | MANY | ONCE_PAIR => p < own && q < own,
+        MANY_PAIR => p < own && q < own && !table.is_once(e[1]) && !table.is_once(e[2]),
+        MANY_LIST => p < own && q == 0 && !table.is_once(e[1]),
+        _ => false,
+    }
+}
+
+fn check_terms(
+    file: &[u8],
+    edition: Edition,
+    bays: usize,
+    table: PlainTable,
+) -> Result<Answer, u32> {
     let mut nodes = 0;
     let mut lowest = u32::MAX;
     for bay in 0..bays {
-        let scanned = scan_term(part(file, 1 + bay), table, bays)?;
+        let scanned = scan_term(edition, part(file, 1 + bay), table, bays)?;
         nodes += scanned.nodes;
         lowest = lowest.min(scanned.lowest);
     }
@@ -149,7 +167,7 @@ fn walk_terms(file: &[u8], bays: usize, table: PlainTable) -> Result<Answer, u32
         let mut walk = Walk::new(part(file, 1 + bay), table);
         let found = walk.term().ok_or(causes::TYPE)?;
         misused |= walk.misused;
-        once |= table.entry(found).0 == ONCE;
+        once |= table.is_once(found);
         answer.types[bay] = found;
     }
     match (misused, once) {

@@ -107,7 +107,7 @@ fn scan(levels: &mut ExpressionLevels, bytes: &[u8], names: usize) -> Option<usi
         let after = bytes.get(at + 1..at + 1 + form.after)?;
         nodes += 1;
         let sound = match tag {
-            tags::VARIABLE => usize::from(after[0]) < levels.lambdas(),
+            tags::VARIABLE => usize::from(after[0]) < levels.variables(),
             tags::NAME => usize::from(after[0]) < names,
             _ => true,
         };
@@ -115,7 +115,7 @@ fn scan(levels: &mut ExpressionLevels, bytes: &[u8], names: usize) -> Option<usi
             return None;
         }
         at += 1 + form.after;
-        match levels.pass(tag, form.subterms) {
+        match levels.pass(form) {
             Passed::More => {}
             Passed::Ended => return (at == bytes.len()).then_some(nodes),
             Passed::TooDeep => return None,

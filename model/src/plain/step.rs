@@ -8,6 +8,7 @@ use crate::plain::image::{measure, read, ExpressionLevels, PlainImage};
 use crate::plain::levels::Passed;
 use crate::plain::place::{find, is_value, Place};
 use crate::plain::write::{write, Change};
+use crate::rules;
 use crate::tags;
 
 /// The answer of a step.
@@ -53,7 +54,11 @@ pub fn step(bytes: &[u8], thread: u64, out: &mut [u8]) -> Stepped {
 
 /// The change that a rule makes, or the answer that comes instead.
 fn decide(image: PlainImage, expression: &[u8], place: Place) -> Result<Change, Stepped> {
-    let function = place.function();
+    let shape = expression[place.start];
+    if shape != tags::APPLICATION {
+        return decide_case(image, expression, place, shape);
+    }
+    let function = place.first();
     match expression[function] {
         tags::LAMBDA => Ok(Change::Beta),
         tags::CELL => Ok(Change::CellNew),
@@ -74,6 +79,22 @@ fn decide(image: PlainImage, expression: &[u8], place: Place) -> Result<Change, 
             }
         }
         _ => Err(Stepped::Refused(causes::WRONG_KIND)),
+    }
+}
+
+/// A case of that tag, of a value.
+fn decide_case(
+    image: PlainImage,
+    expression: &[u8],
+    place: Place,
+    tag: u8,
+) -> Result<Change, Stepped> {
+    let wrong = Stepped::Refused(causes::WRONG_KIND);
+    match (tag, expression[place.first()]) {
+        (tags::CASE_PAIR, tags::PAIR) => Ok(Change::Case(rules::CASE_PAIR)),
+        (tags::CASE_LIST, tags::LIST) => Ok(Change::Case(rules::CASE_LIST)),
+        (_, tags::NAME) => decide_name(image, expression, place.first())?.ok_or(wrong),
+        _ => Err(wrong),
     }
 }
 
@@ -111,9 +132,19 @@ fn nodes_after(
     let nodes = image.nodes;
     match change {
         Change::Beta => {
-            let places = uses(levels, &expression[place.function() + 2..]);
-            let value = place.argument_nodes;
+            let places = uses(levels, &expression[place.first() + 2..], 0);
+            let value = place.second_nodes;
             nodes - 2 - value + places * value - places
+        }
+        Change::Case(_) => {
+            let (first_nodes, second) = measure(expression, place.first() + 2);
+            let (second_nodes, _) = measure(expression, second);
+            let body = &expression[place.second..];
+            let first_places = uses(levels, body, 1);
+            let second_places = uses(levels, body, 0);
+            let places = first_places + second_places;
+            let put_in = first_places * first_nodes + second_places * second_nodes;
+            nodes - 2 - first_nodes - second_nodes + put_in - places
         }
         Change::ThreadNew => nodes + 1,
         Change::FutureDeref { name, .. } => {
@@ -126,18 +157,18 @@ fn nodes_after(
     }
 }
 
-/// How often the lambda's variable stands in the body that begins here.
-fn uses(levels: &mut ExpressionLevels, body: &[u8]) -> usize {
+/// How often the variable with that index stands in the body that begins here.
+fn uses(levels: &mut ExpressionLevels, body: &[u8], index: usize) -> usize {
     levels.begin();
     let mut at = 0;
     let mut places = 0;
     loop {
         let tag = body[at];
         let form = &FORMS[usize::from(tag)];
-        places +=
-            usize::from(tag == tags::VARIABLE && usize::from(body[at + 1]) == levels.lambdas());
+        let own = levels.variables() + index;
+        places += usize::from(tag == tags::VARIABLE && usize::from(body[at + 1]) == own);
         at += 1 + form.after;
-        if levels.pass(tag, form.subterms) != Passed::More {
+        if levels.pass(form) != Passed::More {
             return places;
         }
     }

@@ -2,24 +2,32 @@
 
 use crate::limits;
 use crate::plain::check::PlainTable;
-use crate::table::{self, NUM_ENTRY, SETTING_ENTRY, UNIT_ENTRY};
+use crate::plain::term::is_function;
+use crate::table::{
+    MANY, MANY_LIST, MANY_PAIR, NUM_ENTRY, ONCE_LIST, ONCE_PAIR, SETTING_ENTRY, UNIT_ENTRY,
+};
 use crate::tags;
 
-/// A lambda around the place of the walk.
+/// A variable bound around the place of the walk.
 #[derive(Clone, Copy)]
 struct Around {
-    parameter: u8,
+    of_type: u8,
     uses: u16,
-    /// The many-lambdas down to this one.
+    /// The many-lambdas down to its binder.
     many: u8,
 }
+
+/// A case binds two.
+const MOST_VARIABLES: usize = 2 * limits::MAX_NESTING;
 
 pub struct Walk<'a> {
     bytes: &'a [u8],
     table: PlainTable<'a>,
     at: usize,
-    around: [Around; limits::MAX_NESTING],
-    lambdas: usize,
+    around: [Around; MOST_VARIABLES],
+    variables: usize,
+    /// The many-lambdas around the place.
+    many: u8,
     /// Cause 10 fits.
     pub misused: bool,
 }
@@ -27,7 +35,7 @@ pub struct Walk<'a> {
 impl<'a> Walk<'a> {
     pub fn new(bytes: &'a [u8], table: PlainTable<'a>) -> Walk<'a> {
         let none = Around {
-            parameter: 0,
+            of_type: 0,
             uses: 0,
             many: 0,
         };
@@ -35,8 +43,9 @@ impl<'a> Walk<'a> {
             bytes,
             table,
             at: 0,
-            around: [none; limits::MAX_NESTING],
-            lambdas: 0,
+            around: [none; MOST_VARIABLES],
+            variables: 0,
+            many: 0,
             misused: false,
         }
     }
@@ -58,6 +67,9 @@ impl<'a> Walk<'a> {
                 self.at += 1;
                 Some(SETTING_ENTRY)
             }
+            tags::PAIR | tags::LIST => self.compound(),
+            tags::CASE_PAIR => self.case([ONCE_PAIR, MANY_PAIR]),
+            tags::CASE_LIST => self.case([ONCE_LIST, MANY_LIST]),
             _ => Some(self.operand()),
         }
     }
@@ -68,36 +80,39 @@ impl<'a> Walk<'a> {
         operand
     }
 
-    fn many_around(&self) -> u8 {
-        match self.lambdas {
-            0 => 0,
-            lambdas => self.around[lambdas - 1].many,
-        }
-    }
-
     fn variable(&mut self) -> u8 {
         let index = usize::from(self.operand());
-        let many = self.many_around();
-        let binder = &mut self.around[self.lambdas - 1 - index];
+        let binder = &mut self.around[self.variables - 1 - index];
         binder.uses += 1;
-        let once = self.table.entry(binder.parameter).0 == table::ONCE;
-        self.misused |= once && many > binder.many;
-        binder.parameter
+        self.misused |= self.table.is_once(binder.of_type) && self.many > binder.many;
+        binder.of_type
+    }
+
+    fn bind(&mut self, of_type: u8) {
+        self.around[self.variables] = Around {
+            of_type,
+            uses: 0,
+            many: self.many,
+        };
+        self.variables += 1;
+    }
+
+    /// Out of the scope of the variable bound last.
+    fn unbind(&mut self) {
+        self.variables -= 1;
+        let left = self.around[self.variables];
+        self.misused |= self.table.is_once(left.of_type) && left.uses != 1;
     }
 
     fn lambda(&mut self) -> Option<u8> {
         let whole = self.operand();
         let (kind, parameter, result) = self.table.entry(whole);
-        self.around[self.lambdas] = Around {
-            parameter,
-            uses: 0,
-            many: self.many_around() + u8::from(kind == table::MANY),
-        };
-        self.lambdas += 1;
+        let many = u8::from(kind == MANY);
+        self.many += many;
+        self.bind(parameter);
         let body = self.term()?;
-        self.lambdas -= 1;
-        let once = self.table.entry(parameter).0 == table::ONCE;
-        self.misused |= once && self.around[self.lambdas].uses != 1;
+        self.unbind();
+        self.many -= many;
         (body == result).then_some(whole)
     }
 
@@ -105,6 +120,36 @@ impl<'a> Walk<'a> {
         let function = self.term()?;
         let argument = self.term()?;
         let (kind, parameter, result) = self.table.entry(function);
-        (kind >= table::ONCE && parameter == argument).then_some(result)
+        (is_function(kind) && parameter == argument).then_some(result)
+    }
+
+    /// The types of the two components of a pair, or of a front and the rest.
+    fn components(&self, whole: u8) -> (u8, u8) {
+        let (kind, p, q) = self.table.entry(whole);
+        match kind {
+            ONCE_LIST | MANY_LIST => (p, whole),
+            _ => (p, q),
+        }
+    }
+
+    fn compound(&mut self) -> Option<u8> {
+        let whole = self.operand();
+        let first = self.term()?;
+        let second = self.term()?;
+        (self.components(whole) == (first, second)).then_some(whole)
+    }
+
+    fn case(&mut self, kinds: [u8; 2]) -> Option<u8> {
+        let subject = self.term()?;
+        if !kinds.contains(&self.table.entry(subject).0) {
+            return None;
+        }
+        let (first, second) = self.components(subject);
+        self.bind(first);
+        self.bind(second);
+        let body = self.term()?;
+        self.unbind();
+        self.unbind();
+        Some(body)
     }
 }

@@ -3,13 +3,13 @@
 use crate::kinds;
 use crate::limits;
 use crate::nodes::FORMS;
-use crate::plain::image::{ExpressionLevels, PlainImage};
+use crate::plain::image::{measure, ExpressionLevels, PlainImage};
 use crate::plain::levels::Passed;
 use crate::plain::place::Place;
 use crate::rules;
 use crate::tags;
 
-/// A rule of Fig. 5 with what it needs beyond the place.
+/// A rule with what it needs beyond the place.
 #[derive(Clone, Copy)]
 pub enum Change {
     Beta,
@@ -28,6 +28,8 @@ pub enum Change {
     CellExch {
         cell: u8,
     },
+    /// A pair or a front taken apart, by that rule.
+    Case(u8),
 }
 
 impl Change {
@@ -40,6 +42,7 @@ impl Change {
             Change::HandleBind { .. } => rules::HANDLE_BIND,
             Change::CellNew => rules::CELL_NEW,
             Change::CellExch { .. } => rules::CELL_EXCH,
+            Change::Case(rule) => rule,
         }
     }
 
@@ -75,21 +78,25 @@ impl Writer<'_> {
         self.out[at + 4..at + 6].copy_from_slice(&length.to_le_bytes());
     }
 
-    /// The body with the value at each place of its lambda's variable.
-    fn substituted(&mut self, body: &[u8], value: &[u8]) {
+    /// The body with the values at the places of the variables bound last: the first value is that
+    /// of index 0.
+    fn substituted(&mut self, body: &[u8], values: &[&[u8]]) {
         self.levels.begin();
         let mut at = 0;
         loop {
             let tag = body[at];
             let form = &FORMS[usize::from(tag)];
             let next = at + 1 + form.after;
-            if tag == tags::VARIABLE && usize::from(body[at + 1]) == self.levels.lambdas() {
-                self.put(value);
-            } else {
-                self.put(&body[at..next]);
+            let outside = match tag {
+                tags::VARIABLE => usize::from(body[at + 1]).checked_sub(self.levels.variables()),
+                _ => None,
+            };
+            match outside {
+                Some(index) => self.put(values[index]),
+                None => self.put(&body[at..next]),
             }
             at = next;
-            if self.levels.pass(tag, form.subterms) != Passed::More {
+            if self.levels.pass(form) != Passed::More {
                 return;
             }
         }
@@ -110,7 +117,7 @@ pub fn write(
     let mut writer = Writer { levels, out, end };
     writer.out[..2].copy_from_slice(&(names as u16).to_le_bytes());
     let expression = image.expression(thread);
-    let value = &expression[place.argument..place.end];
+    let value = &expression[place.second..place.end];
     for name in 0..image.names {
         let start = writer.end;
         let (kind, companion) = if name == thread {
@@ -133,11 +140,20 @@ fn write_thread(
     place: Place,
     change: Change,
 ) {
-    let value = &expression[place.argument..place.end];
+    let value = &expression[place.second..place.end];
     let new = image.names as u8;
     writer.put(&expression[..place.start]);
     match change {
-        Change::Beta => writer.substituted(&expression[place.function() + 2..], value),
+        Change::Beta => writer.substituted(&expression[place.first() + 2..], &[value]),
+        Change::Case(_) => {
+            let first = place.first() + 2;
+            let (_, second) = measure(expression, first);
+            let components = [
+                &expression[second..place.second],
+                &expression[first..second],
+            ];
+            writer.substituted(&expression[place.second..], &components);
+        }
         Change::ThreadNew | Change::CellNew => writer.put(&[tags::NAME, new]),
         Change::FutureDeref { at, name } => {
             writer.put(&expression[place.start..at]);

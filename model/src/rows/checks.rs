@@ -1,16 +1,19 @@
 //! Rows of a check: files of one to four small bays with every verdict, some with different causes
-//! in two bays, some as deep as terms may be or deeper.
+//! in two bays, some as deep as terms may be or deeper, some that are about pairs and lists.
 
 use crate::answers::{Implementation, Model, VerdictAnswer};
 use crate::causes;
 use crate::draw::Draw;
+use crate::editions;
 use crate::format::{table_and_terms, write_parts};
 use crate::generate::{mutants, recipes};
 use crate::limits;
+use crate::nodes::Node;
 use crate::rows::quota::fill;
-use crate::rows::{antt, Written};
+use crate::rows::{antt, compounds, Written};
 use crate::table::{entry, FIRST_ENTRIES, MANY, ONCE};
 use crate::tags;
+use crate::types::Shape;
 use std::collections::{BTreeMap, BTreeSet};
 
 /// No longer file is taken, but for the deep ones.
@@ -28,6 +31,17 @@ const OF_ONE_BAY: [u32; 6] = [
     causes::BAY_ONCE,
 ];
 
+/// How many rows there are of each verdict that is about pairs, lists and cases.
+const OF_COMPOUNDS: [(u32, usize); 7] = [
+    (0, 14),
+    (causes::TYPE_ENTRY, 8),
+    (causes::SCOPE, 5),
+    (causes::ANNOTATION, 6),
+    (causes::TYPE, 8),
+    (causes::LINEARITY, 7),
+    (causes::BAY_ONCE, 4),
+];
+
 /// How a file was drawn.
 #[derive(Debug, Clone, Copy, PartialEq, Eq, PartialOrd, Ord)]
 enum Sort {
@@ -35,6 +49,11 @@ enum Sort {
     /// The second lowest cause that fits a bay by itself.
     TwoCauses(u32),
     Deep,
+    /// Of edition 2, with a pair, a front or a case in it; refused by one of them, or by a type entry
+    /// of their kinds.
+    Compound,
+    /// Of edition 1, with what only edition 2 has.
+    Later,
 }
 
 #[derive(Debug, Clone, PartialEq, Eq, PartialOrd, Ord)]
@@ -43,7 +62,7 @@ struct Drawn {
     file: Vec<u8>,
 }
 
-/// Sort, verdict and number of bays, 0 where the file does not say.
+/// Sort, verdict and number of bays, 0 where the file does not say or it does not matter.
 type Class = (Sort, u32, usize);
 
 /// A row: a file, and what check answers.
@@ -69,6 +88,11 @@ fn wanted() -> BTreeMap<Class, usize> {
             wanted.insert((Sort::TwoCauses(*second), *lowest, 2), 2);
         }
     }
+    for (verdict, count) in OF_COMPOUNDS {
+        wanted.insert((Sort::Compound, verdict, 0), count);
+    }
+    wanted.insert((Sort::Later, causes::TYPE_ENTRY, 0), 3);
+    wanted.insert((Sort::Later, causes::NO_TERM, 0), 4);
     wanted.insert((Sort::Deep, causes::TERM_SIZE, 1), 4);
     wanted.insert((Sort::Deep, causes::TERM_SIZE, 2), 4);
     wanted.insert((Sort::Deep, causes::SCOPE, 1), 2);
@@ -78,7 +102,8 @@ fn wanted() -> BTreeMap<Class, usize> {
 
 fn class(drawn: &Drawn) -> Class {
     let refusal = Model.check(&drawn.file).refusal;
-    let opened = ![causes::FILE_LENGTH, causes::OPENING].contains(&refusal);
+    let opened = ![causes::FILE_LENGTH, causes::OPENING].contains(&refusal)
+        && ![Sort::Compound, Sort::Later].contains(&drawn.sort);
     let bays = if opened {
         usize::from(drawn.file[3]) - 1
     } else {
@@ -98,8 +123,33 @@ fn drawn(draw: &mut Draw) -> Option<Drawn> {
             return Some(Drawn { sort, file });
         }
     };
-    let sort = second_cause(&file).map_or(Sort::Small, Sort::TwoCauses);
+    let sort = sort_of(&file);
     (file.len() <= LONGEST).then_some(Drawn { sort, file })
+}
+
+fn sort_of(file: &[u8]) -> Sort {
+    let refusal = Model.check(file).refusal;
+    let is_about = match refusal {
+        0 => compounds::stands_in(file),
+        _ => compounds::refuses(file),
+    };
+    match second_cause(file) {
+        Some(second) => Sort::TwoCauses(second),
+        None if is_later(file, refusal) => Sort::Later,
+        None if is_about => Sort::Compound,
+        None => Sort::Small,
+    }
+}
+
+/// Whether a file of edition 1 is refused and would not be, or by another cause, in edition 2.
+fn is_later(file: &[u8], refusal: u32) -> bool {
+    let by_edition = [causes::TYPE_ENTRY, causes::NO_TERM].contains(&refusal);
+    if !by_edition || file[2] != editions::FIRST.number {
+        return false;
+    }
+    let mut second = file.to_vec();
+    second[2] = editions::SECOND.number;
+    Model.check(&second).refusal != refusal
 }
 
 /// The second lowest cause that fits a bay taken by itself, every other bay being unit.
@@ -112,7 +162,7 @@ fn second_cause(file: &[u8]) -> Option<u32> {
         let mut parts = vec![table.to_vec()];
         parts.resize(1 + terms.len(), vec![tags::UNIT]);
         parts[1 + bay] = terms[bay].to_vec();
-        Model.check(&write_parts(&parts)).refusal
+        Model.check(&write_parts(file[2], &parts)).refusal
     };
     let found: BTreeSet<u32> = (0..terms.len()).map(alone).collect();
     found.into_iter().filter(|refusal| *refusal != 0).nth(1)
@@ -125,10 +175,12 @@ fn deep(draw: &mut Draw) -> Vec<u8> {
     let entries = FIRST_ENTRIES.iter().chain([&function]);
     let table = entries.flat_map(|e| e.bytes()).collect();
     let nesting = limits::MAX_NESTING + draw.below(3);
+    let edition = draw.pick(&editions::ALL);
     let mut term = Vec::new();
     for _ in 1..nesting {
-        term.extend(match draw.below(3) {
+        term.extend(match draw.below(4) {
             0 => [tags::APPLICATION, tags::UNIT],
+            1 if edition.has_node(Node::Case(Shape::Pair)) => [tags::CASE_PAIR, tags::UNIT],
             _ => [tags::LAMBDA, FIRST_ENTRIES.len() as u8],
         });
     }
@@ -137,7 +189,7 @@ fn deep(draw: &mut Draw) -> Vec<u8> {
     if draw.one_in(2) {
         parts.push(vec![tags::UNIT]);
     }
-    write_parts(&parts)
+    write_parts(edition.number, &parts)
 }
 
 /// The rows, in the order of their classes.

@@ -5,7 +5,7 @@ use crate::causes;
 use crate::draw::Draw;
 use crate::generate::{images, mutants, recipes};
 use crate::rows::quota::fill;
-use crate::rows::{antt, Written, FILLER};
+use crate::rows::{antt, compounds, Written, FILLER};
 use std::collections::BTreeMap;
 
 /// No longer file is taken.
@@ -15,8 +15,8 @@ const BAYS: u32 = 4;
 
 /// A recipe and the length of the out buffer.
 type Drawn = (Vec<u8>, usize);
-/// Refusal and number of bays.
-type Class = (u32, u32);
+/// Refusal, number of bays, and whether a pair, a front or a case is loaded.
+type Class = (u32, u32, bool);
 
 /// A row: a recipe and the length of the out buffer; what load answers, and the image.
 pub struct LoadRow {
@@ -27,12 +27,16 @@ pub struct LoadRow {
 }
 
 fn wanted() -> BTreeMap<Class, usize> {
-    let mut wanted: BTreeMap<Class, usize> = (1..=BAYS).map(|bays| ((0, bays), 6)).collect();
-    for refusal in causes::FILE_LENGTH..=causes::BAY_ONCE {
-        wanted.insert((refusal, 0), 1);
+    let mut wanted = BTreeMap::new();
+    for bays in 1..=BAYS {
+        wanted.insert((0, bays, false), 5);
+        wanted.insert((0, bays, true), 3);
     }
-    wanted.remove(&(causes::TERM_SIZE, 0));
-    wanted.insert((causes::BUFFER, 0), 10);
+    for refusal in causes::FILE_LENGTH..=causes::BAY_ONCE {
+        wanted.insert((refusal, 0, false), 1);
+    }
+    wanted.remove(&(causes::TERM_SIZE, 0, false));
+    wanted.insert((causes::BUFFER, 0, false), 10);
     wanted
 }
 
@@ -59,7 +63,8 @@ fn row((file, room): Drawn) -> LoadRow {
 
 fn class(drawn: &Drawn) -> Class {
     let answer = row(drawn.clone()).answer;
-    (answer.refusal, answer.bays)
+    let loads_compound = answer.refusal == 0 && compounds::stands_in(&drawn.0);
+    (answer.refusal, answer.bays, loads_compound)
 }
 
 pub fn rows(draw: &mut Draw) -> Vec<LoadRow> {

@@ -1,4 +1,5 @@
-//! Rows of a step: images of runs, drawn ones, damaged ones and ones at the limits, with every answer.
+//! Rows of a step: images of runs, drawn ones, damaged ones and ones at the limits, with every answer,
+//! and cases of every subject.
 
 use crate::answers::{Implementation, Model, SteppedAnswer, DONE, REFUSED, RULE, WAITING};
 use crate::causes;
@@ -13,7 +14,9 @@ use crate::nodes::Node;
 use crate::rows::quota::fill;
 use crate::rows::{antt, Written, FILLER};
 use crate::rules;
-use crate::types::Constant;
+use crate::subjects::{self, Subject};
+use crate::tags;
+use crate::types::{Constant, Shape};
 use std::collections::BTreeMap;
 use std::rc::Rc;
 
@@ -28,9 +31,15 @@ enum Origin {
     Run,
     /// a run in which a cell holds an open handle now
     Keeping,
+    /// a run whose thread is at a case
+    RunAtCase,
     Drawn,
+    /// a drawn image whose thread is at a case of this tag, with this subject
+    AtCase(u8, Subject),
     Damaged,
     Copying,
+    /// the same by rule 8 or 9
+    CopyingCase,
     Crowded,
 }
 
@@ -59,6 +68,18 @@ fn wanted() -> BTreeMap<Class, usize> {
         wanted.insert((origin, REFUSED, causes::BUFFER), 4);
         wanted.insert((origin, REFUSED, causes::NO_THREAD), 5);
     }
+    for rule in [rules::FUTURE_DEREF, rules::CASE_PAIR, rules::CASE_LIST] {
+        wanted.insert((Origin::RunAtCase, RULE, u32::from(rule)), 5);
+    }
+    wanted.insert((Origin::RunAtCase, WAITING, 0), 4);
+    for tag in [tags::CASE_PAIR, tags::CASE_LIST] {
+        for subject in subjects::ALL {
+            let (outcome, number) = answer_at(tag, subject);
+            let count = if outcome == RULE { 4 } else { 2 };
+            wanted.insert((Origin::AtCase(tag, subject), outcome, number), count);
+        }
+    }
+    wanted.insert((Origin::CopyingCase, REFUSED, causes::ROOM), 5);
     for rule in [rules::BETA, rules::CELL_EXCH] {
         wanted.insert((Origin::Keeping, RULE, u32::from(rule)), 3);
     }
@@ -68,6 +89,17 @@ fn wanted() -> BTreeMap<Class, usize> {
     wanted.insert((Origin::Drawn, REFUSED, causes::USED_HANDLE), 8);
     wanted.insert((Origin::Drawn, REFUSED, causes::WRONG_KIND), 10);
     wanted
+}
+
+/// What a step answers at a case of that tag with that subject.
+fn answer_at(tag: u8, subject: Subject) -> (u32, u32) {
+    match (tag, subject) {
+        (tags::CASE_PAIR, Subject::Pair) => (RULE, rules::CASE_PAIR.into()),
+        (tags::CASE_LIST, Subject::Front) => (RULE, rules::CASE_LIST.into()),
+        (_, Subject::DoneThread) => (RULE, rules::FUTURE_DEREF.into()),
+        (_, Subject::UnfinishedThread | Subject::Future) => (WAITING, 0),
+        _ => (REFUSED, causes::WRONG_KIND),
+    }
 }
 
 /// The image after some turns of a small recipe.
@@ -114,6 +146,30 @@ fn copying(draw: &mut Draw) -> Vec<u8> {
     write_image(&Configuration { components })
 }
 
+/// case (v, w) of (x, y) ⇒ (x, (y, .. unit)): the same by rule 8 or 9.
+fn copying_case(draw: &mut Draw) -> Vec<u8> {
+    let uses = draw.between(40, 90);
+    let number = draw.byte();
+    let (shape, compound) = draw.pick(&[
+        (Shape::Pair, Node::Pair(number)),
+        (Shape::List, Node::Front(number)),
+    ]);
+    let both = 2 * limits::MAX_NODES / uses + 1;
+    let first = draw.between(2, both - 2);
+    let mut term = vec![Node::Case(shape), compound];
+    for nodes in [first, both - first] {
+        term.resize(term.len() + nodes - 1, Node::Lambda(draw.byte()));
+        term.push(Node::Unit);
+    }
+    for place in 0..uses {
+        term.extend([Node::Pair(draw.byte()), Node::Variable((place % 2) as u8)]);
+    }
+    term.push(Node::Unit);
+    let thread = Component::Thread(Rc::new(Expression::of_nodes(&term)));
+    let components = vec![Component::UsedHandle, thread];
+    write_image(&Configuration { components })
+}
+
 /// One name less than there may be, and a thread that asks for a handle and its future. Such an image
 /// takes a prover seconds and memory: one of them is enough.
 fn crowded(draw: &mut Draw) -> Vec<u8> {
@@ -131,6 +187,7 @@ fn crowded(draw: &mut Draw) -> Vec<u8> {
 
 fn drawn(draw: &mut Draw) -> Option<Call> {
     let (origin, image) = match draw.below(50) {
+        0 if draw.one_in(2) => (Origin::CopyingCase, copying_case(draw)),
         0 => (Origin::Copying, copying(draw)),
         1 => (Origin::Crowded, crowded(draw)),
         2..=20 => of_a_run(draw)?,
@@ -143,9 +200,30 @@ fn drawn(draw: &mut Draw) -> Option<Call> {
     };
     let thread = images::thread_number(draw, &image);
     let room = images::out_length(draw);
-    let at_a_limit = matches!(origin, Origin::Copying | Origin::Crowded);
+    let origin = at_case(origin, &image, thread, room);
+    let at_a_limit = matches!(
+        origin,
+        Origin::Copying | Origin::CopyingCase | Origin::Crowded
+    );
     let fits = image.len() <= LONGEST || at_a_limit;
     fits.then_some((origin, image, thread, room))
+}
+
+/// The origin told apart where the thread is at a case, and the buffer is long enough to tell.
+fn at_case(origin: Origin, image: &[u8], thread: u64, room: usize) -> Origin {
+    if room < limits::MAX_IMAGE {
+        return origin;
+    }
+    let found = read_image(image).and_then(|now| {
+        let case = subjects::case_at(&now, thread)?;
+        let tag = Node::Case(case.shape).tag();
+        Some((tag, subjects::subject_of(&now, &case)))
+    });
+    match (origin, found) {
+        (Origin::Run, Some(_)) => Origin::RunAtCase,
+        (Origin::Drawn, Some((tag, subject))) => Origin::AtCase(tag, subject),
+        _ => origin,
+    }
 }
 
 fn row((_, image, thread, room): Call) -> StepRow {

@@ -7,6 +7,7 @@ pub mod terms;
 pub mod typing;
 pub mod usage;
 
+use crate::editions::{self, Edition};
 use crate::format::{pairs, table_and_terms};
 use crate::nodes::{Node, FORMS};
 use crate::table::{entries_of, Entry};
@@ -78,6 +79,8 @@ fn find(file: &[u8], spots: &[Vec<Spot>]) -> Result<(), Fault> {
 
 /// The parts of a file whose layout is sound, and where they begin.
 pub struct Parts<'a> {
+    /// The first, where the file says none.
+    pub edition: Edition,
     pub entries: Vec<Entry>,
     pub terms: Vec<&'a [u8]>,
     offsets: Vec<usize>,
@@ -90,7 +93,9 @@ impl<'a> Parts<'a> {
         let opened = (file.len() >= 4).then_some(file);
         let (table, terms) = opened.and_then(table_and_terms).unwrap_or_default();
         let pairs = opened.and_then(pairs).unwrap_or_default();
+        let said = opened.and_then(|file| Edition::of(file[2]));
         Parts {
+            edition: said.unwrap_or(editions::FIRST),
             entries: entries_of(table),
             terms,
             offsets: pairs.iter().map(|pair| pair.offset).collect(),

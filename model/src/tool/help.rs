@@ -25,13 +25,17 @@ Prints the types and each bay's term of a recipe file, in the form that `recipe 
 For a refused file it says the refusal, the place (part, path from the root, byte offset), what
 was found there, and shows as much of the file as it can; the exit status is then 1.
 
-  --ascii   \\ for λ, -1> for →1, -w> for →ω
+  --ascii   \\ for λ, -1> for →1, -w> for →ω, *1 for ×1, *w for ×ω, listw for listω, => for ⇒
 
   num ref        the type of a cell of num        unit, num, t5   types; t5 is entry 5
   num →1 unit    a function usable once           num →ω unit     one usable many times
   λx:num. e      a function usable many times     λ1 x:num. e     one usable once
   f a b          f applied to a, then to b        exch[t4]        a constant and its type
   setting3       the setting of bay 3             250             a num
+  num ×ω unit    a pair usable many times         num ×1 unit     one usable once
+  num listω      a list usable many times         num list1       one usable once
+  (a, b)[t5]     a pair and its type              (a :: b)[t6]    a list's first element and the rest
+  case p of (x, y) ⇒ e    takes a pair apart      case l of x :: r ⇒ e    takes a list apart
 ";
 
 const WRITE: &str = "\

@@ -1,31 +1,72 @@
-//! The shape of a term, whole or cut: above each node its parent and its lambdas. Made by a loop,
+//! The shape of a term, whole or cut: above each node its parent and its binders. Made by a loop,
 //! for the bytes may be unchecked.
 
 use crate::nodes::Node;
+
+/// A variable: the node that binds it, and how many of that node's variables come before it.
+#[derive(Debug, Clone, Copy, PartialEq, Eq)]
+pub struct Binder {
+    pub node: usize,
+    pub place: usize,
+}
+
+impl Binder {
+    pub fn of_lambda(node: usize) -> Binder {
+        Binder { node, place: 0 }
+    }
+}
 
 /// The way from a node to one of its subterms.
 #[derive(Debug, Clone, Copy, PartialEq, Eq)]
 pub enum Way {
     Function,
     Argument,
+    First,
+    Second,
+    Subject,
     Body,
+}
+
+impl Way {
+    fn name(self) -> &'static str {
+        match self {
+            Way::Function => "function",
+            Way::Argument => "argument",
+            Way::First => "first",
+            Way::Second => "second",
+            Way::Subject => "subject",
+            Way::Body => "body",
+        }
+    }
+}
+
+/// The ways from a node, in the order of its subterms.
+fn ways(node: Node) -> &'static [Way] {
+    match node {
+        Node::Lambda(_) => &[Way::Body],
+        Node::Application => &[Way::Function, Way::Argument],
+        Node::Pair(_) | Node::Front(_) => &[Way::First, Way::Second],
+        Node::Case(_) => &[Way::Subject, Way::Body],
+        _ => &[],
+    }
 }
 
 /// What stands above a node.
 #[derive(Debug, Clone, Copy)]
 pub struct Above {
     pub parent: Option<(usize, Way)>,
-    /// The innermost lambda around the node.
-    pub lambda: Option<usize>,
-    pub lambdas: usize,
+    /// The innermost lambda or case that the node stands in the body of.
+    pub binder: Option<usize>,
+    /// How many variables are bound around the node.
+    pub variables: usize,
     /// The root being 1.
     pub nesting: usize,
 }
 
 const ROOT: Above = Above {
     parent: None,
-    lambda: None,
-    lambdas: 0,
+    binder: None,
+    variables: 0,
     nesting: 1,
 };
 
@@ -50,14 +91,15 @@ impl Outline {
                 nesting: here.nesting + 1,
                 ..here
             };
-            match node {
-                Node::Lambda(_) => coming.push(Above {
-                    lambda: Some(at),
-                    lambdas: here.lambdas + 1,
-                    ..below(Way::Body)
-                }),
-                Node::Application => coming.extend([below(Way::Argument), below(Way::Function)]),
-                _ => {}
+            for way in ways(*node).iter().rev() {
+                coming.push(match way {
+                    Way::Body => Above {
+                        binder: Some(at),
+                        variables: here.variables + node.binders(),
+                        ..below(Way::Body)
+                    },
+                    _ => below(*way),
+                });
             }
         }
         let next = coming.pop();
@@ -66,13 +108,17 @@ impl Outline {
         Outline { above, is_cut }
     }
 
-    /// The lambda that binds the variable with that index at that place.
-    pub fn binder(&self, at: usize, index: u8) -> Option<usize> {
-        let mut lambda = self.above[at].lambda;
-        for _ in 0..index {
-            lambda = self.above[lambda?].lambda;
+    /// What binds the variable with that index at that place.
+    pub fn binder(&self, at: usize, index: u8) -> Option<Binder> {
+        let wanted = self.above[at]
+            .variables
+            .checked_sub(usize::from(index) + 1)?;
+        let mut node = self.above[at].binder?;
+        while self.above[node].variables > wanted {
+            node = self.above[node].binder?;
         }
-        lambda
+        let place = wanted - self.above[node].variables;
+        Some(Binder { node, place })
     }
 
     /// "root", or the way there: "function.argument.body".
@@ -80,11 +126,7 @@ impl Outline {
         let mut words = Vec::new();
         let mut here = at;
         while let Some((parent, way)) = self.above.get(here).and_then(|above| above.parent) {
-            words.push(match way {
-                Way::Function => "function",
-                Way::Argument => "argument",
-                Way::Body => "body",
-            });
+            words.push(way.name());
             here = parent;
         }
         words.reverse();

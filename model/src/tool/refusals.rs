@@ -1,4 +1,4 @@
-//! The refusals in document 01's words, and the rules of Fig. 5 by name.
+//! The refusals in document 01's words, and the rules by name.
 
 /// The cause of each number, 1 first.
 const CAUSES: [&str; 17] = [
@@ -9,8 +9,8 @@ const CAUSES: [&str; 17] = [
     "a part is not exactly one term: unknown tag, cut, bytes over",
     "nesting or nodes above the limit",
     "index with no lambda, name not below b, type number not below t",
-    "lambda's type no function, constant's type no instance of Fig. 8",
-    "application of a non-function, argument or body of another type",
+    "lambda's type no function, constant's type no instance of Fig. 8, pair's no pair, list front's no list",
+    "application of a non-function, argument, body, component or subject of another type",
     "a once-variable not used exactly once, or free under a many-lambda",
     "a bay's type has multiplicity once",
     "out buffer under 13,826 bytes",
@@ -21,8 +21,8 @@ const CAUSES: [&str; 17] = [
     "two values meet, neither a rule, nor waiting, nor 16",
 ];
 
-/// The rules in Fig. 5's order, 1 first.
-const RULES: [&str; 7] = [
+/// The rules in Fig. 5's order, 1 first, and document 02's two.
+const RULES: [&str; 9] = [
     "BETA",
     "THREAD.NEW",
     "FUTURE.DEREF",
@@ -30,6 +30,8 @@ const RULES: [&str; 7] = [
     "HANDLE.BIND",
     "CELL.NEW",
     "CELL.EXCH",
+    "PAIR.CASE",
+    "LIST.CASE",
 ];
 
 /// The cause of that number in words.
@@ -39,7 +41,7 @@ pub fn in_words(number: u32) -> &'static str {
 
 /// The name of that rule.
 pub fn rule(number: u32) -> &'static str {
-    named(&RULES, number).unwrap_or("a rule that Fig. 5 does not have")
+    named(&RULES, number).unwrap_or("a rule that there is not")
 }
 
 fn named(names: &[&'static str], number: u32) -> Option<&'static str> {

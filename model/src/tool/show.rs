@@ -2,6 +2,7 @@
 
 pub mod remains;
 
+use crate::editions;
 use crate::format::hexadecimal;
 use crate::table::Table;
 use crate::tool::arguments::Form;
@@ -55,7 +56,7 @@ pub fn shown(name: &str, file: &[u8], spelling: &'static Spelling) -> String {
     let nodes: usize = parts
         .terms
         .iter()
-        .map(|part| faults::terms::read(part).nodes.len())
+        .map(|part| faults::terms::read(parts.edition, part).nodes.len())
         .sum();
     let _ = writeln!(
         text,
@@ -66,9 +67,10 @@ pub fn shown(name: &str, file: &[u8], spelling: &'static Spelling) -> String {
         counted(file.len(), "byte")
     );
     let texts = TypeTexts::new(&parts.entries, spelling);
+    text += &edition(&parts);
     text += &types(&texts);
     for (bay, part) in parts.terms.iter().enumerate() {
-        text += &bay_text(bay, part, &texts);
+        text += &bay_text(&parts, bay, part, &texts);
     }
     text
 }
@@ -99,6 +101,14 @@ pub fn told(name: &str, refusal: &Refusal) -> String {
     format!("{first}# where: {place}{offset}\n# found: {found}\n")
 }
 
+/// `edition 2`; of the first edition nothing is said.
+fn edition(parts: &Parts) -> String {
+    match parts.edition {
+        editions::FIRST => String::new(),
+        other => format!("edition {}\n\n", other.number),
+    }
+}
+
 /// `types`, then a line for each entry; after it the type in full, where that says more.
 fn types(texts: &TypeTexts) -> String {
     let mut text = "types\n".to_owned();
@@ -122,13 +132,13 @@ fn types(texts: &TypeTexts) -> String {
 }
 
 /// `bay k : type =`, then the term.
-fn bay_text(bay: usize, part: &[u8], texts: &TypeTexts) -> String {
-    let reading = faults::terms::read(part);
+fn bay_text(parts: &Parts, bay: usize, part: &[u8], texts: &TypeTexts) -> String {
+    let reading = faults::terms::read(parts.edition, part);
     if reading.stopped.is_some() {
         return cut_text(bay, &reading.nodes, part);
     }
     let printer = Printer::new(&reading.nodes, texts);
-    let sound = Table::read(texts.entries).is_some();
+    let sound = Table::read(parts.edition, texts.entries).is_some();
     let root = printer.types[0].filter(|_| sound);
     let claim = root.map_or(String::new(), |t| format!(" : {}", texts.name(t)));
     let term = laid_out(&printer, 2);

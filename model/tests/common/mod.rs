@@ -1,7 +1,10 @@
 //! Recipes and images that several tests use.
 #![allow(dead_code)]
 
+use model::answers::{Implementation, Model, Plain};
+use model::command::on_deep_stack;
 use model::config::{Component, Configuration};
+use model::editions;
 use model::expression::Expression;
 use model::format::{bytes_of_hexadecimal, write_parts};
 use model::image::write_image;
@@ -29,14 +32,26 @@ pub fn recipe(table: &str, term: &str) -> Vec<u8> {
 
 /// The file of several bays.
 pub fn recipe_of(table: &str, terms: &[&str]) -> Vec<u8> {
-    let mut parts = vec![bytes_of_hexadecimal(table)];
-    parts.extend(terms.iter().map(|term| bytes_of_hexadecimal(term)));
-    write_parts(&parts)
+    file_of(editions::FIRST.number, table, terms)
 }
 
-/// The verdict's number.
+/// The file of one bay, of edition 2.
+pub fn recipe_2(table: &str, term: &str) -> Vec<u8> {
+    file_of(editions::SECOND.number, table, &[term])
+}
+
+/// A file with that edition byte.
+pub fn file_of(edition: u8, table: &str, terms: &[&str]) -> Vec<u8> {
+    let mut parts = vec![bytes_of_hexadecimal(table)];
+    parts.extend(terms.iter().map(|term| bytes_of_hexadecimal(term)));
+    write_parts(edition, &parts)
+}
+
+/// The verdict's number, the model's and the plain twin's.
 pub fn number(file: &[u8]) -> u32 {
-    verdict(file).number()
+    let number = verdict(file).number();
+    assert_eq!(Plain.check(file).refusal, number, "the plain twin");
+    number
 }
 
 /// A term of that nesting, at least 3: identities applied to unit, with entry 3 unit to unit.
@@ -98,13 +113,28 @@ pub fn step_first(image: &[u8]) -> Outcome {
 }
 
 pub fn step_thread(image: &[u8], thread: u64) -> Outcome {
-    step(image, thread, &mut vec![0; limits::MAX_IMAGE])
+    stepped(image, thread, &mut vec![0; limits::MAX_IMAGE])
+}
+
+/// A step that the plain twin makes too: the same answer and the same bytes.
+fn stepped(image: &[u8], thread: u64, out: &mut [u8]) -> Outcome {
+    on_deep_stack(|| {
+        let mut plain_out = out.to_vec();
+        let plain = Plain.step(image, thread, &mut plain_out);
+        let mut model_out = out.to_vec();
+        assert_eq!(plain, Model.step(image, thread, &mut model_out));
+        assert!(
+            plain_out == model_out,
+            "the plain twin writes another image"
+        );
+        step(image, thread, out)
+    })
 }
 
 /// The image after a step of that thread, which a rule moves.
 pub fn image_after(image: &[u8], thread: u64) -> (u8, Vec<u8>) {
     let mut out = vec![0; limits::MAX_IMAGE];
-    match step(image, thread, &mut out) {
+    match stepped(image, thread, &mut out) {
         Outcome::Rule(rule, length) => (rule, out[..length].to_vec()),
         other => panic!("{other:?}"),
     }
@@ -155,5 +185,5 @@ pub fn with_image_nodes(first: Vec<Node>, nodes: usize) -> Vec<u8> {
     let more = nodes - first.len();
     let mut deep = vec![Node::Lambda(0); more - 1];
     deep.push(Node::Unit);
-    image_of(&[thread(&first), thread(&deep)])
+    on_deep_stack(|| image_of(&[thread(&first), thread(&deep)]))
 }

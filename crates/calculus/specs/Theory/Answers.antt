@@ -6,11 +6,12 @@ use Prim.Native.Nat.{suc, zero, ℕ}
 use lib.ListN.{replicate}
 use Rattle.calculus.specs.Syntax.{unit, op, cell, exch, thread, handle, Exp, var, name, const, lam, app, thread-of, holds, open-for, used, awaited, sum-in, sum-all}
 use Rattle.calculus.specs.Reduction.{substitute, plug, THREAD-NEW, FUTURE-DEREF, CELL-NEW}
-use Rattle.calculus.specs.Step.{beside, place-app, place, rule, waiting, done, no-thread, when-done, step-call, step-exchange, step-meeting, step-place, step-of}
+use Rattle.calculus.specs.Step.{beside, place, rule, waiting, done, no-thread, when-done, step-call, step-exchange, step-meeting, step-place, step-of, within, step-subject, step-case, step-redex}
 use Rattle.calculus.specs.NewTypes.{function-at, result-type, future-and-handle, coming, new-types}
 use Rattle.calculus.specs.Reply.{refuses, reply-of}
 use Rattle.calculus.specs.Theory.ConfigRuns.{config-reply, state-left, config-steps}
 use Rattle.calculus.specs.Image.{nodes, nodes-all, expression-test, is-settled, is-awaited, handle-for, component-test, each-test, limits-test, image-test}
+use Rattle.calculus.specs.Syntax.{sum-in, sum-all}
 use Rattle.calculus.specs.Theory.Cases.{call, answer-number}
 
 -- case K: rule 4 at 254 names goes, at 255 gives 15; rule 2 adds one node, at 4,095 it goes, at 4,096 gives 15; 12 and 14 come first
@@ -33,14 +34,14 @@ case-K :
     (answer-number (config-reply (thread-of with-thread ∷ holds (deep 4092) ∷ []) (record { thread = 7; buffer = 13825 })) ≡ 12) ×
     (answer-number (config-reply (thread-of with-thread ∷ holds (deep 4092) ∷ []) (call 1)) ≡ 14) ×
     (answer-number (config-reply (thread-of with-thread ∷ holds (deep 4093) ∷ []) (call 1)) ≡ 13)
-unfolding deep config-steps state-left config-reply reply-of image-test limits-test each-test component-test expression-test is-settled is-awaited handle-for sum-all nodes sum-in step-of step-place step-meeting step-call step-exchange when-done place place-app beside substitute plug function-at result-type future-and-handle coming new-types
+unfolding deep config-steps state-left config-reply reply-of image-test limits-test each-test component-test expression-test is-settled is-awaited handle-for sum-all nodes sum-in step-of step-place step-redex step-case step-subject step-meeting step-call step-exchange when-done place within beside substitute plug function-at result-type future-and-handle coming new-types
 case-K = (refl, refl, refl, refl, refl, refl, refl, refl)
 
 -- case L: a used handle, and a cell, applied to unit
 case-L :
     (config-reply (thread-of (app (name 1) (const unit)) ∷ used ∷ []) (call 0) ≡ refuses 16) ×
     (config-reply (thread-of (app (name 1) (const unit)) ∷ holds (const unit) ∷ []) (call 0) ≡ refuses 17)
-unfolding config-steps state-left config-reply reply-of image-test limits-test each-test component-test expression-test is-settled is-awaited handle-for sum-all nodes sum-in step-of step-place step-meeting step-call step-exchange when-done place place-app beside substitute plug function-at result-type future-and-handle coming new-types
+unfolding config-steps state-left config-reply reply-of image-test limits-test each-test component-test expression-test is-settled is-awaited handle-for sum-all nodes sum-in step-of step-place step-redex step-case step-subject step-meeting step-call step-exchange when-done place within beside substitute plug function-at result-type future-and-handle coming new-types
 case-L = (refl, refl)
 
 -- each rule and each other answer, where no case above has it
@@ -54,7 +55,7 @@ answers :
     (step-of (thread-of (app (const (op exch 0)) (name 7)) ∷ []) 0 ≡ done) ×
     (step-of (awaited ∷ []) 0 ≡ no-thread) ×
     (step-of [] 0 ≡ no-thread)
-unfolding step-of step-place step-meeting step-call step-exchange when-done place place-app beside plug
+unfolding step-of step-place step-redex step-case step-subject step-meeting step-call step-exchange when-done place within beside plug
 answers = (refl, refl, refl, refl, refl, refl, refl, refl)
 
 -- images that break a rule: a variable not bound, a name not below m, a cell with no value, a handle whose companion is no
@@ -64,10 +65,10 @@ broken-images :
     (thread-of (var 0) ∷ []) ∷ (thread-of (name 1) ∷ []) ∷ (holds (app (const unit) (const unit)) ∷ []) ∷ (open-for 0 ∷ []) ∷ (awaited ∷ []) ∷
     (awaited ∷ open-for 0 ∷ open-for 0 ∷ []) ∷ replicate 257 used ∷ []
     ) ≡ replicate 7 false
-unfolding config-steps state-left config-reply reply-of image-test limits-test each-test component-test expression-test is-settled is-awaited handle-for sum-all nodes sum-in step-of step-place step-meeting step-call step-exchange when-done place place-app beside substitute plug function-at result-type future-and-handle coming new-types
+unfolding config-steps state-left config-reply reply-of image-test limits-test each-test component-test expression-test is-settled is-awaited handle-for sum-all nodes sum-in step-of step-place step-redex step-case step-subject step-meeting step-call step-exchange when-done place within beside substitute plug function-at result-type future-and-handle coming new-types
 broken-images = refl
 
 -- 13 comes before 14, and 12 before 13
 broken-replies : (config-reply (awaited ∷ []) (call 0) ≡ refuses 13) × (config-reply (awaited ∷ []) (record { thread = 0; buffer = 0 }) ≡ refuses 12)
-unfolding config-steps state-left config-reply reply-of image-test limits-test each-test component-test expression-test is-settled is-awaited handle-for sum-all nodes sum-in step-of step-place step-meeting step-call step-exchange when-done place place-app beside substitute plug function-at result-type future-and-handle coming new-types
+unfolding config-steps state-left config-reply reply-of image-test limits-test each-test component-test expression-test is-settled is-awaited handle-for sum-all nodes sum-in step-of step-place step-redex step-case step-subject step-meeting step-call step-exchange when-done place within beside substitute plug function-at result-type future-and-handle coming new-types
 broken-replies = (refl, refl)

@@ -12,7 +12,7 @@ use Rattle.calculus.specs.Syntax.{unit, num, op, exch, thread, handle, E
 use Rattle.calculus.specs.Typing.{TypeNumbers}
 use Rattle.calculus.specs.Reduction.{substitute, plug}
 use Rattle.calculus.specs.Names.{uses}
-use Rattle.calculus.specs.Step.{beside, place-app, place, when-done, step-call, step-exchange, step-meeting, step-place, step-of}
+use Rattle.calculus.specs.Step.{beside, place, when-done, step-call, step-exchange, step-meeting, step-place, step-of, within, step-subject, step-case, step-redex}
 use Rattle.calculus.specs.NewTypes.{function-at, result-type, future-and-handle, coming, new-types}
 use Rattle.calculus.specs.Limits.{max-image-length}
 use Rattle.calculus.specs.State.{State}
@@ -20,8 +20,9 @@ use Rattle.calculus.specs.Reply.{Reply, moved, waits, finished, refuses,
 use Rattle.calculus.specs.Theory.ConfigRuns.{ConfigCall, config-reply, state-left, state-after, ConfigStep, config-steps, config-replied, ConfigBinds, ConfigDemand}
 use Rattle.calculus.specs.Recipe.{loaded, with-type, bay-types, start, Admitted}
 use Rattle.calculus.specs.Image.{nodes, const-size, size, image-length, expression-test, is-settled, is-awaited, handle-for, component-test, each-test, limits-test, image-test, Writable}
-use Rattle.calculus.specs.Table.{entry, Table, cell-reading, function-reading, read-entry, read-at, read-deep, type-at, test-entry, entry-test, entries-test, same-entry, new-to, distinct-test, entry-is, table-test}
-use Rattle.calculus.specs.Verdict.{on-function, on-once-function, on-cell, is-many, scoped-const, scoped, annotated-const, annotated, const-number, on-number, result-number, applied-number, lambda-number, type-number, outside-many, linear-parameter, linear, every, verdict}
+use Rattle.calculus.specs.Table.{entry, Table, read-entry, read-at, read-deep, type-at, test-entry, entry-test, entry-stands, entries-test, same-entry, new-to, distinct-test, entry-is, table-test, is-many, one-part, two-parts}
+use Rattle.calculus.specs.Verdict.{on-function, on-once-function, on-cell, scoped-const, scoped, annotated-const, annotated, const-number, on-number, result-number, applied-number, lambda-number, type-number, outside-many, linear, every, verdict, with-components, both-number, case-number, linear-variable}
+use Rattle.calculus.specs.Syntax.{sum-in, sum-all}
 use Rattle.calculus.specs.Theory.Tests.{clash}
 use Rattle.calculus.specs.Theory.TableTest.{table-test-iff}
 use Rattle.calculus.specs.Theory.Claim.{demand}
@@ -37,12 +38,12 @@ T7 = entry 0 0 0 ∷ entry 1 0 0 ∷ entry 2 1 0 ∷ entry 3 1 0 ∷ entry 4 3 0
 
 -- the tables keep the rules, with five kinds
 pub tables : (table-test 5 T3 ≡ true) × (table-test 5 T5 ≡ true) × (table-test 5 T7 ≡ true)
-unfolding table-test entries-test entry-test distinct-test new-to same-entry entry-is test-entry
+unfolding table-test entries-test entry-stands entry-test distinct-test new-to same-entry entry-is test-entry
 tables = (refl, refl, refl)
 
 -- type 6 of T7 is the handle's
 handle-type : type-at T7 6 ≡ some (fun many (fun many num-type (fun many (fun once num-type unit-type) unit-type)) unit-type)
-unfolding type-at read-deep read-at read-entry cell-reading function-reading
+unfolding type-at read-deep read-at read-entry one-part two-parts
 handle-type = refl
 
 -- exch setting 250
@@ -79,16 +80,16 @@ abbrev pub answered : ConfigStep → ℕ
 answered n = answer-number (config-replied n)
 
 -- what a run leaves
-unfoldable end : TypeNumbers → State → List ConfigCall → State
+unfoldable pub end : TypeNumbers → State → List ConfigCall → State
 end τ s [] = s
 end τ s (a ∷ rest) = end τ (state-after τ s a) rest
 
 -- a refused recipe is not loaded
-abbrev if-accepted : {A : Type 0} → ℕ → List A → List A
+abbrev pub if-accepted : {A : Type 0} → ℕ → List A → List A
 if-accepted v l = cond (eqb v 0) l []
 
 -- the row with what is computed in place of what is claimed
-unfoldable computed : Row → Row
+unfoldable pub computed : Row → Row
 computed r = record {
   table = r .table;
   terms = r .terms;
@@ -99,7 +100,7 @@ computed r = record {
   last = if-accepted (verdict (r .table) (r .terms)) (end (type-at (r .table)) (start (r .table) (r .terms)) (map call (r .threads)) .config);
 }
 
-abbrev refused-row : Table → Exp → ℕ → Row
+abbrev pub refused-row : Table → Exp → ℕ → Row
 refused-row T e k = record { table = T; terms = e ∷ []; verdict-is = k; type-numbers = []; threads = []; rules = []; last = [] }
 
 -- document 01's ● cases, A to I, the last with both halves, as document 02's T-01 has it. B: "One step, rule 7: the setting is 250, the thread is num 0".
@@ -127,7 +128,7 @@ rows =
     []
 
 cases : map computed rows ≡ rows
-unfolding computed end verdict every scoped scoped-const annotated annotated-const on-function on-once-function on-cell is-many test-entry type-number const-number on-number result-number applied-number lambda-number outside-many linear-parameter linear uses loaded with-type bay-types config-steps state-left config-reply reply-of image-test limits-test each-test component-test expression-test is-settled is-awaited handle-for sum-all nodes sum-in step-of step-place step-meeting step-call step-exchange when-done place place-app beside substitute plug function-at result-type future-and-handle coming new-types type-at read-deep read-at read-entry cell-reading function-reading
+unfolding computed end verdict every scoped scoped-const annotated annotated-const on-function on-once-function on-cell is-many test-entry type-number const-number on-number result-number applied-number lambda-number both-number case-number with-components outside-many linear-variable linear uses loaded with-type bay-types config-steps state-left config-reply reply-of image-test limits-test each-test component-test expression-test is-settled is-awaited handle-for sum-all nodes sum-in step-of step-place step-redex step-case step-subject step-meeting step-call step-exchange when-done place within beside substitute plug function-at result-type future-and-handle coming new-types type-at read-deep read-at read-entry one-part two-parts
 cases = refl
 
 -- case A's image has 18 bytes, as document 01 shows it
@@ -141,28 +142,28 @@ lowest :
     (verdict T7 (app (const unit) (const unit) ∷ const (op thread 3) ∷ []) ≡ 8) ×
     (verdict T7 (lam 4 (const unit) ∷ app (const unit) (const unit) ∷ []) ≡ 9) ×
     (verdict T7 (lam 3 (const unit) ∷ lam 4 (const unit) ∷ []) ≡ 10)
-unfolding verdict every scoped scoped-const annotated annotated-const on-function on-once-function on-cell is-many test-entry type-number const-number on-number result-number applied-number lambda-number outside-many linear-parameter linear uses
+unfolding verdict every scoped scoped-const annotated annotated-const on-function on-once-function on-cell is-many test-entry type-number const-number on-number result-number applied-number lambda-number both-number case-number with-components outside-many linear-variable linear uses
 lowest = (refl, refl, refl, refl)
 
 -- case C among steps that answer something else: done, 14, 12
 case-C-answers : map answered (config-steps (type-at T7) (start T7 (term-C ∷ [])) (call 1 ∷ call 0 ∷ call 1 ∷ record { thread = 1; buffer = 13825 } ∷ call 1 ∷ call 3 ∷ call 1 ∷ call 1 ∷ [])) ≡
     4 ∷ 14 ∷ 1 ∷ 12 ∷ 1 ∷ 14 ∷ 5 ∷ 0 ∷ []
-unfolding type-number const-number applied-number lambda-number on-function test-entry result-number on-number loaded with-type bay-types config-steps state-left config-reply reply-of image-test limits-test each-test component-test expression-test is-settled is-awaited handle-for sum-all nodes sum-in step-of step-place step-meeting step-call step-exchange when-done place place-app beside substitute plug function-at result-type future-and-handle coming new-types type-at read-deep read-at read-entry cell-reading function-reading
+unfolding type-number const-number applied-number lambda-number both-number case-number with-components on-function test-entry result-number on-number loaded with-type bay-types config-steps state-left config-reply reply-of image-test limits-test each-test component-test expression-test is-settled is-awaited handle-for sum-all nodes sum-in step-of step-place step-redex step-case step-subject step-meeting step-call step-exchange when-done place within beside substitute plug function-at result-type future-and-handle coming new-types type-at read-deep read-at read-entry one-part two-parts
 case-C-answers = refl
 
 -- the types of its names
 case-C-names : end (type-at T7) (start T7 (term-C ∷ [])) (replicate 4 (call 1)) .names ≡ ref num-type ∷ unit-type ∷ num-type ∷ fun once num-type unit-type ∷ []
-unfolding end type-number const-number applied-number lambda-number on-function test-entry result-number on-number loaded with-type bay-types config-steps state-left config-reply reply-of image-test limits-test each-test component-test expression-test is-settled is-awaited handle-for sum-all nodes sum-in step-of step-place step-meeting step-call step-exchange when-done place place-app beside substitute plug function-at result-type future-and-handle coming new-types type-at read-deep read-at read-entry cell-reading function-reading
+unfolding end type-number const-number applied-number lambda-number both-number case-number with-components on-function test-entry result-number on-number loaded with-type bay-types config-steps state-left config-reply reply-of image-test limits-test each-test component-test expression-test is-settled is-awaited handle-for sum-all nodes sum-in step-of step-place step-redex step-case step-subject step-meeting step-call step-exchange when-done place within beside substitute plug function-at result-type future-and-handle coming new-types type-at read-deep read-at read-entry one-part two-parts
 case-C-names = refl
 
 -- the last of the four applies handle 3 and binds future 2
 case-C-binds : (n : ConfigStep) × (at (config-steps (type-at T7) (start T7 (term-C ∷ [])) (replicate 4 (call 1))) 3 ≡ some n) × ConfigBinds n 2
-unfolding type-number const-number applied-number lambda-number on-function test-entry result-number on-number loaded with-type bay-types config-steps state-left config-reply reply-of image-test limits-test each-test component-test expression-test is-settled is-awaited handle-for sum-all nodes sum-in step-of step-place step-meeting step-call step-exchange when-done place place-app beside substitute plug function-at result-type future-and-handle coming new-types type-at read-deep read-at read-entry cell-reading function-reading
+unfolding type-number const-number applied-number lambda-number both-number case-number with-components on-function test-entry result-number on-number loaded with-type bay-types config-steps state-left config-reply reply-of image-test limits-test each-test component-test expression-test is-settled is-awaited handle-for sum-all nodes sum-in step-of step-place step-redex step-case step-subject step-meeting step-call step-exchange when-done place within beside substitute plug function-at result-type future-and-handle coming new-types type-at read-deep read-at read-entry one-part two-parts
 case-C-binds = (_, refl, (3, (_, refl, refl), refl))
 
 -- the third demand, of every run of it
 case-C-admitted : Admitted T7 (term-C ∷ [])
-unfolding nodes sum-in sum-all verdict every scoped scoped-const annotated annotated-const on-function on-once-function on-cell is-many test-entry type-number const-number on-number result-number applied-number lambda-number outside-many linear-parameter linear uses
+unfolding nodes sum-in sum-all verdict every scoped scoped-const annotated annotated-const on-function on-once-function on-cell is-many test-entry type-number const-number on-number result-number applied-number lambda-number both-number case-number with-components outside-many linear-variable linear uses
 case-C-admitted = record {
   table = table-test-iff 5 T7 .0 (tables .2) .1;
   written = written;

@@ -1,4 +1,4 @@
--- No rule makes an index, a lambda's type number or a constant but unit: what is allowed of them before a step is allowed after it.
+-- No rule makes an index, a type number of a lambda, pair or list front, or a constant but unit: what is allowed of them before a step is allowed after it.
 use mathlib.Core.Path.{_≡_}
 use mathlib.Core.Logic.{inl, inr}
 use mathlib.Core.Bool.{Bool, cond, false, true}
@@ -6,8 +6,8 @@ use mathlib.Core.List.{[], _++_, _∷_}
 use Prim.Native.Nat.{suc, zero, ℕ}
 use lib.Dec.{eqb}
 use lib.ListN.{length, set}
-use Rattle.calculus.specs.Syntax.{unit, Exp, var, name, const, lam, app, Component, thread-of, holds, open-for, used, awaited, Config, at, Allowed, Each, each-var, each-name, each-const, each-lam, each-app, EachAll, In}
-use Rattle.calculus.specs.Reduction.{substitute, Context, hole, in-function, in-argument, plug, Rule, Reduces, beta, thread-new, future-deref, future-deref-exch, handle-new, handle-bind, cell-new, cell-exch}
+use Rattle.calculus.specs.Syntax.{unit, Exp, var, name, const, lam, app, Component, thread-of, holds, open-for, used, awaited, Config, at, Allowed, Each, each-var, each-name, each-const, each-lam, each-app, EachAll, In, Shape, both, case-of, each-both, each-case}
+use Rattle.calculus.specs.Reduction.{substitute, Context, hole, in-function, in-argument, plug, Rule, Reduces, beta, thread-new, future-deref, future-deref-exch, handle-new, handle-bind, cell-new, cell-exch, in-first, in-second, in-subject, future-deref-case, case-both}
 use Rattle.calculus.specs.Theory.Tests.{clash}
 use Rattle.calculus.specs.Theory.Lists.{set-cases, append-cases}
 
@@ -22,12 +22,17 @@ each-substitute depth w each-name = each-name
 each-substitute depth w (each-const c) = each-const c
 each-substitute depth w (each-lam l s) = each-lam l (each-substitute (suc depth) w s)
 each-substitute depth w (each-app p q) = each-app (each-substitute depth w p) (each-substitute depth w q)
+each-substitute depth w (each-both l p q) = each-both l (each-substitute depth w p) (each-substitute depth w q)
+each-substitute depth w (each-case p q) = each-case (each-substitute depth w p) (each-substitute (suc (suc depth)) w q)
 
 each-plug : {Q : Allowed} (F : Context) {e : Exp} → Each Q (plug F e) → Each Q e × ((e′ : Exp) → Each Q e′ → Each Q (plug F e′))
 unfolding plug
 each-plug hole s = (s, λ e′ p. p)
 each-plug (in-function F a) (each-app p q) = let (r, f) = each-plug F p in (r, λ e′ w. each-app (f e′ w) q)
 each-plug (in-argument v w F) (each-app p q) = let (r, f) = each-plug F q in (r, λ e′ u. each-app p (f e′ u))
+each-plug (in-first s t F e₂) (each-both l p q) = let (r, f) = each-plug F p in (r, λ e′ w. each-both l (f e′ w) q)
+each-plug (in-second s t v w F) (each-both l p q) = let (r, f) = each-plug F q in (r, λ e′ u. each-both l p (f e′ u))
+each-plug (in-subject s F e₂) (each-case p q) = let (r, f) = each-plug F p in (r, λ e′ w. each-case (f e′ w) q)
 
 each-function : {Q : Allowed} {f a : Exp} → Each Q (app f a) → Each Q f
 each-function (each-app p q) = p
@@ -37,6 +42,12 @@ each-argument (each-app p q) = q
 
 each-body : {Q : Allowed} {t : ℕ} {e : Exp} → Each Q (lam t e) → Each Q e
 each-body (each-lam l s) = s
+
+each-case-parts : {Q : Allowed} {s : Shape} {e₁ e₂ : Exp} → Each Q (case-of s e₁ e₂) → Each Q e₁ × Each Q e₂
+each-case-parts (each-case p q) = (p, q)
+
+each-both-parts : {Q : Allowed} {s : Shape} {t : ℕ} {e₁ e₂ : Exp} → Each Q (both s t e₁ e₂) → Each Q e₁ × Each Q e₂
+each-both-parts (each-both l p q) = (p, q)
 
 module _ (Q : Allowed) where
   each-set : (C : Config) (x : ℕ) (c : Component) → EachAll Q C → In (Each Q) c → EachAll Q (set C x c)
@@ -65,6 +76,8 @@ module _ (Q : Allowed) where
         let p = each-plug F (a x _ h) in each-set C x _ a (p .1 _ (each-app (a y _ g) (each-argument (p .0))))
     each-step {C} {x = x} a (future-deref-exch F t y v w wv ww h g) =
         let p = each-plug F (a x _ h) in each-set C x _ a (p .1 _ (each-app (each-app (each-function (each-function (p .0))) (a y _ g)) (each-argument (p .0))))
+    each-step {C} {x = x} a (future-deref-case F s y w e ww h g) =
+        let p = each-plug F (a x _ h) in each-set C x _ a (p .1 _ (each-case (a y _ g) (each-case-parts (p .0) .1)))
     each-step {C} {x = x} a (handle-new F t v wv h) =
         let p = each-plug F (a x _ h) in
         each-append (set C x _) (awaited ∷ open-for (length C) ∷ []) (each-set C x _ a (p .1 _ (each-app (each-app (each-argument (p .0)) each-name) each-name)))
@@ -80,3 +93,8 @@ module _ (Q : Allowed) where
     each-step {C} {x = x} a (cell-exch F t y v w wv h g) =
         let p = each-plug F (a x _ h) in
         each-set (set C x (thread-of (plug F w))) y (holds v) (each-set C x (thread-of (plug F w)) a (p .1 w (a y (holds w) g))) (each-argument (p .0))
+    each-step {C} {x = x} a (case-both F s t v₁ v₂ e w₁ w₂ h) =
+        let p = each-plug F (a x _ h) in
+        let (u, b) = each-case-parts (p .0) in
+        let (u₁, u₂) = each-both-parts u in
+        each-set C x _ a (p .1 _ (each-substitute 0 u₂ (each-substitute 1 u₁ b)))

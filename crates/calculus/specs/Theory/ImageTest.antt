@@ -9,11 +9,11 @@ use native.Mathlib.Decide.{decLt}
 use native.Mathlib.Omega.{arith}
 use lib.Dec.{eqb, ltb}
 use lib.ListN.{length}
-use Rattle.calculus.specs.Syntax.{Exp, var, name, const, lam, app, Value, Component, thread-of, holds, open-for, used, awaited, Config, at, In, sum-in, sum-all}
+use Rattle.calculus.specs.Syntax.{Exp, var, name, const, lam, app, Value, Component, thread-of, holds, open-for, used, awaited, Config, at, In, sum-in, sum-all, both, case-of}
 use Rattle.calculus.specs.Names.{count}
 use Rattle.calculus.specs.Step.{Place, settled, meet, loose, place}
 use Rattle.calculus.specs.Limits.{max-names, max-nodes}
-use Rattle.calculus.specs.Image.{Closed, closed-var, closed-name, closed-const, closed-lam, closed-app, nodes-all, WithinLimits, ImageRule, expression-test, is-settled, is-awaited, handle-for, component-test, each-test, limits-test, image-test}
+use Rattle.calculus.specs.Image.{Closed, closed-var, closed-name, closed-const, closed-lam, closed-app, nodes-all, WithinLimits, ImageRule, expression-test, is-settled, is-awaited, handle-for, component-test, each-test, limits-test, image-test, closed-both, closed-case}
 use Rattle.calculus.specs.Theory.Tests.{clash, and-true, and-parts, eqb-sound, eqb-complete, eqb-differ, ltb-sound, ltb-complete}
 use Rattle.calculus.specs.Theory.Expressions.{count-same}
 use Rattle.calculus.specs.Theory.Places.{place-sound, place-value, Placed}
@@ -44,6 +44,16 @@ expression-sound m depth (app f a) h =
     let (p, q) = expression-sound m depth f g in
     let (p′, q′) = expression-sound m depth a b in
     (closed-app p p′, λ k l. omega (arith, q k l, q′ k l))
+expression-sound m depth (both s t e₁ e₂) h =
+    let (g, b) = and-parts (expression-test m depth e₁) (expression-test m depth e₂) h in
+    let (p, q) = expression-sound m depth e₁ g in
+    let (p′, q′) = expression-sound m depth e₂ b in
+    (closed-both p p′, λ k l. omega (arith, q k l, q′ k l))
+expression-sound m depth (case-of s e₁ e₂) h =
+    let (g, b) = and-parts (expression-test m depth e₁) (expression-test m (suc (suc depth)) e₂) h in
+    let (p, q) = expression-sound m depth e₁ g in
+    let (p′, q′) = expression-sound m (suc (suc depth)) e₂ b in
+    (closed-case p p′, λ k l. omega (arith, q k l, q′ k l))
 
 expression-complete : (m depth : ℕ) {e : Exp} → Closed depth e → ((k : ℕ) → m ≤ k → count k e ≡ 0) → expression-test m depth e ≡ true
 unfolding expression-test count
@@ -56,6 +66,10 @@ expression-complete m depth closed-const n = refl
 expression-complete m depth (closed-lam p) n = expression-complete m (suc depth) p n
 expression-complete m depth (closed-app p q) n =
     and-true (expression-complete m depth p (λ k l. omega (arith, n k l))) (expression-complete m depth q (λ k l. omega (arith, n k l)))
+expression-complete m depth (closed-both p q) n =
+    and-true (expression-complete m depth p (λ k l. omega (arith, n k l))) (expression-complete m depth q (λ k l. omega (arith, n k l)))
+expression-complete m depth (closed-case p q) n =
+    and-true (expression-complete m depth p (λ k l. omega (arith, n k l))) (expression-complete m (suc (suc depth)) q (λ k l. omega (arith, n k l)))
 
 -- values
 pub settled-value : (e : Exp) → is-settled (place e) ≡ true → Value e
@@ -64,7 +78,7 @@ settled-value e h = go (place e) (place-sound e) h
   where
     go : (p : Place) → Placed e p → is-settled p ≡ true → Value e
     go (settled v w) q h = subst (λ (u : Exp). Value u) (sym q) w
-    go (meet F f v wf wv) q h = absurd (false≢true h)
+    go (meet F r d) q h = absurd (false≢true h)
     go loose q h = absurd (false≢true h)
 
 value-complete : {e : Exp} → Value e → is-settled (place e) ≡ true

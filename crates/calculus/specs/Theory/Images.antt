@@ -1,13 +1,13 @@
 -- Every step of a run is handed an image that keeps its rules and limits, and that the node forms can write.
-use mathlib.Core.Path.{_≡_}
+use mathlib.Core.Path.{_≡_, refl}
 use mathlib.Core.Logic.{_⊎_, inl, inr}
 use mathlib.Core.Option.{some}
 use mathlib.Core.List.{List, [], _∷_}
 use Prim.Native.Nat.{_*_, _≤_, ℕ}
 use native.Mathlib.Omega.{arith}
-use Rattle.calculus.specs.Types.{once, LinType, multiplicity}
-use Rattle.calculus.specs.Syntax.{Const, unit, num, op, Exp, var, name, const, lam, app, Component, thread-of, holds, open-for, used, awaited, Config, at, EachAll, In, sum-in, sum-all}
-use Rattle.calculus.specs.Typing.{TypeNumbers}
+use Rattle.calculus.specs.Types.{once, LinType, multiplicity, list-type}
+use Rattle.calculus.specs.Syntax.{Const, unit, num, op, Exp, var, name, const, lam, app, Component, thread-of, holds, open-for, used, awaited, Config, at, EachAll, In, sum-in, sum-all, both, case-of, Value, is-name, is-const, is-exch, is-both}
+use Rattle.calculus.specs.Typing.{TypeNumbers, of-op, fig10-list, split-nil, Derivation, d-const, d-name, d-app, d-both}
 use Rattle.calculus.specs.Reduction.{Rule, Reduces}
 use Rattle.calculus.specs.Names.{OnceName}
 use Rattle.calculus.specs.State.{State}
@@ -59,6 +59,16 @@ once-is-handle {τ} {S} {C} s k o = let c = at-below C k (omega (arith, at-bound
     go awaited h = let f = s .fits k awaited h in let g = s .fits (f .0) (open-for k) (f .1) in
         let p = g .2 in let q = g .3 in absurd (clash (cc (t, m)))
 
+-- there is no empty list, and no name has a once list's type: so nothing is a value of such a type
+pub no-once-list : {τ : TypeNumbers} {S : List LinType} {C : Config} → Sound τ S C → {v : Exp} {α : LinType} → Value v → ¬ Derivation τ S [] v (list-type once α)
+no-once-list {S = S} {C = C} s {α = α} (is-name {k = k}) (d-name n t) = elim (once-is-handle s k (list-type once α, t, refl)) [
+  | inl (y, h) ↦ let f = s .fits k (open-for y) h in let q = f .1 in clash (cc)
+  | inr h ↦ let f = s .fits k used h in let q = f .1 in clash (cc)
+]
+no-once-list s is-const (d-const n (of-op p f)) = elim f [ ]
+no-once-list s (is-exch w) (d-app split-nil (d-const n (of-op p f)) d) = elim f [ ]
+no-once-list s (is-both w w′) (d-both p (fig10-list h) split-nil d d′) = no-once-list s w′ d′
+
 -- no image is longer than 13,826 bytes: a node takes at most three
 const-size-bound : (c : Const) → const-size c ≤ 3
 unfolding const-size
@@ -73,6 +83,8 @@ size-bound (name k) = omega arith
 size-bound (const c) = omega (arith, const-size-bound c)
 size-bound (lam t e) = omega (arith, size-bound e)
 size-bound (app f a) = omega (arith, size-bound f, size-bound a)
+size-bound (both s t e₁ e₂) = omega (arith, size-bound e₁, size-bound e₂)
+size-bound (case-of s e₁ e₂) = omega (arith, size-bound e₁, size-bound e₂)
 
 sum-in-bound : (c : Component) → sum-in size c ≤ 3 * sum-in nodes c
 unfolding sum-in

@@ -9,11 +9,11 @@ use native.Mathlib.Omega.{arith}
 use lib.ListN.{set}
 use Rattle.calculus.specs.Theory.Configurations.{sum-part}
 use Rattle.calculus.specs.Types.{LinType}
-use Rattle.calculus.specs.Syntax.{Exp, name, is-name, Component, thread-of, holds, open-for, used, awaited, Config, at, In, sum-in}
+use Rattle.calculus.specs.Syntax.{Exp, name, is-name, Component, thread-of, holds, open-for, used, awaited, Config, at, In, sum-in, pair, list}
 use Rattle.calculus.specs.Typing.{TypeNumbers}
-use Rattle.calculus.specs.Reduction.{plug, Rule, number, Reduces, beta, thread-new, future-deref, future-deref-exch, handle-new, handle-bind, cell-new, cell-exch}
+use Rattle.calculus.specs.Reduction.{plug, Rule, number, Reduces, beta, thread-new, future-deref, future-deref-exch, handle-new, handle-bind, cell-new, cell-exch, future-deref-case, case-both}
 use Rattle.calculus.specs.Names.{count, Outside, OnceNamesOnce}
-use Rattle.calculus.specs.Step.{step-of}
+use Rattle.calculus.specs.Step.{step-of, application}
 use Rattle.calculus.specs.NewTypes.{function-at}
 use Rattle.calculus.specs.Image.{WithinLimits, ImageRule}
 use Rattle.calculus.specs.State.{State, ValuesTyped}
@@ -110,12 +110,14 @@ later {C = C} {x = x} s (beta F t e v wv h) = later-thread C x _ _ h
 later {C = C} {x = x} s (thread-new F t v wv h) = later-trans (later-thread C x _ _ h) (later-append _ _)
 later {C = C} {x = x} s (future-deref F y v w wv ww h g) = later-thread C x _ _ h
 later {C = C} {x = x} s (future-deref-exch F t y v w wv ww h g) = later-thread C x _ _ h
+later {C = C} {x = x} s (future-deref-case F s′ y w e ww h g) = later-thread C x _ _ h
 later {C = C} {x = x} s (handle-new F t v wv h) = later-trans (later-thread C x _ _ h) (later-append _ _)
 later {C = C} {x = x} s (handle-bind F z y v wv h g) = later-bind s x y z _ _ v h g
 later {C = C} {x = x} s (cell-new F t v wv h) = later-trans (later-thread C x _ _ h) (later-append _ _)
 later {C = C} {x = x} s (cell-exch F t y v w wv h g) = later-trans (later-thread C x _ (plug F w) h)
     (later-set _ y (holds w) (holds v) (set-other C x y _ (λ q. clash (cc)) ∙ g)
     (λ q. absurd (clash (cc))) (λ f q. absurd (clash (cc))))
+later {C = C} {x = x} s (case-both F s′ t v₁ v₂ e w₁ w₂ h) = later-thread C x _ _ h
 
 -- every state of a run is sound, and later than the first
 module _ {τ : TypeNumbers} (s : State) (d : SoundState τ s) where
@@ -159,11 +161,14 @@ binding s (beta F t e v wv h) r = absurd (omega arith)
 binding s (thread-new F t v wv h) r = absurd (omega arith)
 binding s (future-deref F y v w wv ww h g) r = absurd (omega arith)
 binding s (future-deref-exch F t y v w wv ww h g) r = absurd (omega arith)
+binding s (future-deref-case F s′ y w e ww h g) r = absurd (omega arith)
 binding s (handle-new F t v wv h) r = absurd (omega arith)
 binding {C = C} {x = x} s (handle-bind F z y v wv h g) r =
-    (z, y, v, function-meet C x F (name z) v is-name wv (λ n. elim n [ ]) h, g, is-used s x y z _ _ v h g, is-bound s x y z _ _ v h g)
+    (z, y, v, function-meet C x F (application is-name wv) (λ n. elim n [ ]) h, g, is-used s x y z _ _ v h g, is-bound s x y z _ _ v h g)
 binding s (cell-new F t v wv h) r = absurd (omega arith)
 binding s (cell-exch F t y v w wv h g) r = absurd (omega arith)
+binding s (case-both F pair t v₁ v₂ e w₁ w₂ h) r = absurd (omega arith)
+binding s (case-both F list t v₁ v₂ e w₁ w₂ h) r = absurd (omega arith)
 
 applied-uses-up : (τ : TypeNumbers) (n : ConfigStep) → SoundState τ (n .before) → (z : ℕ) → ConfigApplies n z →
     (y : ℕ) × (v : Exp) × (at (n .before .config) z ≡ some (open-for y)) ×

@@ -4,7 +4,7 @@ use mathlib.Core.List.{List}
 use Prim.Native.Nat.{_-_, ℕ}
 use native.Mathlib.Omega.{arith}
 use borrow.Author.Needs.{needs}
-use Rattle.calculus.specs.Verdict.{is-many}
+use Rattle.calculus.specs.Table.{is-many}
 use Rattle.recipe_table.specs.Entries.{table-of, type-table}
 use Rattle.check_bays.proofs.Typing.{Typing, typing-all, typing-next, typing-none, typing-not}
 use Rattle.check_bays.proofs.types_of.Statement.{statement}

@@ -23,7 +23,7 @@ module _ {A : Type 0} where
   change-unused (suc zero) z = stays-due z
   change-unused (suc (suc mark)) z = was-spent z
 
-  -- a lambda's variable: a once-variable that is not due any more was used once
+  -- a variable that goes: a once-variable that is not due any more was used once
   pub change-due : {u mark : ℕ} → Change u A due-mark mark → ¬ (mark ≡ due-mark) → (u ≡ 1) × A
   change-due (stays-due z) n = absurd (n refl)
   change-due (is-spent w a) n = (w, a)
@@ -48,24 +48,24 @@ module _ {A B : Type 0} where
   fit-allowed h (fit-unused z) = fit-unused z
   fit-allowed h (fit-due w a) = fit-due w (h w a)
 
-  -- an application uses a variable as often as its function, here u, and its argument, here v
-  pub fit-function : {mark : ℕ} (u v : ℕ) → (B → A) → Fit (u + v) B mark → Fit u A mark
-  fit-function u v h fit-many = fit-many
-  fit-function u v h (fit-unused z) = fit-unused (omega arith)
-  fit-function zero v h (fit-due w b) = fit-unused refl
-  fit-function (suc u) v h (fit-due w b) = fit-due (omega arith) (h b)
+  -- of two subterms the first uses a variable u times, the second v times
+  pub fit-first : {mark : ℕ} (u v : ℕ) → (B → A) → Fit (u + v) B mark → Fit u A mark
+  fit-first u v h fit-many = fit-many
+  fit-first u v h (fit-unused z) = fit-unused (omega arith)
+  fit-first zero v h (fit-due w b) = fit-unused refl
+  fit-first (suc u) v h (fit-due w b) = fit-due (omega arith) (h b)
 
 module _ {A B C : Type 0} where
-  pub fit-argument : {u v mark mark′ : ℕ} → (C → B) → Fit (u + v) C mark → Change u A mark mark′ → Fit v B mark′
-  fit-argument h fit-many stays-many = fit-many
-  fit-argument h (fit-unused z) c = fit-unused (omega arith)
-  fit-argument h (fit-due w c) (stays-due z) = fit-due (omega arith) (h c)
-  fit-argument h (fit-due w c) (is-spent w′ a) = fit-unused (omega arith)
+  pub fit-second : {u v mark mark′ : ℕ} → (C → B) → Fit (u + v) C mark → Change u A mark mark′ → Fit v B mark′
+  fit-second h fit-many stays-many = fit-many
+  fit-second h (fit-unused z) c = fit-unused (omega arith)
+  fit-second h (fit-due w c) (stays-due z) = fit-due (omega arith) (h c)
+  fit-second h (fit-due w c) (is-spent w′ a) = fit-unused (omega arith)
 
-  pub change-application : {u v mark mark′ mark″ : ℕ} → (A → v ≡ 0 → C) → (u ≡ 0 → B → C) → Change u A mark mark′ → Change v B mark′ mark″ →
+  pub change-two : {u v mark mark′ mark″ : ℕ} → (A → v ≡ 0 → C) → (u ≡ 0 → B → C) → Change u A mark mark′ → Change v B mark′ mark″ →
       Change (u + v) C mark mark″
-  change-application f g stays-many stays-many = stays-many
-  change-application f g (stays-due z) (stays-due z′) = stays-due (omega arith)
-  change-application f g (stays-due z) (is-spent w b) = is-spent (omega arith) (g z b)
-  change-application f g (is-spent w a) (was-spent z) = is-spent (omega arith) (f a z)
-  change-application f g (was-spent z) (was-spent z′) = was-spent (omega arith)
+  change-two f g stays-many stays-many = stays-many
+  change-two f g (stays-due z) (stays-due z′) = stays-due (omega arith)
+  change-two f g (stays-due z) (is-spent w b) = is-spent (omega arith) (g z b)
+  change-two f g (is-spent w a) (was-spent z) = is-spent (omega arith) (f a z)
+  change-two f g (was-spent z) (was-spent z′) = was-spent (omega arith)

@@ -1,4 +1,4 @@
--- What a lambda's entry says of the calculus' tests and of the pass.
+-- A variable that goes, and what a lambda's entry says of the calculus' tests and of the pass.
 use mathlib.Core.Path.{_≡_, refl, sym, _∙_}
 use mathlib.Core.Bool.{Bool, _&&_, cond, false, false≢true, true}
 use mathlib.Core.Option.{Option, Option·none-ne-some, none, some}
@@ -7,17 +7,26 @@ use Prim.Native.Nat.{_<_, suc, ℕ}
 use native.Mathlib.Omega.{arith}
 use lib.Dec.{eqb}
 use Rattle.calculus.specs.Kinds.{once-type-kind}
-use Rattle.calculus.specs.Syntax.{Exp, var, name, const, lam, app, at}
+use Rattle.calculus.specs.Syntax.{Exp, var, name, const, lam, app, both, case-of, at}
 use Rattle.calculus.specs.Names.{uses}
-use Rattle.calculus.specs.Table.{Entry, Table, test-entry}
-use Rattle.calculus.specs.Verdict.{is-function-kind, on-function, on-once-function, is-many, outside-many, linear-parameter}
+use Rattle.calculus.specs.Table.{Entry, Table, test-entry, is-many}
+use Rattle.calculus.specs.Verdict.{is-function-kind, on-function, on-once-function, outside-many, linear-variable}
 use Rattle.calculus.specs.Theory.Tests.{and-true, and-parts, eqb-sound, eqb-complete, eqb-differ}
 use Rattle.check_linearity.specs.Spend.{Marks, new-mark, reach-under, leave, spend-lambda, many-mark, due-mark}
 use Rattle.check_linearity.specs.Theory.Changes.{Change, change-due, change-not-due, change-many, Fit, fit-many, fit-due}
+use Rattle.check_linearity.specs.Theory.Subterms.{Changed, FitAll, InReach}
 
 -- a once-variable with number i may be used in e
 abbrev pub Allowed : Table → ℕ → Exp → ℕ → Type 0
-Allowed T reach e i = (i < reach) × (outside-many T i e ≡ true)
+Allowed T reach e i = InReach reach (λ i. outside-many T i e) i
+
+-- what e makes of the marks M, variable by variable
+abbrev pub Spent : Table → ℕ → Marks → Exp → Marks → Type 0
+Spent T reach M e M′ = Changed (λ i. uses i e) (Allowed T reach e) M M′
+
+-- e may meet the marks M, variable by variable
+abbrev pub Fits : Table → ℕ → Marks → Exp → Type 0
+Fits T reach M e = FitAll (λ i. uses i e) (Allowed T reach e) M
 
 -- a variable that does not stand in e stands under no many-lambda of it
 pub unused-outside : (T : Table) (i : ℕ) (e : Exp) → uses i e ≡ 0 → outside-many T i e ≡ true
@@ -31,6 +40,8 @@ unused-outside T i (lam t e) z = go (on-once-function T t (λ p q. true)) (unuse
     go true h = h
     go false h = eqb-complete (uses (suc i) e) 0 z
 unused-outside T i (app f a) z = and-true (unused-outside T i f (omega arith)) (unused-outside T i a (omega arith))
+unused-outside T i (both s t e₁ e₂) z = and-true (unused-outside T i e₁ (omega arith)) (unused-outside T i e₂ (omega arith))
+unused-outside T i (case-of s e₁ e₂) z = and-true (unused-outside T i e₁ (omega arith)) (unused-outside T (suc (suc i)) e₂ (omega arith))
 
 -- the tests of an entry that is there
 pub and-true-right : (a : Bool) → (a && true) ≡ a
@@ -84,33 +95,33 @@ own-reach kind reach = go (eqb kind once-type-kind)
     go true = omega arith
     go false = omega arith
 
--- the lambda's own variable: the test of it, and its mark before and after the body
-module _ (T : Table) (p : ℕ) (e : Exp) (reach : ℕ) where
-  pub parameter-sound : (mark : ℕ) → Change (uses 0 e) (Allowed T reach e 0) (new-mark T p) mark → ¬ (mark ≡ due-mark) → linear-parameter T p e ≡ true
-  unfolding new-mark linear-parameter
-  parameter-sound mark c n = go (is-many T p) c
+-- a variable of a lambda or case: the test of it, and its mark before and after the body
+module _ (T : Table) (i p : ℕ) (e : Exp) (reach : ℕ) where
+  pub variable-sound : (mark : ℕ) → Change (uses i e) (Allowed T reach e i) (new-mark T p) mark → ¬ (mark ≡ due-mark) → linear-variable T i p e ≡ true
+  unfolding new-mark linear-variable
+  variable-sound mark c n = go (is-many T p) c
     where
-      go : (m : Bool) → Change (uses 0 e) (Allowed T reach e 0) (cond m many-mark due-mark) mark → cond m true (eqb (uses 0 e) 1 && outside-many T 0 e) ≡ true
+      go : (m : Bool) → Change (uses i e) (Allowed T reach e i) (cond m many-mark due-mark) mark → cond m true (eqb (uses i e) 1 && outside-many T i e) ≡ true
       go true c = refl
-      go false c = let (w, a) = change-due c n in and-true (eqb-complete (uses 0 e) 1 w) (a .1)
+      go false c = let (w, a) = change-due c n in and-true (eqb-complete (uses i e) 1 w) (a .1)
 
-  pub parameter-fit : 0 < reach → linear-parameter T p e ≡ true → Fit (uses 0 e) (Allowed T reach e 0) (new-mark T p)
-  unfolding new-mark linear-parameter
-  parameter-fit l h = go (is-many T p) h
+  pub variable-fit : i < reach → linear-variable T i p e ≡ true → Fit (uses i e) (Allowed T reach e i) (new-mark T p)
+  unfolding new-mark linear-variable
+  variable-fit l h = go (is-many T p) h
     where
-      go : (m : Bool) → cond m true (eqb (uses 0 e) 1 && outside-many T 0 e) ≡ true → Fit (uses 0 e) (Allowed T reach e 0) (cond m many-mark due-mark)
+      go : (m : Bool) → cond m true (eqb (uses i e) 1 && outside-many T i e) ≡ true → Fit (uses i e) (Allowed T reach e i) (cond m many-mark due-mark)
       go true h = fit-many
-      go false h = let (w, o) = and-parts (eqb (uses 0 e) 1) (outside-many T 0 e) h in fit-due (eqb-sound (uses 0 e) 1 w) (l, o)
+      go false h = let (w, o) = and-parts (eqb (uses i e) 1) (outside-many T i e) h in fit-due (eqb-sound (uses i e) 1 w) (l, o)
 
-  pub parameter-left : (mark : ℕ) → linear-parameter T p e ≡ true → Change (uses 0 e) (Allowed T reach e 0) (new-mark T p) mark → ¬ (mark ≡ due-mark)
-  unfolding new-mark linear-parameter
-  parameter-left mark h c = go (is-many T p) h c
+  pub variable-left : (mark : ℕ) → linear-variable T i p e ≡ true → Change (uses i e) (Allowed T reach e i) (new-mark T p) mark → ¬ (mark ≡ due-mark)
+  unfolding new-mark linear-variable
+  variable-left mark h c = go (is-many T p) h c
     where
-      go : (m : Bool) → cond m true (eqb (uses 0 e) 1 && outside-many T 0 e) ≡ true → Change (uses 0 e) (Allowed T reach e 0) (cond m many-mark due-mark) mark → ¬ (mark ≡ due-mark)
+      go : (m : Bool) → cond m true (eqb (uses i e) 1 && outside-many T i e) ≡ true → Change (uses i e) (Allowed T reach e i) (cond m many-mark due-mark) mark → ¬ (mark ≡ due-mark)
       go true h c = let z = change-many c in λ d. omega arith
-      go false h c = let (w, o) = and-parts (eqb (uses 0 e) 1) (outside-many T 0 e) h in change-not-due c (eqb-sound (uses 0 e) 1 w)
+      go false h c = let (w, o) = and-parts (eqb (uses i e) 1) (outside-many T i e) h in change-not-due c (eqb-sound (uses i e) 1 w)
 
--- leaving a lambda
+-- leaving a lambda or case
 pub leave-parts : (o : Option Marks) {M′ : Marks} → leave o ≡ some M′ → (mark : ℕ) × (o ≡ some (mark ∷ M′)) × (¬ (mark ≡ due-mark))
 unfolding leave
 leave-parts none {M′} h = absurd (Option·none-ne-some M′ h)
@@ -126,20 +137,20 @@ unfolding leave
 leave-some mark M n = rw (eqb-differ mark 1 n)
 
 -- a lambda that leaves marks has the entry of a function
-pub spend-lambda-parts : (T : Table) (reach : ℕ) (M : Marks) (o : Option Entry) (body : ℕ → Marks → Option Marks) {M′ : Marks} →
+pub spend-lambda-parts : (T : Table) (reach : ℕ) (M : Marks) (o : Option Entry) (body : ℕ → ℕ → Marks → Option Marks) {M′ : Marks} →
     spend-lambda T reach M o body ≡ some M′ →
-    (x : Entry) × (o ≡ some x) × (is-function-kind (x .kind) ≡ true) × (leave (body (reach-under (x .kind) reach) (new-mark T (x .p) ∷ M)) ≡ some M′)
+    (x : Entry) × (o ≡ some x) × (is-function-kind (x .kind) ≡ true) × (leave (body (x .p) (reach-under (x .kind) reach) (new-mark T (x .p) ∷ M)) ≡ some M′)
 unfolding spend-lambda
 spend-lambda-parts T reach M none body {M′} h = absurd (Option·none-ne-some M′ h)
 spend-lambda-parts T reach M (some x) body {M′} h = go (is-function-kind (x .kind)) refl h
   where
-    go : (f : Bool) → is-function-kind (x .kind) ≡ f → cond f (leave (body (reach-under (x .kind) reach) (new-mark T (x .p) ∷ M))) none ≡ some M′ →
-        (y : Entry) × (some x ≡ some y) × (is-function-kind (y .kind) ≡ true) × (leave (body (reach-under (y .kind) reach) (new-mark T (y .p) ∷ M)) ≡ some M′)
+    go : (f : Bool) → is-function-kind (x .kind) ≡ f → cond f (leave (body (x .p) (reach-under (x .kind) reach) (new-mark T (x .p) ∷ M))) none ≡ some M′ →
+        (y : Entry) × (some x ≡ some y) × (is-function-kind (y .kind) ≡ true) × (leave (body (y .p) (reach-under (y .kind) reach) (new-mark T (y .p) ∷ M)) ≡ some M′)
     go true k h = (x, refl, k, h)
     go false k h = absurd (Option·none-ne-some M′ h)
 
-pub spend-lambda-at : (T : Table) (reach : ℕ) (M : Marks) (o : Option Entry) (body : ℕ → Marks → Option Marks) (x : Entry) →
+pub spend-lambda-at : (T : Table) (reach : ℕ) (M : Marks) (o : Option Entry) (body : ℕ → ℕ → Marks → Option Marks) (x : Entry) →
     o ≡ some x → is-function-kind (x .kind) ≡ true →
-    spend-lambda T reach M o body ≡ leave (body (reach-under (x .kind) reach) (new-mark T (x .p) ∷ M))
+    spend-lambda T reach M o body ≡ leave (body (x .p) (reach-under (x .kind) reach) (new-mark T (x .p) ∷ M))
 unfolding spend-lambda
 spend-lambda-at T reach M o body x g k = rw (g, k)

@@ -1,28 +1,37 @@
 -- The proof of the cycle of calls {walk_at}: what falls is the part still unread, and each return is a law of proofs/Together.antt.
 use mathlib.Core.Path.{_≡_, sym, _∙_}
+use mathlib.Core.Bool.{true}
 use mathlib.Core.List.{List}
 use Prim.Native.Nat.{ℕ, _+_, _-_, _<_}
 use native.Mathlib.Omega.{arith}
 use borrow.Author.Needs.{needs}
+use borrow.Author.Tests.{not-false, not-true}
 use borrow.Fn.Kinds.{In}
 use borrow.Fn.PlainCycle.{Measures, is, falls, and}
 use lib.ListN.{length, length-set}
-use Rattle.calculus.specs.Limits.{max-nesting}
+use Rattle.calculus.specs.Limits.{max-variables}
 use Rattle.term.specs.declared.Front.the-variants.{Is}
 use Rattle.term.specs.declared.Node.{Node}
 use Rattle.term.specs.Reader.{node-at}
-use Rattle.term.proofs.Views.{app-from, AppAt, application-two, lambda-one, leaf-from, LeafAt, node-there, NodeAt, not-bad, one-from, OneAt, past-first, rest-application, two-from}
+use Rattle.term.proofs.Views.{lambda-one, leaf-from, LeafAt, node-there, NodeAt, not-bad, one-from, OneAt, past-first, rest-two, two-from, TwoAt}
 use Rattle.term.proofs.node_at.Reads as node-at-reads
 use Rattle.check_linearity.specs.Theory.Levels.{floor-below}
+use Rattle.check_types.specs.Two.{can-open}
+use Rattle.check_types.proofs.TwoNodes.{two-node, TwoNode}
+use Rattle.check_types.proofs.can_open.Reads as can-open-reads
+use Rattle.check_types.proofs.deciding.Reads as deciding-reads
 use Rattle.check_types.proofs.entry_at.Reads as entry-at-reads
 use Rattle.check_types.proofs.leaf_type.Reads as leaf-type-reads
+use Rattle.check_types.proofs.second_component.Reads as second-component-reads
 use Rattle.check_walk.specs.Walk.{WalkReady}
-use Rattle.check_walk.proofs.Ways.{leaf-scope, leaf-scoped, level-below, ready-argument, ready-body, ready-function, type-below}
-use Rattle.check_walk.proofs.Together.{second-is, walked-application, walked-lambda, walked-leaf, walked-no-first}
-use Rattle.check_walk.proofs.close_application.Reads as close-application-reads
+use Rattle.check_walk.proofs.Ways.{annotated, leaf-scope, leaf-scoped, level-below, ready-body, ready-first, ready-second, room-inside, room-there, type-below}
+use Rattle.check_walk.proofs.Together.{second-is, walked-closed, walked-lambda, walked-leaf, walked-no-first, walked-two}
+use Rattle.check_walk.proofs.are_used.Reads as are-used-reads
 use Rattle.check_walk.proofs.close_lambda.Reads as close-lambda-reads
+use Rattle.check_walk.proofs.close_two.Reads as close-two-reads
 use Rattle.check_walk.proofs.floor_under.Reads as floor-under-reads
 use Rattle.check_walk.proofs.new_mark.Reads as new-mark-reads
+use Rattle.check_walk.proofs.open_scope.Reads as open-scope-reads
 use Rattle.check_walk.proofs.spend_leaf.Reads as spend-leaf-reads
 use Rattle.check_walk.proofs.walk_at.Reads as reads
 use Rattle.check_walk.proofs.walk_at.Kinds as kinds
@@ -58,17 +67,27 @@ calls t = (
   reads.Post,
   close-lambda-reads.Asked,
   close-lambda-reads.Learnt,
-  close-application-reads.Asked,
-  close-application-reads.Learnt,
+  deciding-reads.Asked,
+  deciding-reads.Learnt,
+  can-open-reads.Asked,
+  can-open-reads.Learnt,
+  second-component-reads.Asked,
+  second-component-reads.Learnt,
+  open-scope-reads.Asked,
+  open-scope-reads.Learnt,
+  are-used-reads.Asked,
+  are-used-reads.Learnt,
+  close-two-reads.Asked,
+  close-two-reads.Learnt,
 )
 
 module _ (t : ℕ) where
   -- where the head is a node
   abbrev AtNode : Type 0
-  AtNode = lts.After-struct-known (calls t) (given t) reads.Post
+  AtNode = lts.After-struct-known2 (calls t) (given t) reads.Post
 
   abbrev start : AtNode → lts.Start (calls t) (given t) reads.Post
-  start c = c .before .before .before .before .before .before .before
+  start c = c .before .before .before .before .before .before .before .before
 
   abbrev all : AtNode → List ℕ
   all c = start c .args .s .now
@@ -89,10 +108,10 @@ module _ (t : ℕ) where
   ready c = start c .pre .1
 
   abbrev node : AtNode → Node
-  node c = c .before .before .node .given .0 .0
+  node c = c .before .before .before .node .given .0 .0
 
   is-node : (c : AtNode) → node-at (all c) (at c) ≡ Is (node c)
-  is-node c = sym (c .before .before .before .before .node-at .ensures) ∙ c .before .before .node .given .1
+  is-node c = sym (c .before .before .before .before .before .node-at .ensures) ∙ c .before .before .before .node .given .1
 
   here : (c : AtNode) → NodeAt (all c) (at c) (node c)
   here c = node-there (ready c .good .inside) (is-node c)
@@ -113,7 +132,7 @@ module _ (t : ℕ) where
   one : (c : AtLambda) → OneAt (all (lambda c)) (at (lambda c)) (node (lambda c))
   one c = let n = lambda c in one-from (is-node n) (ready n .good) (lambda-one (here n) (c .if2 .taken))
 
-  level : (c : AtLambda) → above (lambda c) < max-nesting
+  level : (c : AtLambda) → above (lambda c) < max-variables
   level c = level-below (ready (lambda c)) (one c)
 
   -- where its body is walked
@@ -129,17 +148,21 @@ module _ (t : ℕ) where
   space : (c : AtMark) → above (lambda (opened c)) < length (marks (lambda (opened c)))
   space c = omega (arith, level (opened c), ready (lambda (opened c)) .long)
 
-  -- where it is an application
+  -- where it has two subterms
   abbrev AtTwo : Type 0
-  AtTwo = lts.Else3 (calls t) (given t) reads.Post
+  AtTwo = lts.Else2 (calls t) (given t) reads.Post
 
-  abbrev apply : AtTwo → AtNode
-  apply c = c .before .before .before
+  abbrev apart : AtTwo → AtNode
+  apart c = c .before .before
 
-  two : (c : AtTwo) → AppAt (all (apply c)) (at (apply c)) (node (apply c))
-  two c =
-      let n = apply c in
-      app-from (two-from (is-node n) (ready n .good) (application-two (here n) (c .if3 .left))) (c .if3 .left)
+  subterms : (c : AtTwo) → node (apart c) .subterms ≡ 2
+  subterms c = rest-two (here (apart c)) (c .before .if1 .left) (c .if2 .left)
+
+  two : (c : AtTwo) → TwoAt (all (apart c)) (at (apart c)) (node (apart c))
+  two c = let n = apart c in two-from (is-node n) (ready n .good) (subterms c)
+
+  form : (c : AtTwo) → TwoNode (node (apart c) .tag) (node (apart c) .binders)
+  form c = two-node (here (apart c)) (subterms c)
 
   -- where the first of them has its type
   abbrev AtFirst : Type 0
@@ -149,10 +172,27 @@ module _ (t : ℕ) where
   back c = c .before .before .before .before .before .before
 
   abbrev second : AtFirst → ℕ
-  second c = c .before .function .given .0 .1 .0
+  second c = c .before .first .given .0 .1 .0
 
-  second-at : (c : AtFirst) → let n = apply (back c) in past-first (all n) (at n) (node n) ≡ second c
-  second-at c = second-is _ _ _ _ _ _ _ _ (two (back c)) _ _ (c .before .before .before .walk-at2 .ensures) _ _ _ (c .before .function .given .1)
+  second-at : (c : AtFirst) → let n = apart (back c) in past-first (all n) (at n) (node n) ≡ second c
+  second-at c = second-is _ _ _ _ _ _ _ _ (two (back c)) (form (back c)) _ _ (c .before .before .before .walk-at2 .ensures) _ _ _ (c .before .first .given .1)
+
+  -- where the second may be walked
+  abbrev AtOpen : Type 0
+  AtOpen = lts.Else3 (calls t) (given t) reads.Post
+
+  abbrev first : AtOpen → AtFirst
+  first c = c .before .before .before .before
+
+  opens : (c : AtOpen) → can-open (node (apart (back (first c))) .tag) (c .before .before .entry-at2 .result .kind) ≡ true
+  opens c = sym (c .before .can-open .ensures) ∙ not-false _ (c .if3 .left)
+
+  -- where its scope is open
+  abbrev AtScope : Type 0
+  AtScope = lts.After-open-scope (calls t) (given t) reads.Post
+
+  abbrev shut : AtScope → AtOpen
+  shut c = c .before .before .before .before
 
   node-at-requires : lts.Need-node-at-requires (calls t) (given t) reads.Post
   node-at-requires c κs = c .before .before .pre .1 .good .inside
@@ -165,6 +205,9 @@ module _ (t : ℕ) where
 
   returns : lts.Need-returns (calls t) (given t) reads.Post
   returns c = absurd (not-bad (c .before .before .before .before .before .pre .1 .good) (sym (c .before .before .node-at .ensures) ∙ c .enum-told .given .1))
+
+  cast-binders : lts.Need-cast-binders (calls t) (given t) reads.Post
+  cast-binders c = search needs
 
   add-next : lts.Need-add-next (calls t) (given t) reads.Post
   add-next c = omega (arith, here c .inside)
@@ -220,30 +263,20 @@ module _ (t : ℕ) where
       walked-lambda _ _ _ _ _ _ _ _ (one (opened m)) _ (m .before .before .entry-at .ensures) _ _ _ _ (room m) (space m) (ready (lambda (opened m)) .low)
       (m .before .floor-under .ensures) (m .new-mark .ensures) _ (c .before .before .walk-at .ensures) (c .close-lambda .ensures)
 
-  returns-4 : lts.Need-returns-4 (calls t) (given t) reads.Post
-  returns-4 c = absurd (c .if3 .taken (rest-application (here (c .before .before .before)) (c .before .before .if1 .left) (c .before .if2 .left)))
-
   walk-at-requires-2 : lts.Need-walk-at-requires-2 (calls t) (given t) reads.Post
-  walk-at-requires-2 c κs = let e = c .before .before in let n = apply e in (falls-at n, ready-function (ready n) (two e))
+  walk-at-requires-2 c κs = let e = c .before .before in let n = apart e in (falls-at n, ready-first (ready n) (two e) (form e))
 
-  enum-known-function : lts.Need-enum-known-function (calls t) (given t) reads.Post
-  enum-known-function c = search needs
+  enum-known-first : lts.Need-enum-known-first (calls t) (given t) reads.Post
+  enum-known-first c = search needs
 
   enum-told-2 : lts.Need-enum-told-2 (calls t) (given t) reads.Post
   enum-told-2 c = search needs
 
-  returns-5 : lts.Need-returns-5 (calls t) (given t) reads.Post
-  returns-5 c = walked-no-first _ _ _ _ _ _ _ _ (two (c .before .before .before .before .before)) _ _ (c .before .before .walk-at2 .ensures) (c .enum-told2 .given .1)
+  returns-4 : lts.Need-returns-4 (calls t) (given t) reads.Post
+  returns-4 c = let e = c .before .before .before .before .before in walked-no-first _ _ _ _ _ _ _ _ (two e) (form e) _ _ (c .before .before .walk-at2 .ensures) (c .enum-told2 .given .1)
 
-  walk-at-requires-3 : lts.Need-walk-at-requires-3 (calls t) (given t) reads.Post
-  walk-at-requires-3 c κs =
-      let f = c .before .before in
-      let e = back f in
-      let n = apply e in
-      let k = f .before .before .before .walk-at2 .ensures .left _ _ _ (f .before .function .given .1) in (
-        omega (arith, start n .pre .0, here n .onward, two e .two .onward, two e .two .second .inside, second-at f),
-        ready-argument (ready n) (two e) (sym (second-at f)) (k .wide) (k .same),
-      )
+  deciding-requires : lts.Need-deciding-requires (calls t) (given t) reads.Post
+  deciding-requires c κs = let e = back c in annotated (ready (apart e)) (two e) (form e)
 
   cast-entry-at : lts.Need-cast-entry-at (calls t) (given t) reads.Post
   cast-entry-at c = search needs
@@ -251,14 +284,56 @@ module _ (t : ℕ) where
   entry-at-requires-2 : lts.Need-entry-at-requires-2 (calls t) (given t) reads.Post
   entry-at-requires-2 c κs = search needs
 
-  close-application-requires : lts.Need-close-application-requires (calls t) (given t) reads.Post
-  close-application-requires c κs = search needs
+  can-open-requires : lts.Need-can-open-requires (calls t) (given t) reads.Post
+  can-open-requires c κs = search needs
+
+  returns-5 : lts.Need-returns-5 (calls t) (given t) reads.Post
+  returns-5 c =
+      let f = c .before .before .before .before in
+      walked-closed _ _ _ _ _ _ _ _ (two (back f)) (form (back f)) _ _ (f .before .before .before .walk-at2 .ensures) _ _ _ (f .before .first .given .1)
+      _ (c .before .before .before .deciding .ensures) _ (c .before .before .entry-at2 .ensures) (sym (c .before .can-open .ensures) ∙ not-true _ (c .if3 .taken))
+
+  second-component-requires : lts.Need-second-component-requires (calls t) (given t) reads.Post
+  second-component-requires c κs = search needs
+
+  open-scope-requires : lts.Need-open-scope-requires (calls t) (given t) reads.Post
+  open-scope-requires c κs =
+      let f = first (c .before .before .before) in
+      let e = back f in
+      let n = apart e in
+      let k = f .before .before .before .walk-at2 .ensures .left _ _ _ (f .before .first .given .1) in
+      room-there (ready n) (two e) (form e) (here n .bound) (k .wide) (k .same)
+
+  walk-at-requires-3 : lts.Need-walk-at-requires-3 (calls t) (given t) reads.Post
+  walk-at-requires-3 c κs =
+      let o = c .before .before in
+      let f = first (shut o) in
+      let e = back f in
+      let n = apart e in
+      let k = f .before .before .before .walk-at2 .ensures .left _ _ _ (f .before .first .given .1) in (
+        omega (arith, start n .pre .0, here n .onward, two e .onward, two e .second .inside, second-at f),
+        ready-second (ready n) (two e) (form e) (sym (second-at f)) (here n .bound) (k .wide) (k .same) (o .open-scope .ensures),
+      )
+
+  are-used-requires : lts.Need-are-used-requires (calls t) (given t) reads.Post
+  are-used-requires c κs = let e = back (first (shut (c .before .before .before .before))) in room-inside (ready (apart e)) (two e) (form e)
+
+  close-two-requires : lts.Need-close-two-requires (calls t) (given t) reads.Post
+  close-two-requires c κs = search needs
 
   returns-6 : lts.Need-returns-6 (calls t) (given t) reads.Post
   returns-6 c =
-      let f = c .before .before .before .before .before in
-      walked-application _ _ _ _ _ _ _ _ (two (back f)) _ _ (f .before .before .before .walk-at2 .ensures) _ _ _ (f .before .function .given .1) _ _ (c .before .before .walk-at3 .ensures)
-      (c .before .entry-at2 .ensures) (c .close-application .ensures)
+      let o = c .before .before .before .before .before .before in
+      let p = shut o in
+      let f = first p in
+      let e = back f in
+      let n = apart e in
+      let w = f .before .before .before .walk-at2 .ensures in
+      let k = w .left _ _ _ (f .before .first .given .1) in
+      let room = room-inside (ready n) (two e) (form e) in
+      walked-two _ _ _ _ _ _ _ _ (two e) (form e) _ _ w _ _ _ (f .before .first .given .1) _ (p .before .before .before .deciding .ensures) _ (p .before .before .entry-at2 .ensures)
+      (opens p) (ready n .low) (omega (arith, room, k .wide, ready n .wide)) (omega (arith, room, k .same, ready n .long)) _ _ _ _ _ _
+      (o .before .before .before .second-component .ensures) (o .open-scope .ensures) (c .before .before .before .walk-at3 .ensures) (c .before .are-used .ensures) (c .close-two .ensures)
 
 pub +walk-at-spec : {M : Type 1} → statement M
 +walk-at-spec =
@@ -267,6 +342,7 @@ pub +walk-at-spec : {M : Type 1} → statement M
     (enum-known-node t)
     (enum-told t)
     (returns t)
+    (cast-binders t)
     (add-next t)
     (leaf-type-requires t)
     (spend-leaf-requires t)
@@ -282,13 +358,18 @@ pub +walk-at-spec : {M : Type 1} → statement M
     (element-copy-out-close-lambda t)
     (close-lambda-requires t)
     (returns-3 t)
-    (returns-4 t)
     (walk-at-requires-2 t)
-    (enum-known-function t)
+    (enum-known-first t)
     (enum-told-2 t)
-    (returns-5 t)
-    (walk-at-requires-3 t)
+    (returns-4 t)
+    (deciding-requires t)
     (cast-entry-at t)
     (entry-at-requires-2 t)
-    (close-application-requires t)
+    (can-open-requires t)
+    (returns-5 t)
+    (second-component-requires t)
+    (open-scope-requires t)
+    (walk-at-requires-3 t)
+    (are-used-requires t)
+    (close-two-requires t)
     (returns-6 t)

@@ -22,17 +22,17 @@ element-copy-out-mark c = omega (arith, c .before .pre .bound (c .if1 .left), c 
 returns-2 : tie.Need-returns-2
 returns-2 c =
     let z = c .before .before .if1 .left in
-    variable-leaf _ _ z (λ T. walked-many _ (c .before .before .before .pre .bound z) (c .if2 .taken)) refl
+    variable-leaf _ _ z (λ T Δ. walked-many _ (c .before .before .before .pre .bound z) (c .if2 .taken)) refl
 
 returns-3 : tie.Need-returns-3
 returns-3 c =
     let z = c .before .before .before .if1 .left in
-    variable-leaf _ _ z (λ T. walked-spent _ (c .before .before .before .before .pre .bound z) (c .before .if2 .left) (c .if3 .taken)) refl
+    variable-leaf _ _ z (λ T Δ. walked-spent _ (c .before .before .before .before .pre .bound z) (c .before .if2 .left) (c .if3 .taken)) refl
 
 returns-4 : tie.Need-returns-4
 returns-4 c =
     let z = c .before .before .before .before .if1 .left in
-    variable-leaf _ _ z (λ T. walked-past-reach _ (c .before .before .before .before .before .pre .bound z) (c .before .before .if2 .left) (c .if4 .taken)) refl
+    variable-leaf _ _ z (λ T Δ. walked-past-reach _ (c .before .before .before .before .before .pre .bound z) (c .before .before .if2 .left) (c .if4 .taken)) refl
 
 element-write-marks : tie.Need-element-write-marks
 element-write-marks c =
@@ -43,7 +43,7 @@ returns-5 : tie.Need-returns-5
 returns-5 c =
     let z = c .before .before .before .before .if1 .left in
     let s = c .before .before .before .before .before in
-    variable-leaf _ _ z (λ T. walked-due _ (s .pre .bound z) (omega (arith, s .pre .room, s .pre .long)) (c .before .if3 .left) (c .if4 .left)) (simp length-set)
+    variable-leaf _ _ z (λ T Δ. walked-due _ (s .pre .bound z) (omega (arith, s .pre .room, s .pre .long)) (c .before .if3 .left) (c .if4 .left)) (simp length-set)
 
 pub spend-leaf-spec : {M : Type 1} → statement M
 spend-leaf-spec =

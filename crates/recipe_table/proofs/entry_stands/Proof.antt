@@ -1,5 +1,5 @@
 -- `recipe_table::entry_stands` meets its contract.
-use Rattle.recipe_table.proofs.Rules.{plain-zero, plain-not, cell-below, cell-not, function-below, function-not, kind-known, kind-not, unknown}
+use Rattle.recipe_table.proofs.Rules.{plain-zero, plain-not, cell-below, cell-not, two-below, two-not, list-zero, list-not, kind-known, kind-not, unknown}
 use borrow.Author.Needs.{needs}
 use Rattle.recipe_table.proofs.entry_stands.Statement.{statement}
 use Rattle.recipe_table.proofs.entry_stands.Tie as tie
@@ -28,17 +28,39 @@ returns-5 c = kind-known _ _ _ (c .before .before .before .if1 .left) (cell-not 
 returns-6 : tie.Need-returns-6
 returns-6 c =
     let e = c .before .before .before in
-    kind-known _ _ _ (e .before .if1 .left) (function-below _ _ _ _ (e .if2 .left) (c .before .before .if4 .left) (c .before .if6 .taken) (c .if7 .taken))
+    kind-known _ _ _ (e .before .if1 .left) (two-below _ _ _ _ (e .if2 .left) (c .before .before .if4 .left) (c .before .if6 .taken) (c .if7 .taken))
 
 returns-7 : tie.Need-returns-7
 returns-7 c =
     let e = c .before .before .before in
-    kind-known _ _ _ (e .before .if1 .left) (function-not _ _ _ _ (e .if2 .left) (c .before .before .if4 .left) (c .before .if6 .taken) (c .if7 .left))
+    kind-known _ _ _ (e .before .if1 .left) (two-not _ _ _ _ (e .if2 .left) (c .before .before .if4 .left) (c .before .if6 .taken) (c .if7 .left))
 
 returns-8 : tie.Need-returns-8
-returns-8 c = kind-known _ _ _ (c .before .before .before .if1 .left) (unknown _ _ _ _ (c .if6 .left))
+returns-8 c =
+    let e = c .before .before in
+    kind-known _ _ _ (e .before .before .before .if1 .left) (list-zero _ _ _ _ (e .if6 .left) (c .before .if8 .taken) (c .if9 .taken))
+
+returns-9 : tie.Need-returns-9
+returns-9 c =
+    let e = c .before .before in
+    kind-known _ _ _ (e .before .before .before .if1 .left) (list-not _ _ _ _ (e .if6 .left) (c .before .if8 .taken) (c .if9 .left))
+
+returns-10 : tie.Need-returns-10
+returns-10 c = kind-known _ _ _ (c .before .before .before .before .if1 .left) (unknown _ _ _ _ (c .before .if6 .left) (c .if8 .left))
 
 pub entry-stands-spec : {M : Type 1} → statement M
 entry-stands-spec =
     tie.close
-    (tie.spec cast-p cast-q returns returns-2 returns-3 returns-4 returns-5 returns-6 returns-7 returns-8)
+    (tie.spec
+    cast-p
+    cast-q
+    returns
+    returns-2
+    returns-3
+    returns-4
+    returns-5
+    returns-6
+    returns-7
+    returns-8
+    returns-9
+    returns-10)

@@ -3,8 +3,9 @@ use mathlib.Core.Path.{_∙_, _≡_, sym}
 use mathlib.Core.Option.{some}
 use Prim.Native.Nat.{ℕ}
 use native.Mathlib.Omega.{arith}
-use Rattle.calculus.specs.Syntax.{name, is-name, open-for, Config, at, EachAll}
-use Rattle.calculus.specs.Reduction.{HANDLE-BIND, Rule as RuleName, number, Reduces, beta, thread-new, future-deref, future-deref-exch, handle-new, handle-bind, cell-new, cell-exch}
+use Rattle.calculus.specs.Syntax.{name, is-name, list, open-for, pair, Config, at, EachAll}
+use Rattle.calculus.specs.Reduction.{HANDLE-BIND, Rule as RuleName, number, Reduces, beta, thread-new, future-deref, future-deref-exch, future-deref-case, handle-new, handle-bind, cell-new, cell-exch, case-both}
+use Rattle.calculus.specs.Step.{application}
 use Rattle.calculus.specs.Typing.{TypeNumbers}
 use Rattle.calculus.specs.NewTypes.{function-at}
 use Rattle.calculus.specs.Image.{ImageRule, Writable}
@@ -26,9 +27,12 @@ bound-there (thread-new F t v wv h) q = absurd (omega arith)
 bound-there (future-deref F y v w wv ww h g) q = absurd (omega arith)
 bound-there (future-deref-exch F t y v w wv ww h g) q = absurd (omega arith)
 bound-there (handle-new F t v wv h) q = absurd (omega arith)
-bound-there {C} {x = x} (handle-bind F z y v wv h g) q = (z, y, function-meet C x F (name z) v is-name wv (λ n. elim n [ ]) h, g)
+bound-there {C} {x = x} (handle-bind F z y v wv h g) q = (z, y, function-meet C x F (application is-name wv) (λ n. elim n [ ]) h, g)
 bound-there (cell-new F t v wv h) q = absurd (omega arith)
 bound-there (cell-exch F t y v w wv h g) q = absurd (omega arith)
+bound-there (future-deref-case F s y w e ww h g) q = absurd (omega arith)
+bound-there (case-both F pair t v₁ v₂ e w w′ h) q = absurd (omega arith)
+bound-there (case-both F list t v₁ v₂ e w w′ h) q = absurd (omega arith)
 
 module _ (τ : TypeNumbers) (s : State) (keeps : ImageRule (s .config)) (writable : EachAll Writable (s .config)) (c : Call) where
   abbrev handed : Step

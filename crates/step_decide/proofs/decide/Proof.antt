@@ -1,73 +1,22 @@
--- `step_decide::decide` meets its contract.
-use mathlib.Core.Path.{refl}
-use Prim.Native.Nat.{_+_}
-use Rattle.calculus.specs.Bytes.{Bytes}
-use Rattle.step_decide.specs.Decided.{refuses-wrong}
-use Rattle.step_decide.proofs.Tags.{tag-inside, tag-name, tag-application, tag-lambda, tag-cell, tag-thread, tag-handle, tag-other}
-use Rattle.step_decide.proofs.Decisions.{goes-by}
+-- `step_decide::decide` meets its contract: values meet in an application or in a case.
 use native.Mathlib.Omega.{arith}
 use borrow.Author.Needs.{needs}
+use Rattle.calculus.specs.Bytes.{Bytes}
+use Rattle.step_decide.proofs.Tags.{node-application, node-case, node-inside}
 use Rattle.step_decide.proofs.decide.Statement.{statement}
 use Rattle.step_decide.proofs.decide.Tie as tie
 
 are-bytes : (c : tie.After-shared-slice-known) → Bytes (c .before .args .image .now)
 are-bytes c = λ i. c .shared-slice-known .given i .fits
 
-add-tag : tie.Need-add-tag
-add-tag c = omega (arith, tag-inside (are-bytes c) (c .before .pre))
+shared-slice-read-if1 : tie.Need-shared-slice-read-if1
+shared-slice-read-if1 c = omega (arith, node-inside (are-bytes (c .before)) (c .before .before .pre))
 
-shared-slice-read-tag : tie.Need-shared-slice-read-tag
-shared-slice-read-tag c = omega (arith, tag-inside (are-bytes (c .before)) (c .before .before .pre))
+apply-requires : tie.Need-apply-requires
+apply-requires c κs = let p = c .before .before in node-application (are-bytes p) (p .before .pre) (c .if1 .taken)
 
-add-call : tie.Need-add-call
-add-call c = let k = c .before .before in omega (arith, tag-inside (are-bytes k) (k .before .pre))
-
-shared-slice-read-call : tie.Need-shared-slice-read-call
-shared-slice-read-call c = let k = c .before .before .before in omega (arith, tag-name (are-bytes k) (k .before .pre) (c .before .match .keys1))
-
-cast-call : tie.Need-cast-call
-cast-call c = omega (arith, c .shared-slice-known3 .given (c .before .before .before .before .args .meeting .at + 2))
-
-call-requires : tie.Need-call-requires
-call-requires c κs = let k = c .before .before .before in tag-name (are-bytes k) (k .before .pre) (c .before .match .keys1) .1
-
-exchange-requires : tie.Need-exchange-requires
-exchange-requires c κs = let k = c .before .before in tag-application (are-bytes k) (k .before .pre) (c .match .keys2)
-
-returns-3 : tie.Need-returns-3
-returns-3 c = let k = c .before .before .before in goes-by (c .goes .ensures) refl (tag-lambda (are-bytes k) (k .before .pre) (c .before .match .keys3))
-
-returns-4 : tie.Need-returns-4
-returns-4 c = let k = c .before .before .before in goes-by (c .goes2 .ensures) refl (tag-cell (are-bytes k) (k .before .pre) (c .before .match .keys4))
-
-returns-5 : tie.Need-returns-5
-returns-5 c = let k = c .before .before .before in goes-by (c .goes3 .ensures) refl (tag-thread (are-bytes k) (k .before .pre) (c .before .match .keys5))
-
-returns-6 : tie.Need-returns-6
-returns-6 c = let k = c .before .before .before in goes-by (c .goes4 .ensures) refl (tag-handle (are-bytes k) (k .before .pre) (c .before .match .keys6))
-
-returns-7 : tie.Need-returns-7
-returns-7 c = let k = c .before .before in refuses-wrong (tag-other (are-bytes k) (k .before .pre) (c .match .rest))
+take-apart-requires : tie.Need-take-apart-requires
+take-apart-requires c κs = let p = c .before .before in node-case (are-bytes p) (p .before .pre) (c .if1 .left)
 
 pub decide-spec : {M : Type 1} → statement M
-decide-spec =
-    tie.close
-    (tie.spec
-    add-tag
-    shared-slice-read-tag
-    add-call
-    shared-slice-read-call
-    cast-call
-    call-requires
-    exchange-requires
-    (λ c κs. search needs)
-    (λ c κs. search needs)
-    (λ c κs. search needs)
-    (λ c κs. search needs)
-    (λ c. search needs)
-    (λ c. search needs)
-    returns-3
-    returns-4
-    returns-5
-    returns-6
-    returns-7)
+decide-spec = tie.close (tie.spec shared-slice-read-if1 apply-requires (λ c. search needs) take-apart-requires (λ c. search needs))

@@ -6,25 +6,41 @@ use Rattle.buffer.specs.Theory.Writes.{known-as}
 use Rattle.step_rules.specs.Effects.{bytes-between, name-bytes, effect-of}
 use Rattle.step_rules.specs.Theory.Writers.{has-by}
 use Rattle.step_reduct.proofs.Redexes.{redex-by, names-by, length-7}
-use Rattle.step_reduct.proofs.Outcomes.{body-good, body-few, redex-length}
+use Rattle.step_reduct.proofs.Outcomes.{Replaces, replaces-as, replaces-1, replaces-8, replaces-9}
 use borrow.Author.Needs.{needs}
 use Rattle.step_reduct.proofs.put_redex_after.Statement.{statement}
 use Rattle.step_reduct.proofs.put_redex_after.Tie as tie
 
-put-applied-requires : tie.Need-put-applied-requires
-put-applied-requires c κs =
-    let t = c .before .before in
-    let start = t .before .before .before .before in
-    let w = start .pre .0 in
-    let e = t .enum-told .given .1 in
-    ((body-good w e, body-few w e), ((w .movable .argument .good, w .movable .argument-ends), omega (arith, redex-length w e, start .pre .1)))
+-- what is put in place by rules 1, 8 and 9
+abbrev start : tie.After-applied → tie.Start
+start c = c .before .before .before .before .before .before
+
+replaces : (c : tie.After-applied) → Replaces (start c .args .image .now) (start c .args .step) (c .applied .result)
+replaces c = replaces-as (c .applied .ensures) (replaces-1 (start c .pre .0) (c .before .before .enum-told .given .1))
+
+abbrev start-pair : tie.After-taken → tie.Start
+start-pair c = c .before .before .before .before .before .before .before
+
+replaces-pair : (c : tie.After-taken) → Replaces (start-pair c .args .image .now) (start-pair c .args .step) (c .taken .result)
+replaces-pair c = replaces-as (c .taken .ensures) (replaces-8 (start-pair c .pre .0) (c .before .before .before .by3 .given .1))
+
+abbrev start-list : tie.After-taken2 → tie.Start
+start-list c = c .before .before .before .before .before .before .before
+
+replaces-list : (c : tie.After-taken2) → Replaces (start-list c .args .image .now) (start-list c .args .step) (c .taken2 .result)
+replaces-list c = replaces-as (c .taken2 .ensures) (replaces-9 (start-list c .pre .0) (c .before .before .before .by4 .given .1))
+
+put-body-requires : tie.Need-put-body-requires
+put-body-requires c κs = let r = replaces c in (r .whole, omega (arith, ap length (r .is), start c .pre .1))
+
+put-body-requires-2 : tie.Need-put-body-requires-2
+put-body-requires-2 c κs = let r = replaces-pair c in (r .whole, omega (arith, ap length (r .is), start-pair c .pre .1))
+
+put-body-requires-3 : tie.Need-put-body-requires-3
+put-body-requires-3 c κs = let r = replaces-list c in (r .whole, omega (arith, ap length (r .is), start-list c .pre .1))
 
 returns : tie.Need-returns
-unfolding effect-of
-returns c =
-    let t = c .before .before .before .before .before in
-    let start = t .before .before .before .before in
-    known-as (c .before .before .put-applied .ensures) (sym (redex-by (start .pre .0) (t .enum-told .given .1)))
+returns c = known-as (c .before .before .put-body .ensures) (sym (replaces (c .before .before .before) .is))
 
 put-name-requires : tie.Need-put-name-requires
 unfolding effect-of
@@ -86,13 +102,19 @@ returns-7 c =
     let start = k .before .before .before .before in
     known-as (c .before .before .put-part .ensures) (sym (redex-by (start .pre .0) (k .by2 .given .1)))
 
+returns-8 : tie.Need-returns-8
+returns-8 c = known-as (c .before .before .put-body2 .ensures) (sym (replaces-pair (c .before .before .before) .is))
+
+returns-9 : tie.Need-returns-9
+returns-9 c = known-as (c .before .before .put-body3 .ensures) (sym (replaces-list (c .before .before .before) .is))
+
 pub put-redex-after-spec : {M : Type 1} → statement M
 put-redex-after-spec =
     tie.close
     (tie.spec
     (λ c. search needs)
-    (λ c. search needs)
-    put-applied-requires
+    (λ c κs. search needs)
+    put-body-requires
     (λ c. search needs)
     (λ c κs. search needs)
     put-name-requires
@@ -108,6 +130,12 @@ put-redex-after-spec =
     (λ c. search needs)
     put-part-requires
     (λ c. search needs)
+    (λ c κs. search needs)
+    put-body-requires-2
+    (λ c. search needs)
+    (λ c κs. search needs)
+    put-body-requires-3
+    (λ c. search needs)
     returns
     (λ c. search needs)
     returns-2
@@ -120,4 +148,8 @@ put-redex-after-spec =
     (λ c. search needs)
     returns-6
     (λ c. search needs)
-    returns-7)
+    returns-7
+    (λ c. search needs)
+    returns-8
+    (λ c. search needs)
+    returns-9)

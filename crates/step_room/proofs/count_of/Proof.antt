@@ -9,7 +9,13 @@ use Rattle.step_room.proofs.count_of.Statement.{statement}
 use Rattle.step_room.proofs.count_of.Tie as tie
 
 count-applied-requires : tie.Need-count-applied-requires
-count-applied-requires c κs = let w = c .before .before .before .pre in (has-by w (c .enum-told .given .1), w .argument)
+count-applied-requires c κs = let w = c .before .before .before .pre in (has-by w (c .enum-told .given .1), w .last)
+
+count-taken-requires : tie.Need-count-taken-requires
+count-taken-requires c κs = let w = c .before .before .before .before .pre in (has-by w (c .before .by2 .given .1), w .last)
+
+count-taken-requires-2 : tie.Need-count-taken-requires-2
+count-taken-requires-2 c κs = let w = c .before .before .before .before .pre in (has-by w (c .before .by3 .given .1), w .last)
 
 nodes-at-requires : tie.Need-nodes-at-requires
 nodes-at-requires c κs = has-by (c .before .before .before .before .pre) (c .before .by .given .1) .0 .good
@@ -45,6 +51,14 @@ returns-7 : tie.Need-returns-7
 unfolding effect-of
 returns-7 c = counts _ _ (c .before .enum-told6 .given .1) (c .counted6 .ensures) refl refl refl (omega arith) (omega arith)
 
+returns-8 : tie.Need-returns-8
+unfolding effect-of
+returns-8 c = counts-by _ _ (c .before .before .by2 .given .1) (c .count-taken .ensures)
+
+returns-9 : tie.Need-returns-9
+unfolding effect-of
+returns-9 c = counts-by _ _ (c .before .before .by3 .given .1) (c .count-taken2 .ensures)
+
 pub count-of-spec : {M : Type 1} → statement M
 count-of-spec =
     tie.close
@@ -64,10 +78,16 @@ count-of-spec =
     (λ c κs. search needs)
     (λ c. search needs)
     (λ c κs. search needs)
+    (λ c. search needs)
+    count-taken-requires
+    (λ c. search needs)
+    count-taken-requires-2
     returns
     returns-2
     returns-3
     returns-4
     returns-5
     returns-6
-    returns-7)
+    returns-7
+    returns-8
+    returns-9)

@@ -10,13 +10,13 @@ use Rattle.calculus.specs.Reduction.{substitute}
 use Rattle.term.specs.Forms.{form-of, forms}
 use Rattle.term.specs.Numbers.{value-of}
 use Rattle.term.specs.Reader.{read, read-term}
-use Rattle.term.specs.Expressions.{bytes, const-bytes, exp-of, leaf-exp, leaf-forms, term-of, two-exp}
+use Rattle.term.specs.Expressions.{bytes, const-bytes, exp-of, leaf-exp, leaf-forms, term-of, two-exp, two-forms, both-tag, case-tag}
 use Rattle.image_layout.specs.Encoded.{expressions, head, heads, image-bytes}
 use Rattle.image_layout.specs.Slice.{companion-at, encoded-at, expression-at, kind-at, length-at, names, offset-at}
 use Rattle.step_rules.specs.declared.Move.{Move}
-use Rattle.step_rules.specs.declared.Move.the-variants.{Beta, ThreadNew, FutureDeref, HandleNew, HandleBind, CellNew, CellExch}
+use Rattle.step_rules.specs.declared.Move.the-variants.{Beta, ThreadNew, FutureDeref, HandleNew, HandleBind, CellNew, CellExch, CasePair, CaseList}
 use Rattle.step_rules.specs.declared.Step.{Step}
-use Rattle.step_rules.specs.Effects.{bytes-between, effect-of}
+use Rattle.step_rules.specs.Effects.{bytes-between, effect-of, taken-apart}
 use Rattle.step_rules.specs.Moves.{component-after, components-after, expression-after, from-name, image-after, look-up, names-after, nodes-after, other-after}
 
 -- an image and its nodes, a step, and the image and its nodes after it
@@ -28,7 +28,7 @@ record Row : Type 0 where
   nodes-next : ℕ
 
 abbrev step : ℕ → ℕ → ℕ → ℕ → Move → Step
-step thread at argument end by = record { thread = thread; meeting = record { at = at; argument = argument; end = end }; by = by }
+step thread at second end by = record { thread = thread; meeting = record { at = at; second = second; end = end }; by = by }
 
 abbrev rows : List Row
 rows =
@@ -99,6 +99,28 @@ rows =
       next = 2 ∷ 0 ∷ 1 ∷ 0 ∷ 14 ∷ 0 ∷ 9 ∷ 0 ∷ 1 ∷ 0 ∷ 23 ∷ 0 ∷ 4 ∷ 0 ∷ 2 ∷ 2 ∷ 6 ∷ 4 ∷ 1 ∷ 3 ∷ 0 ∷ 0 ∷ 3 ∷ 1 ∷ 3 ∷ 0 ∷ 0 ∷ [];
       nodes-next = 8;
     }
+    -- rule 8, index 0 the second component: case (250, 7) of (x, y) ⇒ y x y; rule 9; rule 3 at a subject, which stays a subject
+    ∷ record {
+      before = 1 ∷ 0 ∷ 1 ∷ 0 ∷ 8 ∷ 0 ∷ 17 ∷ 0 ∷ 12 ∷ 10 ∷ 5 ∷ 4 ∷ 250 ∷ 0 ∷ 4 ∷ 7 ∷ 0 ∷ 2 ∷ 2 ∷ 0 ∷ 0 ∷ 0 ∷ 1 ∷ 0 ∷ 0 ∷ [];
+      nodes-before = 9;
+      step = step 0 8 17 25 (CasePair 14);
+      next = 1 ∷ 0 ∷ 1 ∷ 0 ∷ 8 ∷ 0 ∷ 11 ∷ 0 ∷ 2 ∷ 2 ∷ 4 ∷ 7 ∷ 0 ∷ 4 ∷ 250 ∷ 0 ∷ 4 ∷ 7 ∷ 0 ∷ [];
+      nodes-next = 5;
+    }
+    ∷ record {
+      before = 1 ∷ 0 ∷ 1 ∷ 0 ∷ 8 ∷ 0 ∷ 8 ∷ 0 ∷ 13 ∷ 11 ∷ 6 ∷ 3 ∷ 9 ∷ 0 ∷ 0 ∷ 0 ∷ [];
+      nodes-before = 5;
+      step = step 0 8 14 16 (CaseList 12);
+      next = 1 ∷ 0 ∷ 1 ∷ 0 ∷ 8 ∷ 0 ∷ 2 ∷ 0 ∷ 9 ∷ 0 ∷ [];
+      nodes-next = 1;
+    }
+    ∷ record {
+      before = 2 ∷ 0 ∷ 1 ∷ 0 ∷ 14 ∷ 0 ∷ 5 ∷ 0 ∷ 1 ∷ 0 ∷ 19 ∷ 0 ∷ 4 ∷ 0 ∷ 12 ∷ 9 ∷ 1 ∷ 0 ∷ 0 ∷ 10 ∷ 5 ∷ 3 ∷ 3 ∷ [];
+      nodes-before = 6;
+      step = step 0 14 17 19 (FutureDeref 19 23);
+      next = 2 ∷ 0 ∷ 1 ∷ 0 ∷ 14 ∷ 0 ∷ 7 ∷ 0 ∷ 1 ∷ 0 ∷ 21 ∷ 0 ∷ 4 ∷ 0 ∷ 12 ∷ 10 ∷ 5 ∷ 3 ∷ 3 ∷ 0 ∷ 0 ∷ 10 ∷ 5 ∷ 3 ∷ 3 ∷ [];
+      nodes-next = 8;
+    }
     ∷ []
 
 abbrev Hold : List Row → Type 0
@@ -106,5 +128,5 @@ Hold [] = Unit {0}
 Hold (r ∷ rs) = ((image-after (r .before) (r .step) ≡ r .next) × (nodes-after (r .nodes-before) (r .before) (r .step) ≡ r .nodes-next)) × Hold rs
 
 pub cases : Hold rows
-unfolding image-after components-after component-after other-after look-up from-name expression-after effect-of bytes-between names-after nodes-after tabulate image-bytes heads head expressions two-bytes word names kind-at companion-at offset-at length-at expression-at encoded-at bytes const-bytes substitute uses nodes term-of exp-of leaf-exp leaf-forms two-exp read-term read form-of forms value-of
-cases = ((refl, refl), ((refl, refl), ((refl, refl), ((refl, refl), ((refl, refl), ((refl, refl), ((refl, refl), ((refl, refl), ((refl, refl), tt)))))))))
+unfolding image-after components-after component-after other-after look-up from-name expression-after effect-of taken-apart bytes-between names-after nodes-after tabulate image-bytes heads head expressions two-bytes word names kind-at companion-at offset-at length-at expression-at encoded-at bytes const-bytes substitute uses nodes term-of exp-of leaf-exp leaf-forms two-exp two-forms both-tag case-tag read-term read form-of forms value-of
+cases = ((refl, refl), ((refl, refl), ((refl, refl), ((refl, refl), ((refl, refl), ((refl, refl), ((refl, refl), ((refl, refl), ((refl, refl), ((refl, refl), ((refl, refl), ((refl, refl), tt))))))))))))

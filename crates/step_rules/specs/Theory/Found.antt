@@ -1,4 +1,4 @@
--- What the search of a thread's expression has found is a meeting of two values in that thread.
+-- What the search of a thread's expression has found is a meeting of values in that thread.
 use mathlib.Core.Path.{_∙_, _≡_, ap, sym, subst}
 use mathlib.Core.Bool.{true}
 use mathlib.Core.Option.{some}
@@ -8,10 +8,10 @@ use native.Mathlib.Decide.{decLt}
 use native.Mathlib.Omega.{arith}
 use Rattle.image.specs.Theory.Lengths.{length-config}
 use Rattle.calculus.specs.Bytes.{Bytes}
-use Rattle.calculus.specs.Syntax.{Exp, app, Value, at, thread-of, sum-in, on-thread}
+use Rattle.calculus.specs.Syntax.{Exp, at, thread-of, sum-in, on-thread}
 use Rattle.calculus.specs.Reduction.{Context, plug}
 use Rattle.calculus.specs.Names.{count}
-use Rattle.calculus.specs.Step.{done, step-of, step-place, place, no-thread}
+use Rattle.calculus.specs.Step.{done, step-of, step-place, place, no-thread, Redex}
 use Rattle.calculus.specs.Image.{size}
 use Rattle.calculus.specs.Theory.Expressions.{count-plug}
 use Rattle.term.specs.Expressions.{term-at}
@@ -26,13 +26,12 @@ use Rattle.term_redex.proofs.Meetings.{MeetingAt, done-value, meet-met, meeting
 use Rattle.step_rules.specs.Meets.{Deciding, MeetsAt}
 use Rattle.step_rules.specs.Theory.Reading.{rules, thread-stands}
 
--- the two values and their context
+-- what meets, and its context
 pub record FoundMeeting (s : List ℕ) (x : ℕ) (m : Meeting) : Type 0 where
   pub context : Context
-  pub function : Exp
-  pub argument : Exp
-  pub function-value : Value function
-  pub meets : MeetsAt s x m context function-value argument
+  pub redex : Exp
+  pub is-redex : Redex redex
+  pub meets : MeetsAt s x m context is-redex
 
 pub found-meets : {s : List ℕ} {x : ℕ} {m : Meeting} → Bytes s → Deciding s x m → FoundMeeting s x m
 unfolding step-of step-place
@@ -42,32 +41,29 @@ found-meets {s} {x} {m} b d =
     let met = meet-met (offset-at s x) e m (sym (ap (λ g. place-of (offset-at s x) (place g)) (found-at (q .term) .term)) ∙ d .found) in
     let p = meeting-stands (q .term) met in
     let F = met .context in
-    let g = app (met .function) (met .argument) in
     record {
       context = F;
-      function = met .function;
-      argument = met .argument;
-      function-value = met .function-value;
+      redex = met .redex;
+      is-redex = met .is-redex;
       meets = record {
         in-bytes = b;
         stands = d .stands;
         thread = d .thread ∙ ap (λ h. some (thread-of h)) (p .whole);
-        value = met .argument-value;
         steps = ap (λ c. on-thread c no-thread (λ e. step-place (config-of s) x (place e))) (d .thread) ∙ ap (step-place (config-of s) x) (met .place-is);
-        placed = subst (λ h. MeetingAt s (offset-at s x) h m F (met .function) (met .argument)) (p .whole) p;
+        placed = subst (λ h. MeetingAt s (offset-at s x) h m F (met .is-redex)) (p .whole) p;
         long = q .long ∙ ap size (p .whole);
       };
     }
 
--- a name that stands in the application is a name of the image
-pub name-there : {s : List ℕ} {x : ℕ} {m : Meeting} {F : Context} {f : Exp} {w : Value f} {v : Exp} → MeetsAt s x m F w v → (y : ℕ) → 1 ≤ count y f → y < names s
+-- a name that stands there is a name of the image
+pub name-there : {s : List ℕ} {x : ℕ} {m : Meeting} {F : Context} {r : Exp} {d : Redex r} → MeetsAt s x m F d → (y : ℕ) → 1 ≤ count y r → y < names s
 unfolding count sum-in
-name-there {s} {x} {m} {F} {f} {w} {v} M y l = elim (decLt y (names s)) [
+name-there {s} {x} {m} {F} {r} M y l = elim (decLt y (names s)) [
   | yes p ↦ p
   | no p ↦ absurd (omega (
     arith,
-    rules s (M .in-bytes) (M .stands) .names-below x (thread-of (plug F (app f v))) (M .thread) y (omega (arith, length-config s)),
-    count-plug y F (app f v),
+    rules s (M .in-bytes) (M .stands) .names-below x (thread-of (plug F r)) (M .thread) y (omega (arith, length-config s)),
+    count-plug y F r,
   ))
 ]
 

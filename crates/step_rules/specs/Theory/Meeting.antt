@@ -1,4 +1,4 @@
--- The meeting in bytes: the two values, the thread's expression after a step, and the components after a step.
+-- The meeting in bytes: the values, the thread's expression after a step, and the components after a step.
 use mathlib.Core.Path.{_∙_, _≡_, ap, ap₂, sym}
 use mathlib.Core.Bool.{cond}
 use mathlib.Core.List.{List, [], _++_, _∷_, append-assoc, map}
@@ -9,8 +9,9 @@ use lib.ListN.{drop, length, length-drop, take}
 use lib.Seq.{drop-drop, take-at}
 use Rattle.calculus.specs.Lists.{tabulate}
 use Rattle.calculus.specs.Kinds.{no-owner}
-use Rattle.calculus.specs.Syntax.{Exp, lam, app, Value, thread-of, Config}
+use Rattle.calculus.specs.Syntax.{Exp, lam, thread-of, Config}
 use Rattle.calculus.specs.Reduction.{Context, plug}
+use Rattle.calculus.specs.Step.{Redex}
 use Rattle.calculus.specs.Image.{size}
 use Rattle.calculus.specs.Theory.Tabulate.{tabulate-same}
 use Rattle.term.specs.Expressions.{bytes, TermAt}
@@ -23,6 +24,7 @@ use Rattle.image.specs.Owned.{thread-holding}
 use Rattle.image.specs.Theory.Exactly.{written-back}
 use Rattle.term_redex.specs.declared.Meeting.{Meeting}
 use Rattle.term_redex.specs.Contexts.{back, front}
+use Rattle.term_redex.specs.Places.{second-part}
 use Rattle.term_redex.proofs.Contexts.{plug-bytes}
 use Rattle.step_rules.specs.declared.Move.{Move}
 use Rattle.step_rules.specs.Effects.{bytes-between, argument-bytes, effect-of}
@@ -54,20 +56,20 @@ body-stands {s} {a} {t} {e} h =
     }
 
 -- the components before a step
-pub table-start : {s : List ℕ} {x : ℕ} {m : Meeting} {F : Context} {f : Exp} {w : Value f} {v : Exp} → MeetsAt s x m F w v → Table (config-of s) (names s) (encoded-at s)
+pub table-start : {s : List ℕ} {x : ℕ} {m : Meeting} {F : Context} {r : Exp} {d : Redex r} → MeetsAt s x m F d → Table (config-of s) (names s) (encoded-at s)
 unfolding encoded-all
 table-start {s} M = record { is = written-back s (M .in-bytes) (M .stands) }
 
-module _ {s : List ℕ} {x : ℕ} {m : Meeting} {F : Context} {f : Exp} {w : Value f} {v : Exp} (M : MeetsAt s x m F w v) where
-  -- the argument
-  pub argument-is : argument-bytes s m ≡ bytes v
-  argument-is = between-term (m .end) (M .placed .argument) (M .placed .ends)
+module _ {s : List ℕ} {x : ℕ} {m : Meeting} {F : Context} {q : Exp} {d : Redex q} (M : MeetsAt s x m F d) where
+  -- the second subterm
+  pub argument-is : argument-bytes s m ≡ bytes (second-part d)
+  argument-is = between-term (m .end) (M .placed .second) (M .placed .ends)
 
-  -- the thread's expression after a step, whatever came in place of the application
+  -- the thread's expression after a step, whatever came in place of the application or case
   pub expression-is : (by : Move) (r : Exp) → effect-of s m by .redex ≡ bytes r → expression-after s (step-at x m by) ≡ bytes (plug F r)
   unfolding expression-after bytes-between
   expression-is by r e =
-      let n : offset-at s x + length-at s x ≡ offset-at s x + size (plug F (app f v)) = ap (λ k. offset-at s x + k) (M .long) in
+      let n : offset-at s x + length-at s x ≡ offset-at s x + size (plug F q) = ap (λ k. offset-at s x + k) (M .long) in
       let a : take (offset-at s x + length-at s x - m .end) (drop (m .end) s) ≡ back F = ap (λ k. take (k - m .end) (drop (m .end) s)) n ∙ M .placed .after in
       ap₂ (λ (p q : List ℕ). p ++ q) (ap₂ (λ (p q : List ℕ). p ++ q) (M .placed .before) e) a ∙ append-assoc (front F) (bytes r) (back F) ∙ sym (plug-bytes F r)
 

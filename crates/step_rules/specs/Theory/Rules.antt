@@ -1,4 +1,4 @@
--- The seven rules: what each makes of the image in bytes is what it makes of the configuration.
+-- The nine rules: what each makes of the image in bytes is what it makes of the configuration.
 use mathlib.Core.Path.{_∙_, _≡_, ap, ap₂, refl, sym, subst}
 use mathlib.Core.Bool.{cond}
 use mathlib.Core.Option.{some}
@@ -9,40 +9,40 @@ use lib.Dec.{eqb}
 use lib.ListN.{length, set}
 use Rattle.image.specs.Theory.Lengths.{length-config}
 use Rattle.calculus.specs.Theory.Configurations.{sum-append, sum-set, sum-part}
-use Rattle.calculus.specs.Syntax.{unit, op, cell, exch, thread, handle, Exp, name, const, app, Value, is-name, is-const, is-lam, is-exch, Component, thread-of, holds, open-for, used, awaited, Config, at, sum-in, sum-all}
-use Rattle.calculus.specs.Reduction.{substitute, Context, plug, put, HANDLE-NEW}
+use Rattle.calculus.specs.Syntax.{unit, op, cell, exch, thread, handle, Exp, name, const, lam, app, case-of, Shape, pair, list, Value, is-name, is-const, is-lam, is-exch, is-both, Component, thread-of, holds, open-for, used, awaited, Config, at, sum-in, sum-all}
+use Rattle.calculus.specs.Reduction.{substitute, substitute-both, Context, plug, put, HANDLE-NEW}
 use Rattle.calculus.specs.Kinds.{no-owner}
 use Rattle.calculus.specs.Names.{count}
-use Rattle.calculus.specs.Step.{rule, step-meeting, step-call, step-exchange, when-done}
-use Rattle.calculus.specs.Image.{nodes, nodes-all, size, const-size}
+use Rattle.calculus.specs.Step.{application, Redex, rule, step-redex, step-meeting, step-call, step-case, step-exchange, step-subject, subject, when-done}
+use Rattle.calculus.specs.Image.{Closed, closed-lam, nodes, nodes-all, size, const-size}
 use Rattle.calculus.specs.Theory.Tests.{clash}
 use Rattle.calculus.specs.Theory.Lists.{set-other}
 use Rattle.calculus.specs.Theory.Places.{place-value}
-use Rattle.term.specs.Expressions.{bytes, const-bytes, op-tag, TermAt, term-at}
+use Rattle.term.specs.Expressions.{bytes, case-tag, const-bytes, op-tag, TermAt, term-at}
 use Rattle.term.proofs.Expressions.{found-at}
 use Rattle.image_layout.specs.Encoded.{Encoded, image-bytes}
 use Rattle.image_layout.specs.Slice.{names, offset-at, length-at, encoded-at}
 use Rattle.image.specs.Configuration.{encode, config-of, image-of}
 use Rattle.image.specs.Owned.{thread-holding, cell-holding}
 use Rattle.term_redex.specs.declared.Meeting.{Meeting}
-use Rattle.term_redex.proofs.Contexts.{plug-nodes}
-use Rattle.term_subst.specs.Theory.Outcome.{nodes-substitute}
+use Rattle.term_redex.proofs.Contexts.{closed-components, closed-parts, closed-subject, components-stand, plug-closed, plug-nodes}
+use Rattle.calculus.specs.Theory.Weights.{nodes-both, nodes-substitute}
 use Rattle.step_rules.specs.declared.Move.{Move}
 use Rattle.step_rules.specs.declared.Move.the-variants.{Beta, ThreadNew, HandleNew, HandleBind, CellNew}
-use Rattle.step_rules.specs.Positions.{name-length, to-body}
-use Rattle.step_rules.specs.Effects.{rule-of, bytes-between, argument-bytes, name-bytes, effect-of}
+use Rattle.step_rules.specs.Positions.{name-length, to-body, to-component}
+use Rattle.step_rules.specs.Effects.{rule-of, bytes-between, argument-bytes, name-bytes, Effect, effect-of, taken-apart}
 use Rattle.step_rules.specs.Moves.{look-up, from-name, other-after, names-after, image-after, nodes-after}
-use Rattle.step_rules.specs.Stepped.{Counted, Copied, Has, Stepped}
-use Rattle.step_rules.specs.Meets.{step-at, dereferenced, exchanged, MeetsAt}
+use Rattle.step_rules.specs.Stepped.{Components, Counted, Copied, Has, Stepped}
+use Rattle.step_rules.specs.Meets.{step-at, dereferenced, exchanged, MeetsAt, taking}
 use Rattle.step_rules.specs.Theory.Reading.{rules, Stands, thread-stands, cell-stands}
 use Rattle.step_rules.specs.Theory.Changes.{Table, table-length, table-set, table-more, swap}
 use Rattle.step_rules.specs.Theory.Meeting.{between-front, between-term, body-stands, table-start, argument-is, components-are}
 use Rattle.step_rules.specs.Theory.Writers.{counted, thread-below, few, few-all, movable}
 
--- a step by a move, from the parts that are the move's own: what comes in place of the application, the table of the components, the nodes
-module _ {s : List ℕ} {x : ℕ} {m : Meeting} {F : Context} {f : Exp} {w : Value f} {v : Exp} (M : MeetsAt s x m F w v) where
+-- a step by a move, from the parts that are the move's own: what comes in place of the redex, the table of the components, the nodes
+module _ {s : List ℕ} {x : ℕ} {m : Meeting} {F : Context} {r : Exp} {d : Redex r} (M : MeetsAt s x m F d) where
   stepped : (by : Move) (e : Exp) (C : Config) (size : ℕ) (g : ℕ → Encoded)
-      → step-meeting (config-of s) x F w v ≡ rule (rule-of by) C
+      → step-redex (config-of s) x F d ≡ rule (rule-of by) C
       → effect-of s m by .redex ≡ bytes e
       → Table C size g → size ≡ names-after s (step-at x m by)
       → ((k : ℕ) → g k ≡ cond (eqb k x) (encode (thread-of (plug F e))) (other-after s (step-at x m by) k))
@@ -61,10 +61,10 @@ module _ {s : List ℕ} {x : ℕ} {m : Meeting} {F : Context} {f : Exp} {w : Val
         movable = movable M by has;
       }
 
-  -- the nodes of a configuration whose thread x has e in the place of the application
-  nodes-put : (e : Exp) → nodes-all (put (config-of s) x F e) + nodes (app f v) ≡ nodes-all (config-of s) + nodes e
+  -- the nodes of a configuration whose thread x has e in the place of the application or case
+  nodes-put : (e : Exp) → nodes-all (put (config-of s) x F e) + nodes r ≡ nodes-all (config-of s) + nodes e
   unfolding sum-in
-  nodes-put e = omega (arith, sum-set (sum-in nodes) (config-of s) x (thread-of (plug F e)) (M .thread), plug-nodes F e, plug-nodes F (app f v))
+  nodes-put e = omega (arith, sum-set (sum-in nodes) (config-of s) x (thread-of (plug F e)) (M .thread), plug-nodes F e, plug-nodes F r)
 
   -- the thread's component after a step
   abbrev thread-after : Exp → Encoded
@@ -76,26 +76,33 @@ module _ {s : List ℕ} {x : ℕ} {m : Meeting} {F : Context} {f : Exp} {w : Val
   new-name : length (config-of s) ≡ names s
   new-name = length-config s
 
+-- what meets has its variables bound in it
+closed-there : {s : List ℕ} {x : ℕ} {m : Meeting} {F : Context} {r : Exp} {d : Redex r} → MeetsAt s x m F d → Closed 0 r
+closed-there {s} {x} {m} {F} {r} M = plug-closed F r (rules s (M .in-bytes) (M .stands) .bound x (thread-of (plug F r)) (M .thread))
+
+closed-body : {t : ℕ} {e : Exp} → Closed 0 (lam t e) → Closed 1 e
+closed-body (closed-lam c) = c
+
 -- rule 1
-pub beta-moves : {s : List ℕ} {x t : ℕ} {m : Meeting} {F : Context} {e v : Exp} → MeetsAt s x m F (is-lam {t = t} {e = e}) v → Stepped s x (step-at x m Beta)
-unfolding step-meeting effect-of other-after look-up from-name names-after nodes-after nodes
+pub beta-moves : {s : List ℕ} {x t : ℕ} {m : Meeting} {F : Context} {e v : Exp} {u : Value v} → MeetsAt s x m F (application (is-lam {t = t} {e = e}) u) → Stepped s x (step-at x m Beta)
+unfolding step-redex step-meeting effect-of other-after look-up from-name names-after nodes-after nodes size
 beta-moves {s} {x} {t} {m} {F} {e} {v} M =
-    let body : TermAt s (m .at + to-body) e = subst (λ k. TermAt s k e) (omega arith) (body-stands (M .placed .function)) in
-    let p : term-at s (m .argument) ≡ v = found-at (M .placed .argument) .term in
+    let body : TermAt s (m .at + to-body) e = subst (λ k. TermAt s k e) (omega arith) (body-stands (M .placed .first)) in
+    let p : term-at s (m .second) ≡ v = found-at (M .placed .second) .term in
     let q : term-at s (m .at + to-body) ≡ e = found-at body .term in
     stepped M Beta (substitute 0 v e) _ (names s) _ refl
     (ap₂ (λ a c. bytes (substitute 0 a c)) p q)
     (table-put M (substitute 0 v e)) (omega arith) (λ k. refl)
     (rw (p, q) (omega (arith, nodes-put M (substitute 0 v e), nodes-substitute 0 v e)))
-    (counted body (omega (arith, few M)))
+    (record { body = counted body (omega (arith, few M)); body-ends = omega (arith, M .placed .second-at, found-at body .ends); body-closed = rw q (closed-body (closed-parts (closed-there M) .0)) })
 
 -- rules 2, 4 and 6: new names. The thread is none of them.
-not-new : {s : List ℕ} {x : ℕ} {m : Meeting} {F : Context} {f : Exp} {w : Value f} {v : Exp} → MeetsAt s x m F w v → (k : ℕ) → names s ≤ k → ¬ (x ≡ k)
+not-new : {s : List ℕ} {x : ℕ} {m : Meeting} {F : Context} {r : Exp} {d : Redex r} → MeetsAt s x m F d → (k : ℕ) → names s ≤ k → ¬ (x ≡ k)
 not-new M k l e = omega (arith, thread-below M)
 
 -- rule 2
-pub thread-moves : {s : List ℕ} {x t : ℕ} {m : Meeting} {F : Context} {v : Exp} → MeetsAt s x m F (is-const {c = op thread t}) v → Stepped s x (step-at x m ThreadNew)
-unfolding step-meeting effect-of other-after look-up from-name names-after nodes-after nodes sum-all sum-in bytes encode
+pub thread-moves : {s : List ℕ} {x t : ℕ} {m : Meeting} {F : Context} {v : Exp} {u : Value v} → MeetsAt s x m F (application (is-const {c = op thread t}) u) → Stepped s x (step-at x m ThreadNew)
+unfolding step-redex step-meeting effect-of other-after look-up from-name names-after nodes-after nodes sum-all sum-in bytes encode
 thread-moves {s} {x} {t} {m} {F} {v} M =
     let C = config-of s in
     let new = thread-of (app v (name (length C))) in
@@ -112,8 +119,8 @@ thread-moves {s} {x} {t} {m} {F} {v} M =
     tt
 
 -- rule 4
-pub handle-moves : {s : List ℕ} {x t : ℕ} {m : Meeting} {F : Context} {v : Exp} → MeetsAt s x m F (is-const {c = op handle t}) v → Stepped s x (step-at x m HandleNew)
-unfolding step-meeting effect-of other-after look-up from-name names-after nodes-after nodes sum-all sum-in bytes encode
+pub handle-moves : {s : List ℕ} {x t : ℕ} {m : Meeting} {F : Context} {v : Exp} {u : Value v} → MeetsAt s x m F (application (is-const {c = op handle t}) u) → Stepped s x (step-at x m HandleNew)
+unfolding step-redex step-meeting effect-of other-after look-up from-name names-after nodes-after nodes sum-all sum-in bytes encode
 handle-moves {s} {x} {t} {m} {F} {v} M =
     let C = config-of s in
     let z : length C ≡ names s = new-name M in
@@ -132,8 +139,8 @@ handle-moves {s} {x} {t} {m} {F} {v} M =
     tt
 
 -- rule 6
-pub cell-moves : {s : List ℕ} {x t : ℕ} {m : Meeting} {F : Context} {v : Exp} → MeetsAt s x m F (is-const {c = op cell t}) v → Stepped s x (step-at x m CellNew)
-unfolding step-meeting effect-of other-after look-up from-name names-after nodes-after nodes sum-all sum-in bytes encode
+pub cell-moves : {s : List ℕ} {x t : ℕ} {m : Meeting} {F : Context} {v : Exp} {u : Value v} → MeetsAt s x m F (application (is-const {c = op cell t}) u) → Stepped s x (step-at x m CellNew)
+unfolding step-redex step-meeting effect-of other-after look-up from-name names-after nodes-after nodes sum-all sum-in bytes encode
 cell-moves {s} {x} {t} {m} {F} {v} M =
     let C = config-of s in
     let z : length C ≡ names s = new-name M in
@@ -147,9 +154,9 @@ cell-moves {s} {x} {t} {m} {F} {v} M =
     tt
 
 -- rules 3, 5 and 7: the name at the place is a name of the image
-module _ {s : List ℕ} {x : ℕ} {m : Meeting} {F : Context} {f : Exp} {w : Value f} {v : Exp} (M : MeetsAt s x m F w v) where
+module _ {s : List ℕ} {x : ℕ} {m : Meeting} {F : Context} {r : Exp} {d : Redex r} (M : MeetsAt s x m F d) where
   -- one of another component than the thread's is another name
-  other : (y : ℕ) {c : Component} → at (config-of s) y ≡ some c → ¬ (thread-of (plug F (app f v)) ≡ c) → ¬ (x ≡ y)
+  other : (y : ℕ) {c : Component} → at (config-of s) y ≡ some c → ¬ (thread-of (plug F r) ≡ c) → ¬ (x ≡ y)
   other y h n e = let p = M .thread in let q = ap (at (config-of s)) e in n (cc)
 
   -- an expression that is copied, whole
@@ -164,13 +171,13 @@ module _ {s : List ℕ} {x : ℕ} {m : Meeting} {F : Context} {f : Exp} {w : Val
   counted-value {y} h q = counted (q .term) (omega (arith, sum-part (sum-in nodes) (config-of s) y h, few-all M))
 
 -- rule 3, at the function of an application
-pub deref-moves : {s : List ℕ} {x y : ℕ} {m : Meeting} {F : Context} {v : Exp} → MeetsAt s x m F (is-name {k = y}) v → (e : Exp) → at (config-of s) y ≡ some (thread-of e) → Value e
+pub deref-moves : {s : List ℕ} {x y : ℕ} {m : Meeting} {F : Context} {v : Exp} {u : Value v} → MeetsAt s x m F (application (is-name {k = y}) u) → (e : Exp) → at (config-of s) y ≡ some (thread-of e) → Value e
     → Stepped s x (step-at x m (dereferenced s y))
-unfolding step-meeting step-call when-done effect-of other-after look-up from-name names-after nodes-after nodes size bytes
+unfolding step-redex step-meeting step-call when-done effect-of other-after look-up from-name names-after nodes-after nodes size bytes
 deref-moves {s} {x} {y} {m} {F} {v} M e h u =
     let q = thread-stands s (M .in-bytes) (M .stands) y e h in
-    let a : bytes-between s (m .at) (m .argument - name-length) ≡ 2 ∷ [] =
-    between-front s (m .at) (m .argument - name-length) (2 ∷ []) _ (M .placed .application .stands) (omega (arith, M .placed .second)) in
+    let a : bytes-between s (m .at) (m .second - name-length) ≡ 2 ∷ [] =
+    between-front s (m .at) (m .second - name-length) (2 ∷ []) _ (M .placed .redex .stands) (omega (arith, M .placed .second-at)) in
     let p : term-at s (offset-at s y) ≡ e = found-at (q .term) .term in
     stepped M (dereferenced s y) (app e v) (put (config-of s) x F (app e v)) (names s) _
     (rw (h, place-value u) refl)
@@ -180,13 +187,13 @@ deref-moves {s} {x} {y} {m} {F} {v} M e h u =
     (counted-value M h q, copied M q)
 
 -- rule 3, at the first argument of a full exch
-pub deref-exch-moves : {s : List ℕ} {x y t : ℕ} {m : Meeting} {F : Context} {v : Exp} → MeetsAt s x m F (is-exch {t = t} (is-name {k = y})) v → (e : Exp)
+pub deref-exch-moves : {s : List ℕ} {x y t : ℕ} {m : Meeting} {F : Context} {v : Exp} {u : Value v} → MeetsAt s x m F (application (is-exch {t = t} (is-name {k = y})) u) → (e : Exp)
     → at (config-of s) y ≡ some (thread-of e) → Value e → Stepped s x (step-at x m (dereferenced s y))
-unfolding step-meeting step-exchange when-done effect-of other-after look-up from-name names-after nodes-after nodes size const-size bytes const-bytes op-tag
+unfolding step-redex step-meeting step-exchange when-done effect-of other-after look-up from-name names-after nodes-after nodes size const-size bytes const-bytes op-tag
 deref-exch-moves {s} {x} {y} {t} {m} {F} {v} M e h u =
     let q = thread-stands s (M .in-bytes) (M .stands) y e h in
-    let a : bytes-between s (m .at) (m .argument - name-length) ≡ 2 ∷ 2 ∷ 6 ∷ t ∷ [] =
-    between-front s (m .at) (m .argument - name-length) (2 ∷ 2 ∷ 6 ∷ t ∷ []) _ (M .placed .application .stands) (omega (arith, M .placed .second)) in
+    let a : bytes-between s (m .at) (m .second - name-length) ≡ 2 ∷ 2 ∷ 6 ∷ t ∷ [] =
+    between-front s (m .at) (m .second - name-length) (2 ∷ 2 ∷ 6 ∷ t ∷ []) _ (M .placed .redex .stands) (omega (arith, M .placed .second-at)) in
     let p : term-at s (offset-at s y) ≡ e = found-at (q .term) .term in
     let r = app (app (const (op exch t)) e) v in
     stepped M (dereferenced s y) r (put (config-of s) x F r) (names s) _
@@ -197,9 +204,9 @@ deref-exch-moves {s} {x} {y} {t} {m} {F} {v} M e h u =
     (counted-value M h q, copied M q)
 
 -- rule 5
-pub bind-moves : {s : List ℕ} {x z : ℕ} {m : Meeting} {F : Context} {v : Exp} → MeetsAt s x m F (is-name {k = z}) v → (y : ℕ) → at (config-of s) z ≡ some (open-for y)
+pub bind-moves : {s : List ℕ} {x z : ℕ} {m : Meeting} {F : Context} {v : Exp} {u : Value v} → MeetsAt s x m F (application (is-name {k = z}) u) → (y : ℕ) → at (config-of s) z ≡ some (open-for y)
     → Stepped s x (step-at x m (HandleBind z y))
-unfolding step-meeting step-call effect-of other-after look-up from-name names-after nodes-after nodes sum-in bytes const-bytes encode
+unfolding step-redex step-meeting step-call effect-of other-after look-up from-name names-after nodes-after nodes sum-in bytes const-bytes encode
 bind-moves {s} {x} {z} {m} {F} {v} M y h =
     let C = config-of s in
     let g : at C y ≡ some awaited = rules s (M .in-bytes) (M .stands) .companions z y h in
@@ -222,9 +229,9 @@ bind-moves {s} {x} {z} {m} {F} {v} M y h =
     tt
 
 -- rule 7
-pub exchange-moves : {s : List ℕ} {x y t : ℕ} {m : Meeting} {F : Context} {v : Exp} → MeetsAt s x m F (is-exch {t = t} (is-name {k = y})) v → (e : Exp)
+pub exchange-moves : {s : List ℕ} {x y t : ℕ} {m : Meeting} {F : Context} {v : Exp} {u : Value v} → MeetsAt s x m F (application (is-exch {t = t} (is-name {k = y})) u) → (e : Exp)
     → at (config-of s) y ≡ some (holds e) → Stepped s x (step-at x m (exchanged s y))
-unfolding step-meeting step-exchange effect-of other-after look-up from-name names-after nodes-after nodes sum-in encode
+unfolding step-redex step-meeting step-exchange effect-of other-after look-up from-name names-after nodes-after nodes sum-in encode
 exchange-moves {s} {x} {y} {t} {m} {F} {v} M e h =
     let C = config-of s in
     let q = cell-stands s (M .in-bytes) (M .stands) y e h in
@@ -237,3 +244,64 @@ exchange-moves {s} {x} {y} {t} {m} {F} {v} M e h =
     ∙ ap (λ p. cond (eqb k x) (thread-after M e) (cond (eqb k y) (cell-holding no-owner p) (encoded-at s k))) (sym (argument-is M)))
     (omega (arith, sum-set (sum-in nodes) (put C x F e) y (holds v) h₁, nodes-put M e))
     (copied M q)
+
+-- rule 3, at the subject of a case
+pub deref-case-moves : {s : List ℕ} {x y : ℕ} {m : Meeting} {F : Context} {shape : Shape} {b : Exp} → MeetsAt s x m F (subject {s = shape} {e = b} (is-name {k = y})) → (e : Exp)
+    → at (config-of s) y ≡ some (thread-of e) → Value e → Stepped s x (step-at x m (dereferenced s y))
+unfolding step-redex step-case step-subject when-done effect-of other-after look-up from-name names-after nodes-after nodes size bytes
+deref-case-moves {s} {x} {y} {m} {F} {shape} {b} M e h u =
+    let q = thread-stands s (M .in-bytes) (M .stands) y e h in
+    let a : bytes-between s (m .at) (m .second - name-length) ≡ case-tag shape ∷ [] =
+    between-front s (m .at) (m .second - name-length) (case-tag shape ∷ []) _ (M .placed .redex .stands) (omega (arith, M .placed .second-at)) in
+    let p : term-at s (offset-at s y) ≡ e = found-at (q .term) .term in
+    let r = case-of shape e b in
+    stepped M (dereferenced s y) r (put (config-of s) x F r) (names s) _
+    (rw (h, place-value u) refl)
+    (ap₂ (λ (i j : List ℕ). i ++ j) (ap₂ (λ (i j : List ℕ). i ++ j) a (copied-is M y q)) (argument-is M))
+    (table-put M r) (omega arith) (λ k. refl)
+    (rw p (omega (arith, nodes-put M r)))
+    (counted-value M h q, copied M q)
+
+-- rules 8 and 9: the components stand one after the other, and the body after them
+module _ {s : List ℕ} {x t : ℕ} {m : Meeting} {F : Context} {shape : Shape} {v₁ v₂ e : Exp} {u : Value v₁} {u′ : Value v₂}
+    (M : MeetsAt s x m F (subject {s = shape} {e = e} (is-both {s = shape} {t = t} u u′))) where
+  first-stands : TermAt s (m .at + to-component) v₁
+  first-stands = subst (λ k. TermAt s k v₁) (omega arith) (components-stand (M .placed .first) .first)
+
+  second-stands : TermAt s (m .at + to-component + size v₁) v₂
+  second-stands = subst (λ k. TermAt s k v₂) (omega arith) (components-stand (M .placed .first) .second)
+
+  first-is-closed : Closed 0 v₁
+  first-is-closed = closed-components (closed-subject (closed-there M) .0) .0
+
+  components : (rest : ℕ) → rest ≡ m .at + to-component + size v₁ → Components s m rest
+  unfolding nodes
+  components rest is = rw is record {
+    first = counted first-stands (omega (arith, few M));
+    first-ends = sym (found-at first-stands .ends);
+    first-closed = rw (found-at first-stands .term) first-is-closed;
+    second = counted second-stands (omega (arith, few M));
+    second-ends = omega (arith, M .placed .second-at, components-stand (M .placed .first) .ends, found-at second-stands .ends);
+  }
+
+  taken : (rest : ℕ) → rest ≡ m .at + to-component + size v₁ → (by : Move) → effect-of s m by ≡ taken-apart s m rest →
+      step-redex (config-of s) x F (subject {s = shape} {e = e} (is-both {s = shape} {t = t} u u′)) ≡ rule (rule-of by) (put (config-of s) x F (substitute-both v₁ v₂ e)) →
+      Has s m by → Stepped s x (step-at x m by)
+  unfolding taken-apart other-after look-up from-name names-after nodes-after nodes
+  taken rest is by effect moves has =
+      let p : term-at s (m .at + to-component) ≡ v₁ = found-at first-stands .term in
+      let q : term-at s rest ≡ v₂ = rw is (found-at second-stands .term) in
+      let b : term-at s (m .second) ≡ e = found-at (M .placed .second) .term in
+      let outcome = substitute-both v₁ v₂ e in
+      stepped M by outcome (put (config-of s) x F outcome) (names s) _ moves
+      (ap (λ (i : Effect). i .redex) effect ∙ rw (p, q, b) refl)
+      (table-put M outcome) (rw effect (omega arith)) (λ k. rw effect refl)
+      (rw (effect, p, q, b) (omega (arith, nodes-put M outcome, nodes-both first-is-closed v₂ e)))
+      has
+
+pub case-moves : {s : List ℕ} {x t : ℕ} {m : Meeting} {F : Context} (shape : Shape) {v₁ v₂ e : Exp} {u : Value v₁} {u′ : Value v₂} →
+    MeetsAt s x m F (subject {s = shape} {e = e} (is-both {s = shape} {t = t} u u′)) → (rest : ℕ) → rest ≡ m .at + to-component + size v₁ →
+    Stepped s x (step-at x m (taking shape rest))
+unfolding step-redex step-case effect-of
+case-moves pair M rest is = taken M rest is (taking pair rest) refl refl (components M rest is)
+case-moves list M rest is = taken M rest is (taking list rest) refl refl (components M rest is)

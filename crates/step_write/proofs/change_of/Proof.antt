@@ -1,8 +1,9 @@
 -- `step_write::change_of` meets its contract, rule by rule.
+use mathlib.Core.Path.{refl}
 use native.Mathlib.Omega.{arith}
-use Rattle.step_rules.specs.Effects.{effect-of}
+use Rattle.step_rules.specs.Effects.{effect-of, taken-apart}
 use Rattle.step_reduct.proofs.Redexes.{names-by}
-use Rattle.step_write.proofs.Names.{it-goes, by-beta, by-thread, by-deref, by-handle, by-bind, by-cell, by-exchange}
+use Rattle.step_write.proofs.Names.{it-goes, by-none, by-thread, by-handle, by-bind, by-cell, by-exchange}
 use borrow.Author.Needs.{needs}
 use Rattle.step_write.proofs.change_of.Statement.{statement}
 use Rattle.step_write.proofs.change_of.Tie as tie
@@ -19,7 +20,8 @@ returns : tie.Need-returns
 returns c = it-goes _ _ _ (c .if1 .taken)
 
 returns-2 : tie.Need-returns-2
-returns-2 c = let n = c .before .before in by-beta _ _ _ (start n .pre .0) (start n .pre .1) (n .before .if1 .left) (c .enum-told .given .1)
+unfolding effect-of
+returns-2 c = let n = c .before .before in by-none _ _ _ (start n .pre .0) (start n .pre .1) (n .before .if1 .left) (c .enum-told .given .1) refl refl
 
 returns-3 : tie.Need-returns-3
 returns-3 c =
@@ -27,7 +29,8 @@ returns-3 c =
     by-thread _ _ _ (start n .pre .0) (start n .pre .1) (n .before .if1 .left) (n .names-of .ensures .0) (c .before .enum-told2 .given .1) (c .when .ensures)
 
 returns-4 : tie.Need-returns-4
-returns-4 c = let n = c .before .before in by-deref _ _ _ (start n .pre .0) (start n .pre .1) (n .before .if1 .left) (c .enum-told3 .given .1)
+unfolding effect-of
+returns-4 c = let n = c .before .before in by-none _ _ _ (start n .pre .0) (start n .pre .1) (n .before .if1 .left) (c .enum-told3 .given .1) refl refl
 
 returns-5 : tie.Need-returns-5
 returns-5 c =
@@ -52,6 +55,14 @@ returns-8 c =
     let n = b .before .before in
     by-exchange _ _ _ (start n .pre .0) (start n .pre .1) (n .before .if1 .left) _ (b .by2 .given .1) (c .when7 .ensures)
 
+returns-9 : tie.Need-returns-9
+unfolding effect-of taken-apart
+returns-9 c = let n = c .before .before in by-none _ _ _ (start n .pre .0) (start n .pre .1) (n .before .if1 .left) (c .enum-told6 .given .1) refl refl
+
+returns-10 : tie.Need-returns-10
+unfolding effect-of taken-apart
+returns-10 c = let n = c .before .before in by-none _ _ _ (start n .pre .0) (start n .pre .1) (n .before .if1 .left) (c .enum-told7 .given .1) refl refl
+
 pub change-of-spec : {M : Type 1} → statement M
 change-of-spec =
     tie.close
@@ -74,10 +85,14 @@ change-of-spec =
     (λ c κs. search needs)
     (λ c. search needs)
     (λ c κs. search needs)
+    (λ c. search needs)
+    (λ c. search needs)
     returns-2
     returns-3
     returns-4
     returns-5
     returns-6
     returns-7
-    returns-8)
+    returns-8
+    returns-9
+    returns-10)

@@ -1,6 +1,7 @@
 //! Causes 1 to 3: the length, the opening bytes, the layout.
 
 use crate::causes;
+use crate::editions::Edition;
 use crate::format::{first_offset, pairs, Pair};
 use crate::limits;
 use crate::tool::faults::{Fault, Place};
@@ -33,8 +34,8 @@ pub fn opening(file: &[u8]) -> Result<(), Fault> {
         );
         return refuse(causes::OPENING, Place::Opening, 0, found);
     }
-    if file[2] != limits::EDITION {
-        let found = format!("the edition is {:02X}, not 01", file[2]);
+    if Edition::of(file[2]).is_none() {
+        let found = format!("the edition is {:02X}, not 01 or 02", file[2]);
         return refuse(causes::OPENING, Place::Opening, 2, found);
     }
     if !limits::PARTS.contains(&n) {

@@ -1,14 +1,15 @@
 //! Cause 4: a type entry breaks its rule.
 
 use crate::causes;
+use crate::editions;
 use crate::limits;
-use crate::table::{Entry, CELL, FIRST_ENTRIES, MANY, NUM, ONCE, UNIT};
+use crate::table::{Entry, CELL, FIRST_ENTRIES, MANY_LIST, MANY_PAIR, NUM, ONCE_LIST, UNIT};
 use crate::tool::faults::{Fault, Parts, Place};
 
 /// Cause 4.
 pub fn entries(recipe: &Parts) -> Result<(), Fault> {
     for (number, entry) in recipe.entries.iter().enumerate() {
-        if let Some(why) = broken(&recipe.entries, number, *entry) {
+        if let Some(why) = broken(recipe, number, *entry) {
             let [kind, p, q] = entry.bytes();
             return Err(Fault {
                 number: causes::TYPE_ENTRY,
@@ -22,7 +23,7 @@ pub fn entries(recipe: &Parts) -> Result<(), Fault> {
 }
 
 /// Which rule the entry breaks, if it breaks one.
-fn broken(entries: &[Entry], number: usize, entry: Entry) -> Option<String> {
+fn broken(recipe: &Parts, number: usize, entry: Entry) -> Option<String> {
     let first = FIRST_ENTRIES.get(number);
     if first.map_or(false, |first| *first != entry) {
         let due = [
@@ -32,22 +33,38 @@ fn broken(entries: &[Entry], number: usize, entry: Entry) -> Option<String> {
         ];
         return Some(format!("entry {number} must be {}", due[number]));
     }
-    if !entry.keeps_its_rule(number) {
-        return Some(broken_alone(number, entry));
+    let lower = &recipe.entries[..number];
+    if !recipe.edition.has_kind(entry.kind) {
+        let (kind, edition) = (entry.kind, recipe.edition.number);
+        let known = editions::ALL.iter().any(|other| other.has_kind(kind));
+        let more = if known {
+            format!(" in edition {edition}")
+        } else {
+            String::new()
+        };
+        return Some(format!("there is no kind {kind}{more}"));
     }
-    let equal = entries[..number].iter().position(|e| *e == entry)?;
+    if !entry.keeps_its_rule(lower) {
+        return Some(broken_alone(lower, entry));
+    }
+    let equal = lower.iter().position(|e| *e == entry)?;
     Some(format!("it is equal to entry {equal}"))
 }
 
-fn broken_alone(number: usize, entry: Entry) -> String {
+fn broken_alone(lower: &[Entry], entry: Entry) -> String {
+    let named = |x: u8| lower.get(usize::from(x));
     let high =
         |name: &str, x: u8| format!("{name} is {x}, not smaller than the entry's own number");
+    let is_list = matches!(entry.kind, ONCE_LIST | MANY_LIST);
     match entry.kind {
-        CELL if entry.q != 0 => "q of a cell must be 0".to_owned(),
-        CELL => high("p", entry.p),
-        ONCE | MANY if usize::from(entry.p) >= number => high("p", entry.p),
-        ONCE | MANY => high("q", entry.q),
         UNIT | NUM => "p and q of unit and num must be 0".to_owned(),
-        kind => format!("there is no kind {kind}"),
+        CELL if entry.q != 0 => "q of a cell must be 0".to_owned(),
+        ONCE_LIST | MANY_LIST if entry.q != 0 => "q of a list must be 0".to_owned(),
+        _ if named(entry.p).is_none() => high("p", entry.p),
+        _ if !is_list && named(entry.q).is_none() => high("q", entry.q),
+        kind => {
+            let what = if kind == MANY_PAIR { "pair" } else { "list" };
+            format!("the contents of a many {what} must be many")
+        }
     }
 }

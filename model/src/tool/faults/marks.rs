@@ -2,6 +2,7 @@
 
 use crate::nodes::Node;
 use crate::table::ONCE;
+use crate::tool::outline::Binder;
 use crate::tool::text::printer::Printer;
 use crate::tool::text::spot;
 
@@ -44,7 +45,7 @@ fn changes(printer: &Printer, at: usize, due: u8) -> Option<Vec<String>> {
 /// "the λx at 1:9 should be λ1 x", or the other way round.
 pub fn advice(printer: &Printer, lambda: usize, once: bool) -> String {
     let sign = printer.texts.spelling.lambda;
-    let x = spot::variable(printer.spots, &printer.outline, lambda);
+    let x = spot::variable(printer.spots, &printer.outline, Binder::of_lambda(lambda));
     let place = spot::place(printer.spots, &printer.outline, lambda);
     let (marked, plain) = (format!("{sign}1 {x}"), format!("{sign}{x}"));
     let (is, should) = if once {

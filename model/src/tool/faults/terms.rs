@@ -1,8 +1,9 @@
 //! Causes 5 to 7: each part one term, within the limits, naming only what there is.
 
 use crate::causes;
+use crate::editions::Edition;
 use crate::limits;
-use crate::nodes::{read_node, Node};
+use crate::nodes::{read_node, Node, NodeForm, FORMS};
 use crate::tool::faults::{Fault, Parts, Place};
 use crate::tool::outline::Outline;
 
@@ -12,20 +13,20 @@ pub struct Reading {
     pub stopped: Option<String>,
 }
 
-/// Reads a part, by a loop.
-pub fn read(part: &[u8]) -> Reading {
+/// Reads a part of a file of that edition, by a loop.
+pub fn read(edition: Edition, part: &[u8]) -> Reading {
     let mut nodes = Vec::new();
     let mut rest = part;
     let mut pending = 1;
     let mut stopped = None;
     while pending > 0 && stopped.is_none() {
-        match read_node(rest) {
+        match read_node(edition.forms(), rest) {
             Some((node, after)) => {
                 pending = pending - 1 + node.subterms();
                 nodes.push(node);
                 rest = after;
             }
-            None => stopped = Some(what_stands(rest)),
+            None => stopped = Some(what_stands(edition, rest)),
         }
     }
     if stopped.is_none() && !rest.is_empty() {
@@ -38,19 +39,27 @@ pub fn read(part: &[u8]) -> Reading {
 }
 
 /// What stands where no node can be read.
-fn what_stands(rest: &[u8]) -> String {
-    match rest {
-        [] => "the part ends where a node should begin".to_owned(),
-        [tag @ 0..=9, ..] => format!("the part ends inside the node with tag {tag}"),
-        [tag, ..] => format!("there is no tag {tag}"),
+fn what_stands(edition: Edition, rest: &[u8]) -> String {
+    let tag = match rest.first() {
+        Some(tag) => *tag,
+        None => return "the part ends where a node should begin".to_owned(),
+    };
+    let has = |forms: &[NodeForm]| usize::from(tag) < forms.len();
+    if has(edition.forms()) {
+        return format!("the part ends inside the node with tag {tag}");
     }
+    let more = match has(&FORMS) {
+        true => format!(" in edition {}", edition.number),
+        false => String::new(),
+    };
+    format!("there is no tag {tag}{more}")
 }
 
 /// Cause 5. The terms, if there is no fault.
 pub fn exactly_one(recipe: &Parts) -> Result<Vec<Vec<Node>>, Fault> {
     let mut terms = Vec::new();
     for (bay, part) in recipe.terms.iter().enumerate() {
-        let reading = read(part);
+        let reading = read(recipe.edition, part);
         if let Some(found) = reading.stopped {
             let at = reading.nodes.len();
             let outline = Outline::of(&reading.nodes);
@@ -114,15 +123,16 @@ pub fn names_something(recipe: &Parts, terms: &[Vec<Node>]) -> Result<(), Fault>
     for (bay, nodes) in terms.iter().enumerate() {
         let outline = Outline::of(nodes);
         for (at, node) in nodes.iter().enumerate() {
-            let lambdas = outline.above[at].lambdas;
-            let found = match node {
-                Node::Variable(index) if usize::from(*index) >= lambdas => {
-                    format!("index {index}, and {lambdas} lambdas stand around it")
+            let variables = outline.above[at].variables;
+            let number = node.type_number().filter(|t| usize::from(*t) >= types);
+            let found = match (node, number) {
+                (Node::Variable(index), _) if usize::from(*index) >= variables => {
+                    format!("index {index}, and {variables} variables are bound around it")
                 }
-                Node::Name(k) if usize::from(*k) >= terms.len() => {
+                (Node::Name(k), _) if usize::from(*k) >= terms.len() => {
                     format!("name {k}, and the bays are 0 to {}", terms.len() - 1)
                 }
-                Node::Lambda(t) | Node::Constant(_, t) if usize::from(*t) >= types => {
+                (_, Some(t)) => {
                     format!("type number {t}, and the entries are 0 to {}", types - 1)
                 }
                 _ => continue,

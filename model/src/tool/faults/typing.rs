@@ -1,4 +1,4 @@
-//! Causes 8 and 9: the types of lambdas and constants, and whether they agree.
+//! Causes 8 and 9: the types that nodes carry, and whether they agree.
 
 use crate::causes;
 use crate::nodes::{end_of_term, Node};
@@ -6,15 +6,15 @@ use crate::table::Table;
 use crate::tool::faults::marks;
 use crate::tool::faults::terms::at_node;
 use crate::tool::faults::{Fault, Parts};
-use crate::tool::text::node_types::function;
+use crate::tool::text::node_types::{components, function};
 use crate::tool::text::printer::{Printer, Standing};
 use crate::tool::text::spelling::{constant_name, UNICODE};
 use crate::tool::text::type_texts::TypeTexts;
-use crate::types::{is_instance, Constant};
+use crate::types::{is_instance, Constant, Shape};
 
 /// Cause 8.
 pub fn fit_types(recipe: &Parts, terms: &[Vec<Node>]) -> Result<(), Fault> {
-    let table = match Table::read(&recipe.entries) {
+    let table = match Table::read(recipe.edition, &recipe.entries) {
         Some(table) => table,
         None => return Ok(()),
     };
@@ -29,6 +29,12 @@ pub fn fit_types(recipe: &Parts, terms: &[Vec<Node>]) -> Result<(), Fault> {
                     let fits = table.get(*t).map_or(false, |whole| is_instance(*c, whole));
                     (!fits).then(|| unfit_constant(*c, &texts.told(*t)))
                 }
+                Node::Pair(t) => components(&recipe.entries, Shape::Pair, *t)
+                    .is_none()
+                    .then(|| format!("the pair's type is {}, no pair", texts.told(*t))),
+                Node::Front(t) => components(&recipe.entries, Shape::List, *t)
+                    .is_none()
+                    .then(|| format!("the list front's type is {}, no list", texts.told(*t))),
                 _ => None,
             };
             if let Some(found) = unfit {
@@ -73,8 +79,54 @@ fn disagreement(printer: &Printer, at: usize) -> Option<(usize, String)> {
     match printer.nodes[at] {
         Node::Lambda(t) => body_disagrees(printer, at, t),
         Node::Application => argument_disagrees(printer, at),
+        Node::Pair(t) => component_disagrees(printer, at, Shape::Pair, t),
+        Node::Front(t) => component_disagrees(printer, at, Shape::List, t),
+        Node::Case(shape) => subject_disagrees(printer, at, shape),
         _ => None,
     }
+}
+
+/// The term at that place, for a message.
+fn term_text(printer: &Printer, place: usize) -> String {
+    shortened(&printer.line(place, Standing::Alone))
+}
+
+fn component_disagrees(
+    printer: &Printer,
+    at: usize,
+    shape: Shape,
+    whole: u8,
+) -> Option<(usize, String)> {
+    let (first, second) = components(printer.texts.entries, shape, whole)?;
+    let words = match shape {
+        Shape::Pair => ["the first component", "the second component"],
+        Shape::List => ["the first element", "the rest"],
+    };
+    let places = [at + 1, printer.second(at)];
+    let due = [first, second];
+    (0..2).find_map(|i| {
+        let found = printer.types[places[i]].filter(|found| *found != due[i])?;
+        let (due_text, found) = (printer.texts.told(due[i]), printer.texts.told(found));
+        let marks = marks::to_change(printer, places[i], due[i]);
+        let term = term_text(printer, places[i]);
+        let word = words[i];
+        let text = format!("{word} should be {due_text}, and {term} is {found}{marks}");
+        Some((places[i], text))
+    })
+}
+
+fn subject_disagrees(printer: &Printer, at: usize, shape: Shape) -> Option<(usize, String)> {
+    let subject = printer.types[at + 1]?;
+    if components(printer.texts.entries, shape, subject).is_some() {
+        return None;
+    }
+    let due = match shape {
+        Shape::Pair => "pair",
+        Shape::List => "list",
+    };
+    let (term, found) = (term_text(printer, at + 1), printer.texts.told(subject));
+    let text = format!("{term} is taken apart, and is {found}, no {due}");
+    Some((at + 1, text))
 }
 
 fn body_disagrees(printer: &Printer, at: usize, whole: u8) -> Option<(usize, String)> {
@@ -90,7 +142,7 @@ fn body_disagrees(printer: &Printer, at: usize, whole: u8) -> Option<(usize, Str
 }
 
 fn argument_disagrees(printer: &Printer, at: usize) -> Option<(usize, String)> {
-    let term = |place| shortened(&printer.line(place, Standing::Alone));
+    let term = |place| term_text(printer, place);
     let applied = printer.types[at + 1]?;
     let parameter = match function(printer.texts.entries, applied) {
         Some((parameter, _)) => parameter,
@@ -100,7 +152,7 @@ fn argument_disagrees(printer: &Printer, at: usize) -> Option<(usize, String)> {
             return Some((at + 1, text));
         }
     };
-    let place = printer.argument(at);
+    let place = printer.second(at);
     let argument = printer.types[place]?;
     if argument == parameter {
         return None;

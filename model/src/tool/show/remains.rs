@@ -1,10 +1,11 @@
 //! What is shown of a file whose parts cannot be told, and of a part that is no term.
 
-use crate::format::{hexadecimal, opening_is_sound, pairs};
+use crate::format::{edition_of, hexadecimal, pairs};
 use crate::nodes::Node;
 use crate::tool::faults::Parts;
 use crate::tool::outline::Outline;
 use crate::tool::text::spelling::constant_name;
+use crate::types::Shape;
 use std::fmt::Write;
 
 /// How many bytes are shown of a file whose parts cannot be told.
@@ -24,7 +25,7 @@ pub fn first_bytes(file: &[u8], parts: &Parts) -> String {
 }
 
 fn pairs_text(file: &[u8]) -> String {
-    let opened = file.len() >= 4 && opening_is_sound(file);
+    let opened = file.len() >= 4 && edition_of(file).is_some();
     let pairs = opened.then(|| pairs(file)).flatten().unwrap_or_default();
     let mut text = String::new();
     for (part, pair) in pairs.iter().enumerate() {
@@ -73,5 +74,9 @@ fn node_in_words(node: Node) -> String {
             format!("{}, type {t}", constant_name(c))
         }
         Node::Name(k) => format!("name {k}"),
+        Node::Pair(t) => format!("pair, type {t}"),
+        Node::Front(t) => format!("list front, type {t}"),
+        Node::Case(Shape::Pair) => "case of a pair".to_owned(),
+        Node::Case(Shape::List) => "case of a list".to_owned(),
     }
 }

@@ -53,6 +53,8 @@ impl Layout<'_> {
         match self.printer.nodes[at] {
             Node::Lambda(_) => self.lambdas(at, indent, column),
             Node::Application => self.application(at, indent, column),
+            Node::Pair(_) | Node::Front(_) => self.compound(at, indent, column),
+            Node::Case(_) => self.case(at, indent, column),
             _ => self.out.push_str(&line),
         }
         if brackets {
@@ -88,7 +90,7 @@ impl Layout<'_> {
     /// The last argument in the line of what stands before it, if that is short; else in its own.
     fn application(&mut self, at: usize, indent: usize, column: usize) {
         let before = self.printer.line(at + 1, Standing::Function);
-        let argument = self.printer.argument(at);
+        let argument = self.printer.second(at);
         if width(&before) <= BEFORE {
             self.out.push_str(&before);
             self.out.push(' ');
@@ -100,6 +102,28 @@ impl Layout<'_> {
         let inner = indent + INDENT;
         self.new_line(inner);
         self.term(argument, Standing::Argument, inner, inner);
+    }
+
+    /// Each component in its own line.
+    fn compound(&mut self, at: usize, indent: usize, column: usize) {
+        self.out.push('(');
+        let inner = indent + usize::from(indent == column);
+        self.term(at + 1, Standing::Alone, inner, column + 1);
+        self.out.push_str(self.printer.between(at));
+        self.new_line(inner);
+        self.term(self.printer.second(at), Standing::Alone, inner, inner);
+        self.out.push_str(&self.printer.end(at));
+    }
+
+    /// The subject and the two variables, then the body.
+    fn case(&mut self, at: usize, indent: usize, column: usize) {
+        let word = "case ";
+        self.out.push_str(word);
+        let inner = indent + INDENT;
+        self.term(at + 1, Standing::Subject, inner, column + width(word));
+        self.out.push_str(&self.printer.pattern(at));
+        self.new_line(inner);
+        self.term(self.printer.second(at), Standing::Alone, inner, inner);
     }
 }
 

@@ -1,5 +1,6 @@
-//! A text read as a recipe: its list of types, then each bay.
+//! A text read as a recipe: its edition, its list of types, then each bay.
 
+use crate::editions;
 use crate::format::Recipe;
 use crate::limits;
 use crate::nodes::Node;
@@ -33,6 +34,7 @@ pub fn read(text: &str) -> Result<Read, TextError> {
         types: Numbering::default(),
         scope: Vec::new(),
     };
+    let said = parser.edition()?;
     let entries = parser.listed_types()?;
     parser.listing = false;
     parser.types.complete_first();
@@ -43,8 +45,11 @@ pub fn read(text: &str) -> Result<Read, TextError> {
         terms.push(term);
         nodes.push(spots);
     }
+    let listed = parser.types.entries;
+    let edition = said.unwrap_or_else(|| editions::least(&listed, &terms).number);
     let recipe = Recipe {
-        entries: parser.types.entries,
+        edition,
+        entries: listed,
         terms,
     };
     Ok(Read {
@@ -148,6 +153,15 @@ impl<'t> Parser<'t> {
     /// The type in words, for a message.
     pub fn told(&self, number: u8) -> String {
         TypeTexts::new(&self.types.entries, &UNICODE).told(number)
+    }
+
+    /// `edition N`, or nothing.
+    fn edition(&mut self) -> Result<Option<u8>, TextError> {
+        if !self.takes(Token::Word("edition")) {
+            return Ok(None);
+        }
+        let number = self.number("the number of an edition", u8::MAX.into())?;
+        Ok(u8::try_from(number).ok())
     }
 
     /// `bay N = term` or `bay N : type = term`

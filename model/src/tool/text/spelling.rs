@@ -2,24 +2,40 @@
 
 use crate::types::Constant;
 
-/// How λ and the two arrows are written.
+/// How the signs are written: λ, the arrows, pair and list types, and what stands before a case's
+/// body.
 #[derive(Debug)]
 pub struct Spelling {
     pub lambda: &'static str,
     pub once: &'static str,
     pub many: &'static str,
+    pub pair_once: &'static str,
+    pub pair_many: &'static str,
+    pub list_once: &'static str,
+    pub list_many: &'static str,
+    pub body: &'static str,
 }
 
 pub const UNICODE: Spelling = Spelling {
     lambda: "λ",
     once: "→1",
     many: "→ω",
+    pair_once: "×1",
+    pair_many: "×ω",
+    list_once: "list1",
+    list_many: "listω",
+    body: "⇒",
 };
 
 pub const ASCII: Spelling = Spelling {
     lambda: "\\",
     once: "-1>",
     many: "-w>",
+    pair_once: "*1",
+    pair_many: "*w",
+    list_once: "list1",
+    list_many: "listw",
+    body: "=>",
 };
 
 /// The four constants that carry a type.
@@ -36,18 +52,19 @@ pub fn constant_name(constant: Constant) -> &'static str {
 }
 
 /// Words that are no variables.
-pub const KEPT_WORDS: [&str; 9] = [
-    "types", "bay", "unit", "num", "ref", "cell", "exch", "thread", "handle",
+pub const KEPT_WORDS: [&str; 12] = [
+    "edition", "types", "bay", "unit", "num", "ref", "cell", "exch", "thread", "handle", "case",
+    "of",
 ];
 
 /// The word before the number of a bay whose setting is meant.
 pub const SETTING: &str = "setting";
 
-/// The name of the variable of a lambda that stands under that many others.
-pub fn variable_name(lambdas: usize) -> String {
+/// The name of a variable that stands under that many others.
+pub fn variable_name(others: usize) -> String {
     const FIRST: [&str; 6] = ["x", "y", "z", "u", "v", "w"];
-    match FIRST.get(lambdas) {
+    match FIRST.get(others) {
         Some(name) => (*name).to_owned(),
-        None => format!("x{lambdas}"),
+        None => format!("x{others}"),
     }
 }

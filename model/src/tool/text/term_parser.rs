@@ -2,13 +2,14 @@
 //! type depends on the type of its body.
 
 use crate::nodes::Node;
-use crate::table::{entry, MANY, ONCE};
+use crate::table::{entry, MANY, MANY_PAIR, ONCE, ONCE_PAIR};
 use crate::tool::text::hints;
-use crate::tool::text::node_types::function;
+use crate::tool::text::node_types::{components, function};
 use crate::tool::text::parser::{error, Parser};
 use crate::tool::text::spelling::{CONSTANTS, KEPT_WORDS, SETTING};
 use crate::tool::text::spot::Spot;
 use crate::tool::text::tokens::{Position, TextError, Token};
+use crate::types::Shape;
 
 /// A term's nodes with their places, and its type; or why its type cannot be told.
 pub struct Term {
@@ -20,6 +21,7 @@ impl<'t> Parser<'t> {
     pub fn term(&mut self) -> Result<Term, TextError> {
         self.deeper(|parser| match parser.peek() {
             Token::Lambda => parser.lambda(),
+            Token::Word("case") => parser.case(),
             _ => parser.application(),
         })
     }
@@ -56,10 +58,55 @@ impl<'t> Parser<'t> {
             }
             (given, _) => given.unwrap_or(0),
         };
-        let mut nodes = vec![(Node::Lambda(whole), Spot::of_lambda(place, x))];
+        let mut nodes = vec![(Node::Lambda(whole), Spot::of_binder(place, &[x]))];
         nodes.extend(body.nodes);
         let type_number = self.in_table(whole, place);
         Ok(Term { nodes, type_number })
+    }
+
+    /// `case e of (x, y) ⇒ e` or `case e of x :: y ⇒ e`
+    fn case(&mut self) -> Result<Term, TextError> {
+        let place = self.position();
+        self.count_node(place)?;
+        self.advance();
+        let subject = self.term()?;
+        if self.peek() != Token::Word("of") {
+            return Err(self.expected("'of' or an argument"));
+        }
+        self.advance();
+        let (shape, x, y) = self.pattern()?;
+        self.expect(Token::Body)?;
+        let whole = subject.type_number.as_ref().ok();
+        let types = whole.and_then(|t| components(&self.types.entries, shape, *t));
+        let first = types.map(|(first, _)| first);
+        let second = types.map(|(_, second)| second);
+        self.scope.extend([(x, first), (y, second)]);
+        let body = self.term();
+        self.scope.truncate(self.scope.len() - 2);
+        let body = body?;
+        let mut nodes = vec![(Node::Case(shape), Spot::of_binder(place, &[x, y]))];
+        nodes.extend(subject.nodes);
+        nodes.extend(body.nodes);
+        Ok(Term {
+            nodes,
+            type_number: body.type_number,
+        })
+    }
+
+    /// `(x, y)` or `x :: y`
+    fn pattern(&mut self) -> Result<(Shape, &'t str, &'t str), TextError> {
+        let in_brackets = self.takes(Token::Sign('('));
+        let x = self.variable_name()?;
+        let (shape, between) = match in_brackets {
+            true => (Shape::Pair, Token::Sign(',')),
+            false => (Shape::List, Token::Front),
+        };
+        self.expect(between)?;
+        let y = self.variable_name()?;
+        if in_brackets {
+            self.expect(Token::Sign(')'))?;
+        }
+        Ok((shape, x, y))
     }
 
     fn variable_name(&mut self) -> Result<&'t str, TextError> {
@@ -103,30 +150,84 @@ impl<'t> Parser<'t> {
 
     fn atom_follows(&self) -> bool {
         match self.peek() {
-            Token::Word("bay" | "types" | "ref" | "num") => false,
+            Token::Word("edition" | "bay" | "types" | "ref" | "num" | "case" | "of") => false,
             Token::Word(_) | Token::Number(_) | Token::Sign('(' | '@') => true,
-            Token::Lambda | Token::OnceArrow | Token::ManyArrow | Token::Sign(_) | Token::End => {
-                false
-            }
+            _ => false,
         }
     }
 
     fn atom(&mut self) -> Result<Term, TextError> {
-        if self.takes(Token::Sign('(')) {
-            let inner = self.term()?;
-            if self.peek() != Token::Sign(')') {
-                return Err(self.expected("')' or an argument"));
-            }
-            self.advance();
-            return Ok(inner);
-        }
         let place = self.position();
+        if self.takes(Token::Sign('(')) {
+            return self.in_brackets(place);
+        }
         self.count_node(place)?;
         let (node, type_number) = self.leaf(place)?;
         Ok(Term {
             nodes: vec![(node, Spot::of(place))],
             type_number,
         })
+    }
+
+    /// After `(`: a term, `e, e` or `e :: e`; the last two with their type in brackets or without.
+    fn in_brackets(&mut self, place: Position) -> Result<Term, TextError> {
+        let first = self.term()?;
+        let shape = match self.peek() {
+            Token::Sign(',') => Some(Shape::Pair),
+            Token::Front => Some(Shape::List),
+            Token::Sign(')') => None,
+            _ => return Err(self.expected("')' or an argument")),
+        };
+        self.advance();
+        match shape {
+            Some(shape) => self.compound(shape, first, place),
+            None => Ok(first),
+        }
+    }
+
+    /// After the sign between the components.
+    fn compound(&mut self, shape: Shape, first: Term, place: Position) -> Result<Term, TextError> {
+        self.count_node(place)?;
+        let second = self.term()?;
+        if self.peek() != Token::Sign(')') {
+            return Err(self.expected("')' or an argument"));
+        }
+        self.advance();
+        let whole = match self.peek() {
+            Token::Sign('[') => self.bracketed()?,
+            _ => self.type_of_compound(shape, &first, &second, place)?,
+        };
+        let node = match shape {
+            Shape::Pair => Node::Pair(whole),
+            Shape::List => Node::Front(whole),
+        };
+        let mut nodes = vec![(node, Spot::of(place))];
+        nodes.extend(first.nodes);
+        nodes.extend(second.nodes);
+        let type_number = self.in_table(whole, place);
+        Ok(Term { nodes, type_number })
+    }
+
+    /// Without a type in the text: a pair is usable once where a component is, and else many times; a
+    /// list has the type of its rest.
+    fn type_of_compound(
+        &mut self,
+        shape: Shape,
+        first: &Term,
+        second: &Term,
+        place: Position,
+    ) -> Result<u8, TextError> {
+        let q = second.type_number.clone()?;
+        if shape == Shape::List {
+            return Ok(q);
+        }
+        let p = first.type_number.clone()?;
+        let is_once = |t: u8| self.types.entries[usize::from(t)].is_once();
+        let kind = match is_once(p) || is_once(q) {
+            true => ONCE_PAIR,
+            false => MANY_PAIR,
+        };
+        self.number_of_used(entry(kind, p, q), place)
     }
 
     fn leaf(&mut self, place: Position) -> Result<(Node, Result<u8, TextError>), TextError> {

@@ -24,6 +24,14 @@ pub enum Token<'t> {
     Lambda,
     OnceArrow,
     ManyArrow,
+    OncePair,
+    ManyPair,
+    OnceList,
+    ManyList,
+    /// Between the first element of a list and the rest.
+    Front,
+    /// Before the body of a case.
+    Body,
     Sign(char),
     End,
 }
@@ -35,6 +43,12 @@ impl fmt::Display for Token<'_> {
             Token::Lambda => write!(f, "'λ'"),
             Token::OnceArrow => write!(f, "'→1'"),
             Token::ManyArrow => write!(f, "'→ω'"),
+            Token::OncePair => write!(f, "'×1'"),
+            Token::ManyPair => write!(f, "'×ω'"),
+            Token::OnceList => write!(f, "'list1'"),
+            Token::ManyList => write!(f, "'listω'"),
+            Token::Front => write!(f, "'::'"),
+            Token::Body => write!(f, "'⇒'"),
             Token::Sign(sign) => write!(f, "'{sign}'"),
             Token::End => write!(f, "the end of the text"),
         }
@@ -48,16 +62,27 @@ pub struct Placed<'t> {
 }
 
 /// The signs of more than one spelling.
-const SPELLED: [(&str, Token<'static>); 6] = [
+const SPELLED: [(&str, Token<'static>); 14] = [
     ("λ", Token::Lambda),
     ("\\", Token::Lambda),
     ("→1", Token::OnceArrow),
     ("-1>", Token::OnceArrow),
     ("→ω", Token::ManyArrow),
     ("-w>", Token::ManyArrow),
+    ("×1", Token::OncePair),
+    ("*1", Token::OncePair),
+    ("×ω", Token::ManyPair),
+    ("*w", Token::ManyPair),
+    ("listω", Token::ManyList),
+    ("::", Token::Front),
+    ("⇒", Token::Body),
+    ("=>", Token::Body),
 ];
 
-const SIGNS: &str = ".:=()[]@";
+/// Words of ASCII that are signs.
+const LISTS: [(&str, Token<'static>); 2] = [("list1", Token::OnceList), ("listw", Token::ManyList)];
+
+const SIGNS: &str = ".:=()[]@,";
 
 /// The tokens of a text, the end being the last.
 pub fn tokens(text: &str) -> Result<Vec<Placed<'_>>, TextError> {
@@ -115,13 +140,15 @@ fn token_at<'t>(rest: &'t str, first: char, last: Option<Token>) -> Option<(Toke
         let is_whole = last == Some(Token::Lambda) || hints::number(rest).is_none();
         return is_whole.then_some((Token::Number(&rest[..length]), length));
     }
-    if first.is_ascii_alphabetic() || first == '_' {
-        let length = until(|c| c.is_ascii_alphanumeric() || c == '_' || c == '\'');
-        return Some((Token::Word(&rest[..length]), length));
-    }
     let spelled = SPELLED.iter().find(|(sign, _)| rest.starts_with(sign));
     if let Some((sign, token)) = spelled {
         return Some((*token, sign.len()));
+    }
+    if first.is_ascii_alphabetic() || first == '_' {
+        let length = until(|c| c.is_ascii_alphanumeric() || c == '_' || c == '\'');
+        let word = &rest[..length];
+        let list = LISTS.iter().find(|(list, _)| *list == word);
+        return Some((list.map_or(Token::Word(word), |(_, token)| *token), length));
     }
     SIGNS.contains(first).then_some((Token::Sign(first), 1))
 }
@@ -133,6 +160,7 @@ fn unknown(rest: &str, first: char, position: Position) -> TextError {
     let message = match first {
         hints::BYTE_ORDER_MARK => hints::WITHOUT_MARK.to_owned(),
         '→' | '-' => "expected an arrow: →1 or →ω (-1> or -w>)".to_owned(),
+        '×' | '*' => "expected the sign of a pair type: ×1 or ×ω (*1 or *w)".to_owned(),
         _ => format!("there is no sign '{}' in a recipe", first.escape_default()),
     };
     TextError { position, message }

@@ -1,6 +1,8 @@
 //! The types of a text: the list at its beginning, and types where terms name them.
 
-use crate::table::{entry, Entry, CELL, MANY, NUM, ONCE, UNIT};
+use crate::table::{
+    entry, Entry, CELL, MANY, MANY_LIST, MANY_PAIR, NUM, ONCE, ONCE_LIST, ONCE_PAIR, UNIT,
+};
 use crate::tool::text::parser::{error, Parser};
 use crate::tool::text::tokens::{Position, TextError, Token};
 
@@ -65,7 +67,7 @@ impl Parser<'_> {
     /// A type as an entry over the numbers of its parts; arrows group to the right.
     fn shape(&mut self) -> Result<Entry, TextError> {
         let place = self.position();
-        let left = self.shape_before_arrow()?;
+        let left = self.shape_of_pair()?;
         let kind = match self.peek() {
             Token::OnceArrow => ONCE,
             Token::ManyArrow => MANY,
@@ -79,8 +81,26 @@ impl Parser<'_> {
         Ok(entry(kind, p, q))
     }
 
-    /// `unit`, `num`, `t5` or a type in brackets, each with any number of `ref` after it.
-    fn shape_before_arrow(&mut self) -> Result<Entry, TextError> {
+    /// A type without arrows; the signs of pairs group to the right.
+    fn shape_of_pair(&mut self) -> Result<Entry, TextError> {
+        let place = self.position();
+        let first = self.shape_of_contents()?;
+        let kind = match self.peek() {
+            Token::OncePair => ONCE_PAIR,
+            Token::ManyPair => MANY_PAIR,
+            _ => return Ok(first),
+        };
+        self.advance();
+        let p = self.number_of(first, place)?;
+        let place = self.position();
+        let second = self.deeper(|parser| parser.shape_of_pair())?;
+        let q = self.number_of(second, place)?;
+        Ok(entry(kind, p, q))
+    }
+
+    /// `unit`, `num`, `t5` or a type in brackets, each with any number of `ref`, `list1` and `listω`
+    /// after it.
+    fn shape_of_contents(&mut self) -> Result<Entry, TextError> {
         let place = self.position();
         let mut shape = match self.peek() {
             Token::Word("unit") => entry(UNIT, 0, 0),
@@ -96,11 +116,17 @@ impl Parser<'_> {
             token => self.listed(token)?,
         };
         self.advance();
-        while self.takes(Token::Word("ref")) {
+        loop {
+            let kind = match self.peek() {
+                Token::Word("ref") => CELL,
+                Token::OnceList => ONCE_LIST,
+                Token::ManyList => MANY_LIST,
+                _ => return Ok(shape),
+            };
+            self.advance();
             let p = self.number_of(shape, place)?;
-            shape = entry(CELL, p, 0);
+            shape = entry(kind, p, 0);
         }
-        Ok(shape)
     }
 
     /// The entry that a word such as `t5` names.

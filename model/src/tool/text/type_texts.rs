@@ -1,6 +1,9 @@
-//! The types of a table as texts, in the paper's notation: `num ref`, `num →1 unit`.
+//! The types of a table as texts, in the paper's notation: `num ref`, `num →1 unit`, `num ×ω num`,
+//! `num listω`.
 
-use crate::table::{Entry, CELL, FIRST_ENTRIES, MANY, NUM, ONCE, UNIT};
+use crate::table::{
+    Entry, CELL, FIRST_ENTRIES, MANY, MANY_LIST, MANY_PAIR, NUM, ONCE, ONCE_LIST, ONCE_PAIR, UNIT,
+};
 use crate::tool::text::spelling::Spelling;
 
 /// A type whose text is longer than this goes by its number.
@@ -15,10 +18,14 @@ pub struct TypeTexts<'a> {
 /// Where a type stands, for the brackets.
 #[derive(Clone, Copy, PartialEq, Eq)]
 enum Side {
-    /// Before an arrow or under `ref`.
-    Left,
+    /// Under `ref` or `list`, or before `×`.
+    Inside,
+    /// After `×`.
+    Second,
+    /// Before an arrow.
+    Parameter,
     /// After an arrow.
-    Right,
+    Result,
 }
 
 impl<'a> TypeTexts<'a> {
@@ -38,26 +45,41 @@ impl<'a> TypeTexts<'a> {
 
     /// An entry, its parts written by `part`; `None` for a kind that there is not.
     fn written(&self, e: Entry, part: impl Fn(u8, Side) -> Option<String>) -> Option<String> {
-        let arrow = match e.kind {
-            UNIT => return Some("unit".to_owned()),
-            NUM => return Some("num".to_owned()),
-            CELL => return Some(format!("{} ref", part(e.p, Side::Left)?)),
-            ONCE => self.spelling.once,
-            MANY => self.spelling.many,
-            _ => return None,
+        let contents = |word: &str| Some(format!("{} {word}", part(e.p, Side::Inside)?));
+        let between = |left: Side, sign: &str, right: Side| {
+            Some(format!("{} {sign} {}", part(e.p, left)?, part(e.q, right)?))
         };
-        let (from, to) = (part(e.p, Side::Left)?, part(e.q, Side::Right)?);
-        Some(format!("{from} {arrow} {to}"))
+        let signs = self.spelling;
+        match e.kind {
+            UNIT => Some("unit".to_owned()),
+            NUM => Some("num".to_owned()),
+            CELL => contents("ref"),
+            ONCE => between(Side::Parameter, signs.once, Side::Result),
+            MANY => between(Side::Parameter, signs.many, Side::Result),
+            ONCE_PAIR => between(Side::Inside, signs.pair_once, Side::Second),
+            MANY_PAIR => between(Side::Inside, signs.pair_many, Side::Second),
+            ONCE_LIST => contents(signs.list_once),
+            MANY_LIST => contents(signs.list_many),
+            _ => None,
+        }
     }
 
     fn full_at(&self, number: u8, side: Side) -> Option<String> {
         let text = self.full.get(usize::from(number))?.clone()?;
-        let is_function = self.is_function(number);
-        Some(if is_function && side == Side::Left {
+        Some(if self.has_brackets(number, side) {
             format!("({text})")
         } else {
             text
         })
+    }
+
+    fn has_brackets(&self, number: u8, side: Side) -> bool {
+        let kind = self.entries.get(usize::from(number)).map(|e| e.kind);
+        match kind {
+            Some(ONCE | MANY) => side != Side::Result,
+            Some(ONCE_PAIR | MANY_PAIR) => side == Side::Inside,
+            _ => false,
+        }
     }
 
     pub fn is_function(&self, number: u8) -> bool {

@@ -1,0 +1,19 @@
+-- `step_reduct::put_body` meets its contract.
+use Rattle.step_reduct.specs.Substitutions.{substituted}
+use borrow.Author.Needs.{needs}
+use Rattle.step_reduct.proofs.put_body.Statement.{statement}
+use Rattle.step_reduct.proofs.put_body.Tie as tie
+
+put-substituted-requires : tie.Need-put-substituted-requires
+unfolding substituted
+put-substituted-requires c κs =
+    let start = c .before .before .before in
+    let w = start .pre .0 in
+    ((w .body .good, w .body .few), ((w .inner, w .inner-ends), ((w .outer, w .outer-ends), start .pre .1)))
+
+returns : tie.Need-returns
+unfolding substituted
+returns c = c .before .before .put-substituted .ensures
+
+pub put-body-spec : {M : Type 1} → statement M
+put-body-spec = tie.close (tie.spec put-substituted-requires (λ c. search needs) returns)

@@ -1,0 +1,65 @@
+//! Implementations that are wrong in one thing, put together from the model's.
+#![allow(dead_code)]
+
+use model::answers::{Implementation, LoadedAnswer, Model, SteppedAnswer, VerdictAnswer, REFUSED};
+use model::causes;
+use model::command::on_deep_stack;
+use model::comparison::Comparison;
+
+pub type Check = fn(&[u8]) -> VerdictAnswer;
+pub type Load = fn(&[u8], &mut [u8]) -> LoadedAnswer;
+pub type Step = fn(&[u8], u64, &mut [u8]) -> SteppedAnswer;
+
+/// An implementation put together from three functions.
+pub struct Impostor {
+    pub check: Check,
+    pub load: Load,
+    pub step: Step,
+}
+
+impl Implementation for Impostor {
+    fn check(&self, recipe: &[u8]) -> VerdictAnswer {
+        (self.check)(recipe)
+    }
+
+    fn load(&self, recipe: &[u8], out: &mut [u8]) -> Option<LoadedAnswer> {
+        Some((self.load)(recipe, out))
+    }
+
+    fn step(&self, image: &[u8], thread: u64, out: &mut [u8]) -> Option<SteppedAnswer> {
+        Some((self.step)(image, thread, out))
+    }
+}
+
+pub fn check(recipe: &[u8]) -> VerdictAnswer {
+    Model.check(recipe)
+}
+
+pub fn load(recipe: &[u8], out: &mut [u8]) -> LoadedAnswer {
+    Model.load(recipe, out).unwrap_or_default()
+}
+
+pub fn step(image: &[u8], thread: u64, out: &mut [u8]) -> SteppedAnswer {
+    Model.step(image, thread, out).unwrap_or_default()
+}
+
+/// "image breaks a rule or limit"
+pub const BROKEN: SteppedAnswer = SteppedAnswer {
+    outcome: REFUSED,
+    number: causes::IMAGE,
+    length: 0,
+};
+
+pub const HONEST: Impostor = Impostor { check, load, step };
+
+pub fn is_found(impostor: &Impostor) -> bool {
+    is_found_among(impostor, 300)
+}
+
+/// Whether a comparison of that many recipes finds it.
+pub fn is_found_among(impostor: &Impostor, count: u64) -> bool {
+    on_deep_stack(|| {
+        let mut comparison = Comparison::new(impostor);
+        comparison.compare(9, count).is_err()
+    })
+}
