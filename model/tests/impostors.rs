@@ -30,7 +30,7 @@ fn a_checker_that_turns_every_recipe_away_or_passes_every_one() {
         ..VerdictAnswer::default()
     };
     for check in [away, every] {
-        assert!(is_found(&Impostor { check, ..HONEST }));
+        assert!(is_found(&with_check(check)));
     }
 }
 
@@ -45,10 +45,7 @@ fn a_loader_that_gives_each_bay_a_thread_holding_its_own_name() {
         }
         answer
     };
-    assert!(is_found(&Impostor {
-        load: own,
-        ..HONEST
-    }));
+    assert!(is_found(&with_load(own)));
 }
 
 #[test]
@@ -66,7 +63,7 @@ fn a_loader_that_writes_beyond_the_image_or_tells_another_length() {
         answer
     };
     for load in [beyond, longer] {
-        assert!(is_found(&Impostor { load, ..HONEST }));
+        assert!(is_found(&with_load(load)));
     }
 }
 
@@ -81,10 +78,7 @@ fn a_stepper_that_copies_the_image_and_names_rule_1() {
         }
         answer
     };
-    assert!(is_found(&Impostor {
-        step: copies,
-        ..HONEST
-    }));
+    assert!(is_found(&with_step(copies)));
 }
 
 /// The first step that the next test's stepper made.
@@ -103,10 +97,7 @@ fn a_stepper_that_steps_once_and_afterwards_repeats_that_image() {
         out[..bytes.len()].copy_from_slice(bytes);
         *old
     };
-    assert!(is_found(&Impostor {
-        step: repeats,
-        ..HONEST
-    }));
+    assert!(is_found(&with_step(repeats)));
 }
 
 /// A stepper that gives this answer where a rule would go, and writes nothing.
@@ -130,7 +121,7 @@ fn a_stepper_that_says_waiting_done_or_no_room_of_a_thread_that_could_go() {
     let done: Step = |image, thread, out| instead(image, thread, out, DONE, 0);
     let no_room: Step = |image, thread, out| instead(image, thread, out, REFUSED, 15);
     for step in [waiting, done, no_room] {
-        assert!(is_found(&Impostor { step, ..HONEST }));
+        assert!(is_found(&with_step(step)));
     }
 }
 
@@ -141,10 +132,7 @@ fn a_stepper_that_tells_another_length() {
         answer.length += u64::from(answer.outcome == RULE);
         answer
     };
-    assert!(is_found(&Impostor {
-        step: longer,
-        ..HONEST
-    }));
+    assert!(is_found(&with_step(longer)));
 }
 
 /// The recipe with `change` made of each num in it; `None` where a part is no term.
@@ -175,10 +163,7 @@ fn a_checker_that_still_refuses_a_num_above_1000() {
         }
         answer
     };
-    assert!(is_found(&Impostor {
-        check: bounded,
-        ..HONEST
-    }));
+    assert!(is_found(&with_check(bounded)));
 }
 
 #[test]
@@ -187,10 +172,7 @@ fn a_loader_that_reads_a_num_modulo_1024() {
         Some(reduced) => load(&reduced, out),
         None => load(recipe, out),
     };
-    assert!(is_found(&Impostor {
-        load: modulo,
-        ..HONEST
-    }));
+    assert!(is_found(&with_load(modulo)));
 }
 
 #[test]
@@ -202,10 +184,7 @@ fn a_stepper_that_refuses_an_image_with_num_65535() {
         }
         step(image, thread, out)
     };
-    assert!(is_found(&Impostor {
-        step: bounded,
-        ..HONEST
-    }));
+    assert!(is_found(&with_step(bounded)));
 }
 
 /// Whether the recipe has this constant at contents of multiplicity once: of cell, what it is
@@ -246,7 +225,7 @@ fn a_checker_that_still_narrows_cell_alone_or_exch_alone() {
     let cell: Check = |recipe| refused_for_contents(recipe, Constant::Cell);
     let exch: Check = |recipe| refused_for_contents(recipe, Constant::Exch);
     for check in [cell, exch] {
-        assert!(is_found(&Impostor { check, ..HONEST }));
+        assert!(is_found(&with_check(check)));
     }
 }
 
@@ -263,8 +242,5 @@ fn a_stepper_that_refuses_an_image_whose_cell_holds_a_handle() {
         }
         step(image, thread, out)
     };
-    assert!(is_found(&Impostor {
-        step: narrow,
-        ..HONEST
-    }));
+    assert!(is_found(&with_step(narrow)));
 }

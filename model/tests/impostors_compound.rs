@@ -153,13 +153,7 @@ fn case_in(image: &[u8], thread: u64) -> Option<(Configuration, Case)> {
 #[test]
 fn a_stepper_with_the_indices_the_other_way_round() {
     let wrong: Step = |image, thread, out| step_changed(image, thread, out, other_way_round);
-    assert!(is_found_among(
-        &Impostor {
-            step: wrong,
-            ..HONEST
-        },
-        MANY
-    ));
+    assert!(is_found_among(&with_step(wrong), MANY));
 }
 
 #[test]
@@ -180,13 +174,7 @@ fn a_checker_with_the_indices_the_other_way_round() {
             _ => check(recipe),
         }
     };
-    assert!(is_found_among(
-        &Impostor {
-            check: wrong,
-            ..HONEST
-        },
-        MANY
-    ));
+    assert!(is_found_among(&with_check(wrong), MANY));
 }
 
 /// Whether some index is too high where the last subterm of a case has so many variables more, and the
@@ -221,10 +209,7 @@ fn a_checker_whose_case_has_one_variable_more_and_not_two() {
         }
         answer
     };
-    assert!(is_found(&Impostor {
-        check: wrong,
-        ..HONEST
-    }));
+    assert!(is_found(&with_check(wrong)));
 }
 
 #[test]
@@ -247,13 +232,7 @@ fn a_checker_whose_case_has_its_subject_in_the_scope() {
         }
         answer
     };
-    assert!(is_found_among(
-        &Impostor {
-            check: wrong,
-            ..HONEST
-        },
-        MANY
-    ));
+    assert!(is_found_among(&with_check(wrong), MANY));
 }
 
 #[test]
@@ -273,10 +252,7 @@ fn a_stepper_whose_case_has_one_variable_more_and_not_two() {
         }
         answer
     };
-    assert!(is_found(&Impostor {
-        step: wrong,
-        ..HONEST
-    }));
+    assert!(is_found(&with_step(wrong)));
 }
 
 #[test]
@@ -289,22 +265,13 @@ fn a_checker_that_takes_the_rest_of_a_list_for_an_element() {
         }
         answer
     };
-    assert!(is_found(&Impostor {
-        check: wrong,
-        ..HONEST
-    }));
+    assert!(is_found(&with_check(wrong)));
 }
 
 #[test]
 fn a_stepper_that_takes_the_second_component_first() {
     let wrong: Step = |image, thread, out| step_changed(image, thread, out, mirrored);
-    assert!(is_found_among(
-        &Impostor {
-            step: wrong,
-            ..HONEST
-        },
-        MANY
-    ));
+    assert!(is_found_among(&with_step(wrong), MANY));
 }
 
 #[test]
@@ -336,13 +303,7 @@ fn a_stepper_that_follows_a_name_in_a_pair() {
         }
         answer
     };
-    assert!(is_found_among(
-        &Impostor {
-            step: wrong,
-            ..HONEST
-        },
-        MANY
-    ));
+    assert!(is_found_among(&with_step(wrong), MANY));
 }
 
 #[test]
@@ -358,13 +319,7 @@ fn a_stepper_that_says_16_of_a_used_handle_as_subject() {
         }
         answer
     };
-    assert!(is_found_among(
-        &Impostor {
-            step: wrong,
-            ..HONEST
-        },
-        MANY
-    ));
+    assert!(is_found_among(&with_step(wrong), MANY));
 }
 
 /// A stepper that goes by this rule where a case has a subject of the other shape.
@@ -398,7 +353,7 @@ fn a_stepper_that_takes_a_front_apart_as_a_pair_or_a_pair_as_a_front() {
     let front: Step = |image, thread, out| goes_on_the_other(image, thread, out, Shape::Pair);
     let pair: Step = |image, thread, out| goes_on_the_other(image, thread, out, Shape::List);
     for step in [front, pair] {
-        assert!(is_found(&Impostor { step, ..HONEST }));
+        assert!(is_found(&with_step(step)));
     }
 }
 
@@ -420,13 +375,7 @@ fn a_checker_that_lets_a_many_pair_or_list_have_once_contents() {
             _ => answer,
         }
     };
-    assert!(is_found_among(
-        &Impostor {
-            check: wrong,
-            ..HONEST
-        },
-        MANY
-    ));
+    assert!(is_found_among(&with_check(wrong), MANY));
 }
 
 #[test]
@@ -446,13 +395,7 @@ fn a_checker_that_takes_a_once_list_for_many() {
             _ => found,
         }
     };
-    assert!(is_found_among(
-        &Impostor {
-            check: wrong,
-            ..HONEST
-        },
-        MANY
-    ));
+    assert!(is_found_among(&with_check(wrong), MANY));
 }
 
 #[test]
@@ -474,13 +417,7 @@ fn a_checker_that_takes_a_once_pair_for_many() {
         }
         answer
     };
-    assert!(is_found_among(
-        &Impostor {
-            check: wrong,
-            ..HONEST
-        },
-        MANY
-    ));
+    assert!(is_found_among(&with_check(wrong), MANY));
 }
 
 /// How often a variable is used, the two components of a pair or front counted as one.
@@ -528,13 +465,7 @@ fn a_checker_that_lets_a_once_variable_stand_in_both_components() {
         }
         answer
     };
-    assert!(is_found_among(
-        &Impostor {
-            check: wrong,
-            ..HONEST
-        },
-        MANY
-    ));
+    assert!(is_found_among(&with_check(wrong), MANY));
 }
 
 /// An edition 1 file that would be terms in edition 2.
@@ -556,7 +487,7 @@ fn a_checker_that_refuses_edition_1_with_tag_10_by_4_or_7_or_not() {
         check(&second)
     };
     for check in [entry, scope, not] {
-        assert!(is_found_among(&Impostor { check, ..HONEST }, MANY));
+        assert!(is_found_among(&with_check(check), MANY));
     }
 }
 
@@ -579,13 +510,7 @@ fn a_checker_that_knows_the_new_kinds_in_edition_1_too() {
         second[2] = SECOND.number;
         check(&second)
     };
-    assert!(is_found_among(
-        &Impostor {
-            check: wrong,
-            ..HONEST
-        },
-        MANY
-    ));
+    assert!(is_found_among(&with_check(wrong), MANY));
 }
 
 /// A stepper that forgets the nodes of the first or of the second component in the room that it needs.
@@ -618,7 +543,7 @@ fn a_stepper_that_forgets_the_nodes_of_one_value_in_the_room() {
     let first: Step = |image, thread, out| forgets(image, thread, out, true);
     let second: Step = |image, thread, out| forgets(image, thread, out, false);
     for step in [first, second] {
-        assert!(is_found_among(&Impostor { step, ..HONEST }, 4 * MANY));
+        assert!(is_found_among(&with_step(step), 4 * MANY));
     }
 }
 
@@ -633,13 +558,7 @@ fn a_checker_that_counts_a_case_as_a_many_lambda() {
         }
         answer
     };
-    assert!(is_found_among(
-        &Impostor {
-            check: wrong,
-            ..HONEST
-        },
-        MANY
-    ));
+    assert!(is_found_among(&with_check(wrong), MANY));
 }
 
 /// Whether a once-variable from outside stands in the body of a case.

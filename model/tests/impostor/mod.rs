@@ -52,6 +52,19 @@ pub const BROKEN: SteppedAnswer = SteppedAnswer {
 
 pub const HONEST: Impostor = Impostor { check, load, step };
 
+/// Honest but for one call.
+pub fn with_check(check: Check) -> Impostor {
+    Impostor { check, ..HONEST }
+}
+
+pub fn with_load(load: Load) -> Impostor {
+    Impostor { load, ..HONEST }
+}
+
+pub fn with_step(step: Step) -> Impostor {
+    Impostor { step, ..HONEST }
+}
+
 pub fn is_found(impostor: &Impostor) -> bool {
     is_found_among(impostor, 300)
 }
