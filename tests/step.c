@@ -194,48 +194,42 @@ static size_t large_image(size_t expression) {
     return 8 + expression;
 }
 
-/* Thousands of levels: applications to the left, to the right, exch after exch, lambdas. */
-static void deepest(void) {
-    size_t half = FIKAREHU_MAX_NODES / 2 - 1;
-    memset(large + 8, FIKAREHU_TAG_APPLICATION, half);
-    memset(large + 8 + half, FIKAREHU_TAG_UNIT, half + 1);
-    expect_refusal("applications to the left", large, large_image(2 * half + 1), 0, FIKAREHU_REFUSED_WRONG_KIND);
-    for (size_t level = 0; level < half; level++) {
-        memcpy(large + 8 + 2 * level, (const uint8_t[]){FIKAREHU_TAG_APPLICATION, FIKAREHU_TAG_UNIT}, 2);
+/* One thread with these bytes `levels` times, and units after them. */
+static size_t nested_image(const uint8_t *level, size_t length, size_t levels, size_t units) {
+    uint8_t *at = large + 8;
+    for (size_t i = 0; i < levels; i++, at += length) {
+        memcpy(at, level, length);
     }
-    large[8 + 2 * half] = FIKAREHU_TAG_UNIT;
-    expect_refusal("applications to the right", large, large_image(2 * half + 1), 0, FIKAREHU_REFUSED_WRONG_KIND);
-    for (size_t level = 0; level < half; level++) {
-        memcpy(large + 8 + 3 * level, (const uint8_t[]){FIKAREHU_TAG_APPLICATION, FIKAREHU_TAG_EXCH, 1}, 3);
-    }
-    large[8 + 3 * half] = FIKAREHU_TAG_UNIT;
-    expect("exch after exch", large, large_image(3 * half + 1), 0, FIKAREHU_MAX_IMAGE, FIKAREHU_DONE, 0);
-    memset(large + 8, FIKAREHU_TAG_LAMBDA, 2 * (FIKAREHU_MAX_NODES - 1));
-    large[8 + 2 * (FIKAREHU_MAX_NODES - 1)] = FIKAREHU_TAG_UNIT;
-    expect("lambdas", large, large_image(2 * (FIKAREHU_MAX_NODES - 1) + 1), 0, FIKAREHU_MAX_IMAGE, FIKAREHU_DONE, 0);
+    memset(at, FIKAREHU_TAG_UNIT, units);
+    return large_image(levels * length + units);
 }
 
-/* Thousands of levels: pairs to the left, fronts to the right, cases in subjects and in bodies. */
-static void deepest_compounds(void) {
-    size_t half = FIKAREHU_MAX_NODES / 2 - 1;
-    for (size_t level = 0; level < half; level++) {
-        memcpy(large + 8 + 2 * level, (const uint8_t[]){FIKAREHU_TAG_PAIR, 1}, 2);
+/* Thousands of levels to the left, to the right, in subjects and in bodies: values, and places where unit is no function, no pair and no list. */
+static void deepest(void) {
+    enum { HALF = FIKAREHU_MAX_NODES / 2 - 1, ALL = FIKAREHU_MAX_NODES - 1 };
+    static const struct {
+        const char *what;
+        uint8_t level[3];
+        size_t length, levels, units;
+        int is_value;
+    } rows[] = {
+        {"applications to the left", {FIKAREHU_TAG_APPLICATION}, 1, HALF, HALF + 1, 0},
+        {"applications to the right", {FIKAREHU_TAG_APPLICATION, FIKAREHU_TAG_UNIT}, 2, HALF, 1, 0},
+        {"exch after exch", {FIKAREHU_TAG_APPLICATION, FIKAREHU_TAG_EXCH, 1}, 3, HALF, 1, 1},
+        {"lambdas", {FIKAREHU_TAG_LAMBDA, 1}, 2, ALL, 1, 1},
+        {"pairs to the left", {FIKAREHU_TAG_PAIR, 1}, 2, HALF, HALF + 1, 1},
+        {"fronts to the right", {FIKAREHU_TAG_LIST, 1, FIKAREHU_TAG_UNIT}, 3, HALF, 1, 1},
+        {"cases in subjects", {FIKAREHU_TAG_CASE_PAIR}, 1, HALF, HALF + 1, 0},
+        {"cases in bodies", {FIKAREHU_TAG_CASE_LIST, FIKAREHU_TAG_UNIT}, 2, HALF, 1, 0},
+    };
+    for (size_t i = 0; i < sizeof rows / sizeof rows[0]; i++) {
+        size_t length = nested_image(rows[i].level, rows[i].length, rows[i].levels, rows[i].units);
+        if (rows[i].is_value) {
+            expect(rows[i].what, large, length, 0, FIKAREHU_MAX_IMAGE, FIKAREHU_DONE, 0);
+        } else {
+            expect_refusal(rows[i].what, large, length, 0, FIKAREHU_REFUSED_WRONG_KIND);
+        }
     }
-    memset(large + 8 + 2 * half, FIKAREHU_TAG_UNIT, half + 1);
-    expect("pairs to the left", large, large_image(3 * half + 1), 0, FIKAREHU_MAX_IMAGE, FIKAREHU_DONE, 0);
-    for (size_t level = 0; level < half; level++) {
-        memcpy(large + 8 + 3 * level, (const uint8_t[]){FIKAREHU_TAG_LIST, 1, FIKAREHU_TAG_UNIT}, 3);
-    }
-    large[8 + 3 * half] = FIKAREHU_TAG_UNIT;
-    expect("fronts to the right", large, large_image(3 * half + 1), 0, FIKAREHU_MAX_IMAGE, FIKAREHU_DONE, 0);
-    memset(large + 8, FIKAREHU_TAG_CASE_PAIR, half);
-    memset(large + 8 + half, FIKAREHU_TAG_UNIT, half + 1);
-    expect_refusal("cases in subjects", large, large_image(2 * half + 1), 0, FIKAREHU_REFUSED_WRONG_KIND);
-    for (size_t level = 0; level < half; level++) {
-        memcpy(large + 8 + 2 * level, (const uint8_t[]){FIKAREHU_TAG_CASE_LIST, FIKAREHU_TAG_UNIT}, 2);
-    }
-    large[8 + 2 * half] = FIKAREHU_TAG_UNIT;
-    expect_refusal("cases in bodies", large, large_image(2 * half + 1), 0, FIKAREHU_REFUSED_WRONG_KIND);
 }
 
 /* case (v, unit) of (x, y) ⇒ (x, (x, .. unit)), v of 65 nodes: the length of its expression. */
@@ -284,7 +278,6 @@ static void *everything(void *nothing) {
     no_threads();
     short_buffers();
     deepest();
-    deepest_compounds();
     room();
     too_large();
     return nothing;
