@@ -58,34 +58,41 @@ fn configuration(run: &Run) -> Configuration {
     read_image(&run.image).expect("the image of a run")
 }
 
-/// T-02, "the guarantee about running covers cells that hold something usable once".
-#[test]
-fn the_claim_holds_where_cells_keep_handles() {
-    let mut draw = Draw::new(7);
+/// The handles that `seen` finds in random runs, where a thread is about to step: how many, and how
+/// many of them were bound at a run's end.
+fn seen_and_bound(seed: u64, seen: fn(&Configuration, u64) -> Vec<u8>) -> (usize, usize) {
+    let mut draw = Draw::new(seed);
     let mut out = vec![0; limits::MAX_IMAGE];
-    let (mut kept_handles, mut bound_later) = (0, 0);
+    let (mut handles, mut bound) = (0, 0);
     for _ in 0..2_000 {
         let file = well_typed(&mut draw).write();
         let mut run = match Run::start(&file) {
             Some(run) => run,
             None => continue,
         };
-        let mut kept = BTreeSet::new();
+        let mut found = BTreeSet::new();
         for _ in 0..60 {
             let thread = thread_number(&mut draw, &run.image);
+            found.extend(seen(&configuration(&run), thread));
             if let Err(broken) = run.step(thread, &mut out) {
                 panic!("{broken}: {}", hexadecimal(&file));
             }
-            kept.extend(configuration(&run).kept_handles());
         }
         let last = configuration(&run);
         let used = |name: &&u8| *last.get(**name) == Component::UsedHandle;
-        kept_handles += kept.len();
-        bound_later += kept.iter().filter(used).count();
+        handles += found.len();
+        bound += found.iter().filter(used).count();
     }
-    println!("{kept_handles} handles were kept in cells, {bound_later} of them bound later");
-    assert!(kept_handles > 100, "{kept_handles} handles were kept");
-    assert!(bound_later > 10, "{bound_later} were bound later");
+    (handles, bound)
+}
+
+/// T-02, "the guarantee about running covers cells that hold something usable once".
+#[test]
+fn the_claim_holds_where_cells_keep_handles() {
+    let (kept, bound) = seen_and_bound(7, |now, _| now.kept_handles());
+    println!("{kept} handles were kept in cells, {bound} of them bound later");
+    assert!(kept > 100, "{kept} handles were kept");
+    assert!(bound > 10, "{bound} were bound later");
 }
 
 /// The open handles that stand in the pair which a thread is about to take apart.
@@ -109,29 +116,8 @@ fn handles_taken(now: &Configuration, thread: u64) -> Vec<u8> {
 /// T-03: the handle in a once pair is taken out with it, and used once.
 #[test]
 fn the_claim_holds_where_pairs_hold_handles() {
-    let mut draw = Draw::new(8);
-    let mut out = vec![0; limits::MAX_IMAGE];
-    let (mut taken_out, mut bound_later) = (0, 0);
-    for _ in 0..2_000 {
-        let file = well_typed(&mut draw).write();
-        let mut run = match Run::start(&file) {
-            Some(run) => run,
-            None => continue,
-        };
-        let mut taken = BTreeSet::new();
-        for _ in 0..40 {
-            let thread = thread_number(&mut draw, &run.image);
-            taken.extend(handles_taken(&configuration(&run), thread));
-            if let Err(broken) = run.step(thread, &mut out) {
-                panic!("{broken}: {}", hexadecimal(&file));
-            }
-        }
-        let last = configuration(&run);
-        let used = |name: &&u8| *last.get(**name) == Component::UsedHandle;
-        taken_out += taken.len();
-        bound_later += taken.iter().filter(used).count();
-    }
-    println!("{taken_out} handles were taken out of pairs, {bound_later} of them bound later");
-    assert!(taken_out > 50, "{taken_out} handles were taken out");
-    assert!(bound_later > 10, "{bound_later} were bound later");
+    let (taken, bound) = seen_and_bound(8, handles_taken);
+    println!("{taken} handles were taken out of pairs, {bound} of them bound later");
+    assert!(taken > 50, "{taken} handles were taken out");
+    assert!(bound > 10, "{bound} were bound later");
 }

@@ -66,35 +66,44 @@ impl Parser<'_> {
 
     /// A type as an entry over the numbers of its parts; arrows group to the right.
     fn shape(&mut self) -> Result<Entry, TextError> {
-        let place = self.position();
-        let left = self.shape_of_pair()?;
-        let kind = match self.peek() {
-            Token::OnceArrow => ONCE,
-            Token::ManyArrow => MANY,
-            _ => return Ok(left),
-        };
-        self.advance();
-        let p = self.number_of(left, place)?;
-        let place = self.position();
-        let right = self.deeper(|parser| parser.shape())?;
-        let q = self.number_of(right, place)?;
-        Ok(entry(kind, p, q))
+        self.grouped(Self::shape_of_pair, Self::shape, |sign| match sign {
+            Token::OnceArrow => Some(ONCE),
+            Token::ManyArrow => Some(MANY),
+            _ => None,
+        })
     }
 
     /// A type without arrows; the signs of pairs group to the right.
     fn shape_of_pair(&mut self) -> Result<Entry, TextError> {
+        self.grouped(
+            Self::shape_of_contents,
+            Self::shape_of_pair,
+            |sign| match sign {
+                Token::OncePair => Some(ONCE_PAIR),
+                Token::ManyPair => Some(MANY_PAIR),
+                _ => None,
+            },
+        )
+    }
+
+    /// What `first` reads; where a sign of a kind follows, that kind over it and what `rest` reads.
+    fn grouped(
+        &mut self,
+        first: fn(&mut Self) -> Result<Entry, TextError>,
+        rest: fn(&mut Self) -> Result<Entry, TextError>,
+        kind_of: fn(Token) -> Option<u8>,
+    ) -> Result<Entry, TextError> {
         let place = self.position();
-        let first = self.shape_of_contents()?;
-        let kind = match self.peek() {
-            Token::OncePair => ONCE_PAIR,
-            Token::ManyPair => MANY_PAIR,
-            _ => return Ok(first),
+        let left = first(self)?;
+        let kind = match kind_of(self.peek()) {
+            Some(kind) => kind,
+            None => return Ok(left),
         };
         self.advance();
-        let p = self.number_of(first, place)?;
+        let p = self.number_of(left, place)?;
         let place = self.position();
-        let second = self.deeper(|parser| parser.shape_of_pair())?;
-        let q = self.number_of(second, place)?;
+        let right = self.deeper(rest)?;
+        let q = self.number_of(right, place)?;
         Ok(entry(kind, p, q))
     }
 
