@@ -20,7 +20,7 @@ step-checked-requires c κs =
     let d = c .before .before .before .before in
     let a = d .before .before .before .before .args in
     let (stands, counted) = answered (a .image .now) _ (sym (c .before .before .nodes .given .1) ∙ d .check-image .ensures) in
-    record { stands = stands; counted = counted; long = omega (arith, d .before .if1 .left) }
+    (record { stands = stands; counted = counted }, omega (arith, d .before .if1 .left))
 
 returns-3 : tie.Need-returns-3
 returns-3 c =

@@ -1,9 +1,9 @@
 use native.Mathlib.Omega.{arith}
-use Rattle.step_thread.proofs.is_thread.Statement.{statement}
-use Rattle.step_thread.proofs.Answers.{by-kind, no-such}
+use Rattle.step_look.proofs.is_thread.Statement.{statement}
+use Rattle.step_look.proofs.Looking.{by-kind, no-such}
 use Rattle.image_layout.specs.Theory.Reading.{has-head, has-names}
 use Rattle.image_check.specs.Theory.Whole.{whole-sound}
-use Rattle.step_thread.proofs.is_thread.Tie as tie
+use Rattle.step_look.proofs.is_thread.Tie as tie
 
 names-of-requires : tie.Need-names-of-requires
 names-of-requires c κs = omega (arith, has-names _ (whole-sound _ (c .before .pre) .heads))

@@ -1,8 +1,8 @@
 use mathlib.Core.Path.{ap, sym}
 use borrow.Author.Needs.{needs}
-use Rattle.step_thread.specs.Stages.{stays}
-use Rattle.step_thread.proofs.answer_of.Statement.{statement}
-use Rattle.step_thread.proofs.answer_of.Tie as tie
+use Rattle.step_look.specs.Looked.{stays}
+use Rattle.step_look.proofs.answer_of.Statement.{statement}
+use Rattle.step_look.proofs.answer_of.Tie as tie
 
 returns : tie.Need-returns
 unfolding stays

@@ -1,0 +1,3 @@
+-- What a look at a thread says of the calculus's step.
+pub mod Looked
+pub mod Theory

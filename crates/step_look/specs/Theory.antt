@@ -1,0 +1,6 @@
+-- What follows from a look; nobody needs to read it in order to believe the definitions.
+
+-- the two ways of a look
+pub mod Ways
+-- the step of a thread that goes can be written
+pub mod Writing
