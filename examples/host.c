@@ -1,11 +1,12 @@
 /*
- * A host in C: loads a recipe and gives its threads turns, one after the other, between two buffers. Every bay's vent opening is printed
- * when no thread moves any more, or after the turns that were asked for.
+ * A host in C: loads a recipe and takes turns between two buffers, and prints every bay's vent opening when no thread can go any more, or
+ * after the turns that were asked for. The runner takes the turns; with --steps, a loop of steps takes the same ones.
  *
- *   make library && cc -std=c11 -Iinclude examples/host.c target/lib/libfikarehu.a -o host && ./host examples/nine-bays.recipe 1000
+ *   make library && cc -std=c11 -Iinclude examples/host.c target/staticlib/libfikarehu.a -o host && ./host examples/nine-bays.recipe 1000
  */
 #include <stdio.h>
 #include <stdlib.h>
+#include <string.h>
 
 #include "fikarehu.h"
 #include "vent.c"
@@ -42,55 +43,108 @@ static void print_vents(const uint8_t *image, uint32_t bays) {
     }
 }
 
-/* Gives each thread a turn, lowest number first, until none moves. The image lies in one buffer, and each step writes the other one. */
-static unsigned long take_turns(uint8_t **image, uint64_t *length, uint8_t **other, unsigned long turns) {
-    unsigned long taken = 0;
-    int moved = 1;
-    while (moved && taken < turns) {
-        moved = 0;
-        for (unsigned name = 0; name < names_of(*image) && taken < turns; name++) {
-            struct fikarehu_stepped stepped = fikarehu_step(*image, *length, name, *other, FIKAREHU_MAX_IMAGE);
-            if (stepped.outcome != FIKAREHU_RULE) {
-                continue; /* done, waiting, or refused as no thread or for want of room: the image stays as it is */
-            }
-            uint8_t *written = *other;
-            *other = *image;
-            *image = written;
-            *length = stepped.length;
-            moved = 1;
-            taken++;
+static void print_stop(uint32_t stop) {
+    switch (stop) {
+    case FIKAREHU_TURNS:
+        printf("all turns are taken\n");
+        break;
+    case FIKAREHU_IDLE:
+        printf("no thread can go: each is done or waits\n");
+        break;
+    case FIKAREHU_ROOM:
+        printf("no thread can go: one lacks room\n");
+        break;
+    }
+}
+
+/* What a run comes to: the fields of the runner's answer, and the last image. */
+struct course {
+    struct fikarehu_ran ran;
+    const uint8_t *image;
+};
+
+static uint8_t first[FIKAREHU_MAX_IMAGE], second[FIKAREHU_MAX_IMAGE];
+
+/* The first way: one call. */
+static struct course by_runner(const uint8_t *recipe, size_t size, uint16_t turns) {
+    struct fikarehu_ran ran = fikarehu_run(recipe, size, turns, first, sizeof first, second, sizeof second);
+    return (struct course){ran, ran.buffer == 0 ? first : second};
+}
+
+/* Steps the first thread that goes, from a number on and round to the number before; the number after it is the next one to look at. */
+static uint32_t take_turn(struct course *course, unsigned *from) {
+    uint8_t *other = course->ran.buffer == 0 ? second : first;
+    unsigned names = names_of(course->image);
+    uint32_t stop = FIKAREHU_IDLE;
+    for (unsigned more = 0; more < names; more++) {
+        unsigned name = (*from + more) % names;
+        struct fikarehu_stepped stepped =
+            fikarehu_step(course->image, course->ran.length, name, other, sizeof first);
+        if (stepped.outcome == FIKAREHU_RULE) {
+            *from = name + 1;
+            course->image = other;
+            course->ran.buffer ^= 1;
+            course->ran.length = stepped.length;
+            course->ran.turns++;
+            return FIKAREHU_TURNS;
+        }
+        if (stepped.outcome == FIKAREHU_REFUSED && stepped.number == FIKAREHU_REFUSED_ROOM) {
+            stop = FIKAREHU_ROOM; /* the image stays as it is, as with done, waiting and a number that is no thread */
         }
     }
-    return taken;
+    return stop;
+}
+
+/* The second way: a load and a loop of steps, which could choose another order or stop when the host likes. */
+static struct course by_steps(const uint8_t *recipe, size_t size, uint16_t turns) {
+    struct fikarehu_loaded loaded = fikarehu_load(recipe, size, first, sizeof first);
+    struct course course = {{.refusal = loaded.refusal, .length = loaded.length}, first};
+    unsigned from = 0;
+    while (loaded.refusal == 0 && course.ran.turns < turns && course.ran.stop == FIKAREHU_TURNS) {
+        course.ran.stop = take_turn(&course, &from);
+    }
+    return course;
+}
+
+/* The turns of a run that is told no other number. */
+enum { TURNS = 1000, MOST_TURNS = 65535 };
+
+static int usage(const char *program) {
+    fprintf(stderr, "use: %s [--steps] RECIPE [TURNS, 0 to %d]\n", program, MOST_TURNS);
+    return 1;
 }
 
 int main(int count, char **words) {
-    static uint8_t recipe[FIKAREHU_MAX_FILE + 1], first[FIKAREHU_MAX_IMAGE], second[FIKAREHU_MAX_IMAGE];
-    if (count < 2) {
-        fprintf(stderr, "use: %s RECIPE [TURNS]\n", words[0]);
-        return 1;
+    static uint8_t recipe[FIKAREHU_MAX_FILE + 1];
+    int steps = count > 1 && strcmp(words[1], "--steps") == 0;
+    if (count - steps < 2 || count - steps > 3) {
+        return usage(words[0]);
     }
-    FILE *file = fopen(words[1], "rb");
+    const char *name = words[1 + steps];
+    char *end = "";
+    unsigned long turns = count - steps < 3 ? TURNS : strtoul(words[2 + steps], &end, 10);
+    if (*end != '\0' || turns > MOST_TURNS) {
+        return usage(words[0]);
+    }
+    FILE *file = fopen(name, "rb");
     if (file == NULL) {
-        perror(words[1]);
+        perror(name);
         return 1;
     }
     size_t size = fread(recipe, 1, sizeof recipe, file); /* one byte more than the limit: a longer file is refused */
     if (ferror(file)) {
-        perror(words[1]);
+        perror(name);
         return 1;
     }
     fclose(file);
 
-    struct fikarehu_loaded loaded = fikarehu_load(recipe, size, first, sizeof first);
-    if (loaded.refusal != 0) {
-        fprintf(stderr, "%s: refused %u\n", words[1], loaded.refusal);
+    struct course course = (steps ? by_steps : by_runner)(recipe, size, (uint16_t)turns);
+    if (course.ran.refusal != 0) {
+        fprintf(stderr, "%s: refused %u\n", name, course.ran.refusal);
         return 1;
     }
-    uint8_t *image = first, *other = second;
-    uint64_t length = loaded.length;
-    unsigned long taken = take_turns(&image, &length, &other, count < 3 ? 1000 : strtoul(words[2], NULL, 10));
-    printf("%lu turns taken, %u names\n", taken, names_of(image));
-    print_vents(image, loaded.bays);
+    printf("%u turns taken, %u names; ", course.ran.turns, names_of(course.image));
+    print_stop(course.ran.stop);
+    print_vents(course.image, fikarehu_check(recipe, size).bays);
     return 0;
 }

@@ -1,11 +1,12 @@
 /*
  * Fikarehu: recipes for bays. A recipe is checked, loaded into its starting
- * image, and stepped one thread at a time.
+ * image, and stepped one thread at a time; or run for a number of turns.
  *
  * Slices. A pointer and a length name that many bytes. A pointer may be NULL
  * where its length is 0. Nothing beyond the length is read or written.
  *
- * Overlap. The out buffer must not overlap the recipe or the image.
+ * Overlap. The out buffer must not overlap the recipe or the image. Of a run,
+ * neither buffer may overlap the other or the recipe.
  *
  * Stack. Every call stays within 64 KiB of stack, on any input. There is no heap
  * and no state between calls: any number of threads may call at once, on buffers
@@ -15,7 +16,11 @@
  * of the out buffer and leaves the bytes beyond as they were. A refusal, done
  * or waiting leaves the whole out buffer as it was. A load or a step is refused
  * with FIKAREHU_REFUSED_BUFFER, before anything else is looked at, unless the
- * out buffer has at least FIKAREHU_MAX_IMAGE bytes; no image is longer.
+ * out buffer has at least FIKAREHU_MAX_IMAGE bytes; no image is longer. A run is
+ * refused so unless both its buffers have as many, whatever the turns. A run that
+ * is refused leaves both buffers as they were; else the last image lies in the
+ * first bytes of the buffer that is answered, and what the other buffer and the
+ * bytes beyond the last image hold is left free.
  *
  * Refusals. The lowest number that fits is answered, each cause tried over the
  * whole file.
@@ -31,9 +36,9 @@ extern "C" {
 #endif
 
 /* This header's version. */
-#define FIKAREHU_VERSION "0.4.0"
+#define FIKAREHU_VERSION "0.5.0"
 #define FIKAREHU_VERSION_MAJOR 0
-#define FIKAREHU_VERSION_MINOR 4
+#define FIKAREHU_VERSION_MINOR 5
 #define FIKAREHU_VERSION_PATCH 0
 
 /* The limits of a recipe. */
@@ -114,7 +119,9 @@ enum {
     FIKAREHU_TAG_CASE_LIST = 13  /* takes a list apart */
 };
 
-/* The refusals: 1 to 11 by a check or a load, 12 by a load or a step, 13 to 17 by a step. */
+/* The refusals: 1 to 11 by a check, a load or a run, 12 by a load, a step or a run, 13 to 17 by a
+ * step. A run passes on what arises, 12 first; 15 never does, for lack of room only passes a thread
+ * over. */
 enum {
     FIKAREHU_REFUSED_FILE_LENGTH = 1,  /* file length outside 12 to 8,192 */
     FIKAREHU_REFUSED_OPENING = 2,      /* first two bytes, edition, or n outside 2 to 17 */
@@ -181,6 +188,22 @@ struct fikarehu_stepped {
     uint64_t length;    /* the new image's length after a rule, else 0 */
 };
 
+/* Why a run stopped. */
+enum {
+    FIKAREHU_TURNS = 0,  /* all turns were taken; nothing is said of the threads */
+    FIKAREHU_IDLE = 1,   /* before that: no rule moves any thread; each is done or waits */
+    FIKAREHU_ROOM = 2    /* before that: rules move some threads, and each of these lacks room */
+};
+
+/* The answer of a run. */
+struct fikarehu_ran {
+    uint32_t refusal;  /* 0 for run, else the refusal, 12 or 1 to 11, and every other field is 0 */
+    uint32_t stop;     /* FIKAREHU_TURNS, _IDLE or _ROOM */
+    uint32_t turns;    /* the turns taken */
+    uint32_t buffer;   /* the last image's: 0 for the first, 1 for the second */
+    uint64_t length;   /* the last image's */
+};
+
 /* The verdict on the recipe of recipe_len bytes. */
 struct fikarehu_verdict fikarehu_check(const uint8_t *recipe, size_t recipe_len);
 
@@ -192,6 +215,13 @@ struct fikarehu_loaded fikarehu_load(const uint8_t *recipe, size_t recipe_len, u
  * FIKAREHU_REFUSED_NO_THREAD. */
 struct fikarehu_stepped fikarehu_step(const uint8_t *image, size_t image_len, uint64_t thread, uint8_t *out,
                                       size_t out_len);
+
+/* Checks the recipe, loads it into the first buffer, and takes up to that many turns, each a step
+ * from one buffer into the other. A turn steps the first thread that a rule moves and that has
+ * room, going round by number from the one after the last stepped; the first turn starts from the
+ * lowest number. The run stops before that many turns only when there is no such thread. */
+struct fikarehu_ran fikarehu_run(const uint8_t *recipe, size_t recipe_len, uint16_t turns, uint8_t *first,
+                                 size_t first_len, uint8_t *second, size_t second_len);
 
 #ifdef __cplusplus
 }

@@ -14,8 +14,16 @@ def listed():
     return [(name, edges.split()) for name, edges in (line.split(':') for line in lines if line)]
 
 
+def made_of(crate, name):
+    """The crates whose types are fields of a struct."""
+    text = open(f'crates/{crate}/src/lib.rt', encoding='utf-8').read()
+    struct = re.search(rf'pub struct {name} {{(.*?)}}', text, re.S)
+    fields = set(re.findall(r': (\w+)', struct.group(1))) if struct else set()
+    return {other for other, kind in re.findall(r'^use (\w+)::(\w+);', text, re.M) if kind in fields}
+
+
 def needed(crate):
-    """The crates that a crate's files name."""
+    """The crates that a crate's files name, and those that the types it uses are made of."""
     names = set()
     for path in glob.glob(f'crates/{crate}/**/*', recursive=True):
         if path.endswith(('.antt', '.rt')):
@@ -23,6 +31,8 @@ def needed(crate):
             names |= set(re.findall(r'Rattle·(\w+)', text))
             if path.endswith('.rt'):
                 names |= set(re.findall(r'\b(\w+)::', text))
+                for other, kind in re.findall(r'^use (\w+)::(\w+);', text, re.M):
+                    names |= made_of(other, kind) if os.path.exists(f'crates/{other}') else set()
     return names - {crate}
 
 

@@ -1,5 +1,5 @@
 #!/usr/bin/env python3
-"""What a reader must believe: the definitions that the contracts of the C functions and the statements of the three demands reach.
+"""What a reader must believe: the definitions that the contracts of the C functions, the statements of the three demands and that of the runner reach.
 
 docs/READING.md has them in a table between two marks. Without an argument this holds the page to the sources: the table is the closure and nothing more, its
 numbers are the counted ones, and every name that the page puts in backquotes exists. With --write it writes the table.
@@ -12,10 +12,10 @@ import sys
 PAGE = 'docs/READING.md'
 BEGIN, END = '<!-- the closure, written by tests/reading.py -->', '<!-- the end of the closure -->'
 # what it is today: a request that adds a rule or a form may raise it by what it adds
-MOST_LINES = 1255
+MOST_LINES = 1420
 # the statements to start from: a crate, its file of contracts or its module, and the names
-CONTRACTS = [('fikarehu', ['fikarehu_check', 'fikarehu_load', 'fikarehu_step'])]
-STATEMENTS = [('demands', 'Demands', ['FirstDemand', 'SecondDemand', 'ThirdDemand'])]
+CONTRACTS = [('fikarehu', ['fikarehu_check', 'fikarehu_load', 'fikarehu_step', 'fikarehu_run'])]
+STATEMENTS = [('demands', 'Demands', ['FirstDemand', 'SecondDemand', 'ThirdDemand']), ('run_spec', 'HouseRunner', ['HouseRunner'])]
 
 WORD = re.compile(r"[^\s(){}\[\],;.:λ⌜⌝&<>=/]+|:=|\[\]")
 

@@ -4,6 +4,7 @@
 use crate::limits::MAX_BAYS;
 use crate::load::{self, Loaded};
 use crate::plain;
+use crate::runner::{self, Buffer, Ran, Stop};
 use crate::step::{self, Outcome};
 use crate::verdict::{self, Verdict};
 
@@ -40,6 +41,31 @@ pub const RULE: u32 = 1;
 pub const WAITING: u32 = 2;
 pub const REFUSED: u32 = 3;
 
+/// `struct fikarehu_ran`
+#[repr(C)]
+#[derive(Debug, Clone, Copy, PartialEq, Eq, Default)]
+pub struct RanAnswer {
+    pub refusal: u32,
+    pub stop: u32,
+    pub turns: u32,
+    pub buffer: u32,
+    pub length: u64,
+}
+
+impl RanAnswer {
+    pub fn refused(refusal: u32) -> RanAnswer {
+        RanAnswer {
+            refusal,
+            ..RanAnswer::default()
+        }
+    }
+}
+
+/// Why a run stops.
+pub const TURNS: u32 = 0;
+pub const IDLE: u32 = 1;
+pub const ROOM: u32 = 2;
+
 /// The types of the bays, zeros beyond.
 fn sixteen(types: &[u8]) -> [u8; MAX_BAYS] {
     let mut all = [0; MAX_BAYS];
@@ -47,13 +73,21 @@ fn sixteen(types: &[u8]) -> [u8; MAX_BAYS] {
     all
 }
 
-/// Something that checks, loads and steps as the C interface does.
+/// Something that checks, loads, steps and runs as the C interface does.
 pub trait Implementation {
     fn check(&self, recipe: &[u8]) -> VerdictAnswer;
     /// `None` where a library has no loader.
     fn load(&self, recipe: &[u8], out: &mut [u8]) -> Option<LoadedAnswer>;
     /// `None` where a library has no stepper.
     fn step(&self, image: &[u8], thread: u64, out: &mut [u8]) -> Option<SteppedAnswer>;
+    /// `None` where a library has no runner.
+    fn run(
+        &self,
+        recipe: &[u8],
+        turns: u16,
+        first: &mut [u8],
+        second: &mut [u8],
+    ) -> Option<RanAnswer>;
 }
 
 /// The model.
@@ -102,6 +136,32 @@ impl Implementation for Model {
             length,
         })
     }
+
+    fn run(
+        &self,
+        recipe: &[u8],
+        turns: u16,
+        first: &mut [u8],
+        second: &mut [u8],
+    ) -> Option<RanAnswer> {
+        Some(match runner::run(recipe, turns, first, second) {
+            Ran::Refused(refusal) => RanAnswer::refused(refusal),
+            Ran::Ended(stop, turns, buffer, length) => RanAnswer {
+                refusal: 0,
+                stop: match stop {
+                    Stop::Turns => TURNS,
+                    Stop::Idle => IDLE,
+                    Stop::Room => ROOM,
+                },
+                turns: u32::from(turns),
+                buffer: match buffer {
+                    Buffer::First => 0,
+                    Buffer::Second => 1,
+                },
+                length: length as u64,
+            },
+        })
+    }
 }
 
 /// The plain implementation.
@@ -138,6 +198,28 @@ impl Implementation for Plain {
             outcome,
             number,
             length,
+        })
+    }
+
+    fn run(
+        &self,
+        recipe: &[u8],
+        turns: u16,
+        first: &mut [u8],
+        second: &mut [u8],
+    ) -> Option<RanAnswer> {
+        let (stop, taken, length) = match plain::run(recipe, turns, first, second) {
+            plain::Ran::Refused(refusal) => return Some(RanAnswer::refused(refusal)),
+            plain::Ran::Turns(length) => (TURNS, turns, length),
+            plain::Ran::Stopped(taken, length, false) => (IDLE, taken, length),
+            plain::Ran::Stopped(taken, length, true) => (ROOM, taken, length),
+        };
+        Some(RanAnswer {
+            refusal: 0,
+            stop,
+            turns: u32::from(taken),
+            buffer: u32::from(taken) % 2,
+            length: length as u64,
         })
     }
 }

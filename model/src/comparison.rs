@@ -1,11 +1,15 @@
 //! An implementation compared with the model: every answer and every byte of the out buffer, on
 //! inputs that end where a page begins that traps.
 
-use crate::answers::{Implementation, Model, SteppedAnswer, VerdictAnswer, DONE, RULE, WAITING};
+mod runner;
+
+use crate::answers::{
+    Implementation, Model, RanAnswer, SteppedAnswer, VerdictAnswer, DONE, RULE, WAITING,
+};
 use crate::draw::Draw;
 use crate::format::hexadecimal;
 use crate::generate::instances::constants_at_every_type;
-use crate::generate::{images, recipes};
+use crate::generate::{houses, images, recipes};
 use crate::guard::Guarded;
 use crate::limits;
 use crate::verdict::{derived_types, read_recipe};
@@ -17,6 +21,9 @@ const INPUT_ROOM: usize = 1 << 17;
 const OUT_ROOM: usize = 2 * limits::MAX_IMAGE;
 /// After how many recipes every constant is tried at every type of another table.
 const TABLE_EVERY: u64 = 5_000;
+/// After how many recipes the runner gets one of them, and after how many a house.
+const RUNNER_EVERY: u64 = 4;
+const HOUSE_EVERY: u64 = 50;
 /// The most steps of one run.
 const RUN_STEPS: usize = 40;
 
@@ -29,6 +36,10 @@ pub struct Counts {
     pub done: u64,
     pub waiting: u64,
     pub step_refusals: [u64; 18],
+    pub runs: [u64; 18],
+    /// Of the runs that were not refused, by their stops.
+    pub stops: [u64; 3],
+    pub turns: u64,
 }
 
 impl Counts {
@@ -47,6 +58,15 @@ impl Counts {
             _ => self.step_refusals[number.min(17)] += 1,
         }
     }
+
+    /// The same of a run.
+    pub fn note_run(&mut self, answer: &RanAnswer) {
+        self.runs[(answer.refusal as usize).min(17)] += 1;
+        if answer.refusal == 0 {
+            self.stops[(answer.stop as usize).min(2)] += 1;
+            self.turns += u64::from(answer.turns);
+        }
+    }
 }
 
 impl fmt::Display for Counts {
@@ -55,7 +75,14 @@ impl fmt::Display for Counts {
         writeln!(f, "load:  {}", listed(&self.loads, "verdict"))?;
         writeln!(f, "step:  {}", listed(&self.rules, "rule"))?;
         writeln!(f, "step:  {}", listed(&self.step_refusals, "refused"))?;
-        write!(f, "step:  done: {}, waiting: {}", self.done, self.waiting)
+        writeln!(f, "step:  done: {}, waiting: {}", self.done, self.waiting)?;
+        writeln!(f, "run:   {}", listed(&self.runs, "verdict"))?;
+        let [turns, idle, room] = self.stops;
+        write!(
+            f,
+            "run:   all turns: {turns}, idle: {idle}, room: {room}; {} turns in all",
+            self.turns
+        )
     }
 }
 
@@ -78,7 +105,7 @@ pub struct Difference(pub String);
 pub struct Comparison<'a, I: Implementation> {
     implementation: &'a I,
     input: Guarded,
-    out: Guarded,
+    outs: [Guarded; 2],
     expected_out: Vec<u8>,
     pattern: Vec<u8>,
     pub counts: Counts,
@@ -89,7 +116,7 @@ impl<'a, I: Implementation> Comparison<'a, I> {
         Comparison {
             implementation,
             input: Guarded::new(INPUT_ROOM),
-            out: Guarded::new(OUT_ROOM),
+            outs: [Guarded::new(OUT_ROOM), Guarded::new(OUT_ROOM)],
             expected_out: Vec::new(),
             pattern: (0..OUT_ROOM + 256).map(|i| (7 * i) as u8).collect(),
             counts: Counts::default(),
@@ -97,10 +124,13 @@ impl<'a, I: Implementation> Comparison<'a, I> {
     }
 
     /// That many recipes: each checked and loaded, every fourth accepted one run; one image from
-    /// outside for every second recipe; and now and then every constant at every type of a table. The recipes are the same with and without a stepper.
+    /// outside for every second recipe; and now and then every constant at every type of a table. The
+    /// runner gets every fourth recipe, and houses beside them. The recipes are the same with and
+    /// without a stepper and a runner.
     pub fn compare(&mut self, seed: u64, count: u64) -> Result<(), Difference> {
         let mut for_recipes = Draw::new(seed);
         let mut draw = Draw::new(!seed);
+        let mut for_runner = Draw::new(seed.rotate_left(32));
         let steps = self.implementation.step(&[], 0, &mut []).is_some();
         for number in 0..count {
             if number % TABLE_EVERY == 0 {
@@ -114,6 +144,15 @@ impl<'a, I: Implementation> Comparison<'a, I> {
             }
             if steps && number % 2 == 0 {
                 self.compare_image(&mut draw)?;
+            }
+            if number % RUNNER_EVERY == 1 {
+                let turns = houses::any_turns(&mut for_runner);
+                self.compare_runs(&mut for_runner, &file, turns)?;
+            }
+            if number % HOUSE_EVERY == 2 {
+                let house = houses::house(&mut for_runner).write();
+                let turns = houses::turns(&mut for_runner);
+                self.compare_runs(&mut for_runner, &house, turns)?;
             }
         }
         Ok(())
@@ -147,7 +186,7 @@ impl<'a, I: Implementation> Comparison<'a, I> {
     pub fn compare_load(&mut self, draw: &mut Draw, file: &[u8]) -> Result<(), Difference> {
         let length = images::out_length(draw);
         let pattern = pattern(&self.pattern, draw, length);
-        let out = self.out.last(length);
+        let out = self.outs[0].last(length);
         out.copy_from_slice(pattern);
         let found = match self.implementation.load(self.input.place(file), out) {
             Some(found) => found,
@@ -208,7 +247,7 @@ impl<'a, I: Implementation> Comparison<'a, I> {
     ) -> Result<Option<Vec<u8>>, Difference> {
         let length = images::out_length(draw);
         let pattern = pattern(&self.pattern, draw, length);
-        let out = self.out.last(length);
+        let out = self.outs[0].last(length);
         out.copy_from_slice(pattern);
         let placed = self.input.place(image);
         let found = match self.implementation.step(placed, thread, out) {

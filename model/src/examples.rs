@@ -1,13 +1,16 @@
 //! The example recipes: each a file of bytes and a text that says what it does.
 
+use crate::by_hand::*;
 use crate::causes;
-use crate::editions::{self, Edition};
+use crate::config::Configuration;
+use crate::editions;
 use crate::format::{hexadecimal, Recipe};
-use crate::generate::tables::GrowingTable;
+use crate::image::{read_image, write_image};
 use crate::limits;
 use crate::load::{load, Loaded};
 use crate::nodes::Node;
-use crate::step::{step, Outcome};
+use crate::runner::{look, Look};
+use crate::step::{step_configuration, Stepped};
 use crate::table::entry;
 use crate::tool::judge;
 use crate::tool::show::shown;
@@ -20,100 +23,6 @@ pub struct Example {
     pub name: &'static str,
     pub text: &'static str,
     pub recipe: Recipe,
-}
-
-type Term = Vec<Node>;
-
-/// Types by number, for a recipe that is written by hand.
-struct Types(GrowingTable);
-
-const UNIT: u8 = 0;
-const NUM: u8 = 1;
-const SETTING: u8 = 2;
-
-impl Types {
-    fn new() -> Types {
-        Types::of(editions::FIRST)
-    }
-
-    fn of(edition: Edition) -> Types {
-        Types(GrowingTable::new(edition, *limits::ENTRIES.end()))
-    }
-
-    fn many(&mut self, p: u8, q: u8) -> u8 {
-        let made = self.0.function(Multiplicity::Many, p, q);
-        made.expect("an example has few types")
-    }
-
-    fn once(&mut self, p: u8, q: u8) -> u8 {
-        let made = self.0.function(Multiplicity::Once, p, q);
-        made.expect("an example has few types")
-    }
-
-    fn cell(&mut self, contents: u8) -> u8 {
-        self.0.cell(contents).expect("an example has few types")
-    }
-
-    fn pair(&mut self, multiplicity: Multiplicity, p: u8, q: u8) -> u8 {
-        let made = self.0.pair(multiplicity, p, q);
-        made.expect("an example has few types")
-    }
-
-    fn list(&mut self, contents: u8) -> u8 {
-        let made = self.0.list(Multiplicity::Many, contents);
-        made.expect("an example has few types")
-    }
-
-    fn recipe(self, terms: Vec<Term>) -> Recipe {
-        let edition = self.0.edition().number;
-        let entries = self.0.into_entries();
-        Recipe {
-            edition,
-            entries,
-            terms,
-        }
-    }
-}
-
-fn apply(function: Term, argument: Term) -> Term {
-    [vec![Node::Application], function, argument].concat()
-}
-
-fn lambda(whole: u8, body: Term) -> Term {
-    [vec![Node::Lambda(whole)], body].concat()
-}
-
-fn variable(index: u8) -> Term {
-    vec![Node::Variable(index)]
-}
-
-fn num(value: u16) -> Term {
-    vec![Node::Num(value)]
-}
-
-fn unit() -> Term {
-    vec![Node::Unit]
-}
-
-fn setting(bay: u8) -> Term {
-    vec![Node::Name(bay)]
-}
-
-fn constant(c: Constant, whole: u8) -> Term {
-    vec![Node::Constant(c, whole)]
-}
-
-fn pair(whole: u8, first: Term, second: Term) -> Term {
-    [vec![Node::Pair(whole)], first, second].concat()
-}
-
-fn front(whole: u8, first: Term, rest: Term) -> Term {
-    [vec![Node::Front(whole)], first, rest].concat()
-}
-
-/// In the body the second component is variable 0 and the first one variable 1.
-fn case(shape: Shape, subject: Term, body: Term) -> Term {
-    [vec![Node::Case(shape)], subject, body].concat()
 }
 
 /// The number of the exch constant's type for the settings.
@@ -544,8 +453,8 @@ fn refused_11() -> Example {
     example("refused-11", text, types.recipe(vec![lambda(once, unit())]))
 }
 
-/// How many rules the text of an example follows.
-const RULES_TOLD: usize = 40;
+/// How many turns the text of an example follows.
+const TURNS_TOLD: usize = 40;
 
 impl Example {
     pub fn file(&self) -> Vec<u8> {
@@ -583,41 +492,45 @@ impl Example {
             hexadecimal(&image)
         )
         .expect("a text");
-        text += "\nThreads stepped in turn, lowest number first:\n\n";
+        text += "\nThe turns of the runner:\n\n";
         text + &told_run(image)
     }
 }
 
-/// The answers of steps round by round, until no thread moves or enough is told.
+/// The runner's turns, until no thread can go or enough are told.
 fn told_run(mut image: Vec<u8>) -> String {
     let mut text = String::new();
-    let mut out = vec![0; limits::MAX_IMAGE];
-    let mut rules = 0;
-    loop {
-        let before = rules;
-        let names = u64::from(image[0]);
-        for thread in 0..names {
-            let told = match step(&image, thread, &mut out) {
-                Outcome::Refused(causes::NO_THREAD) => continue,
-                Outcome::Rule(rule, length) => {
-                    image = out[..length].to_vec();
-                    rules += 1;
-                    format!("rule {rule}")
-                }
-                Outcome::Done => "done".to_owned(),
-                Outcome::Waiting(name) => format!("waiting for name {name}"),
-                Outcome::Refused(number) => format!("refused {number}"),
-            };
-            writeln!(text, "- thread {thread}: {told}").expect("a text takes more");
+    let mut last = None;
+    let mut turns = 0;
+    let end = loop {
+        let now = read_image(&image).expect("the image of a run");
+        if turns == TURNS_TOLD {
+            break "And so on.".to_owned();
         }
-        if rules == before || rules >= RULES_TOLD {
-            let end = if rules == before {
-                "No thread moves."
-            } else {
-                "And so on."
-            };
-            let image = hexadecimal(&image);
-            return format!("{text}\n{end} The image is then:\n\n```\n{image}\n```\n");
+        match look(&now, last) {
+            Look::Goes(thread, rule, next) => {
+                writeln!(text, "- thread {thread}: rule {rule}").expect("a text takes more");
+                (image, last) = (write_image(&next), Some(thread));
+                turns += 1;
+            }
+            _ => break standing(&now),
         }
+    };
+    if turns == 0 {
+        text += "None.\n";
     }
+    let image = hexadecimal(&image);
+    format!("{text}\n{end} The image is then:\n\n```\n{image}\n```\n")
+}
+
+/// Why no thread can go.
+fn standing(now: &Configuration) -> String {
+    let told = (0..now.names()).filter_map(|name| match step_configuration(now, name as u64) {
+        Stepped::Done => Some(format!("thread {name} is done")),
+        Stepped::Waiting(awaited) => Some(format!("thread {name} waits for name {awaited}")),
+        Stepped::Refused(causes::ROOM) => Some(format!("thread {name} lacks room")),
+        _ => None,
+    });
+    let told: Vec<String> = told.collect();
+    format!("No thread can go: {}.", told.join(", "))
 }

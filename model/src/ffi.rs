@@ -1,6 +1,6 @@
 //! The C interface of the proved library, as `include/fikarehu.h` declares it, and safe calls.
 
-use crate::answers::{Implementation, LoadedAnswer, SteppedAnswer, VerdictAnswer};
+use crate::answers::{Implementation, LoadedAnswer, RanAnswer, SteppedAnswer, VerdictAnswer};
 
 extern "C" {
     fn fikarehu_check(recipe: *const u8, recipe_len: usize) -> VerdictAnswer;
@@ -17,6 +17,15 @@ extern "C" {
         out: *mut u8,
         out_len: usize,
     ) -> SteppedAnswer;
+    fn fikarehu_run(
+        recipe: *const u8,
+        recipe_len: usize,
+        turns: u16,
+        first: *mut u8,
+        first_len: usize,
+        second: *mut u8,
+        second_len: usize,
+    ) -> RanAnswer;
 }
 
 /// The verdict on a recipe.
@@ -45,6 +54,22 @@ pub fn step(image: &[u8], thread: u64, out: &mut [u8]) -> SteppedAnswer {
     }
 }
 
+/// A recipe run for so many turns.
+pub fn run(recipe: &[u8], turns: u16, first: &mut [u8], second: &mut [u8]) -> RanAnswer {
+    // SAFETY: three slices that are lent meanwhile; the buffers are each lent alone, so nothing overlaps.
+    unsafe {
+        fikarehu_run(
+            recipe.as_ptr(),
+            recipe.len(),
+            turns,
+            first.as_mut_ptr(),
+            first.len(),
+            second.as_mut_ptr(),
+            second.len(),
+        )
+    }
+}
+
 /// The proved library.
 pub struct Library;
 
@@ -59,5 +84,15 @@ impl Implementation for Library {
 
     fn step(&self, image: &[u8], thread: u64, out: &mut [u8]) -> Option<SteppedAnswer> {
         Some(step(image, thread, out))
+    }
+
+    fn run(
+        &self,
+        recipe: &[u8],
+        turns: u16,
+        first: &mut [u8],
+        second: &mut [u8],
+    ) -> Option<RanAnswer> {
+        Some(run(recipe, turns, first, second))
     }
 }

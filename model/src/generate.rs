@@ -3,6 +3,7 @@
 
 pub mod configurations;
 pub mod growth;
+pub mod houses;
 pub mod images;
 pub mod instances;
 pub mod mutants;

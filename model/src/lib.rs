@@ -5,6 +5,7 @@
 #![deny(unsafe_op_in_unsafe_fn)]
 
 pub mod answers;
+pub mod by_hand;
 pub mod causes;
 pub mod command;
 pub mod comparison;
@@ -19,6 +20,7 @@ pub mod ffi;
 pub mod format;
 pub mod generate;
 pub mod guard;
+pub mod houses;
 pub mod image;
 pub mod kinds;
 pub mod limits;
@@ -29,6 +31,7 @@ pub mod reduce;
 pub mod rows;
 pub mod rules;
 pub mod run;
+pub mod runner;
 pub mod step;
 pub mod subjects;
 pub mod table;

@@ -6,6 +6,7 @@ mod image;
 mod levels;
 mod load;
 mod place;
+mod run;
 mod step;
 mod term;
 mod walk;
@@ -13,4 +14,5 @@ mod write;
 
 pub use check::{check, Answer};
 pub use load::load;
+pub use run::{run, Ran};
 pub use step::{step, Stepped};

@@ -3,7 +3,7 @@
 
 mod tool_common;
 
-use model::answers::{SteppedAnswer, VerdictAnswer};
+use model::answers::{RanAnswer, SteppedAnswer, VerdictAnswer};
 use model::tool::compare::words::InWords;
 use std::process::Command;
 use tool_common::*;
@@ -57,6 +57,10 @@ fn a_checker_that_turns_everything_away_and_one_that_passes_everything() {
     let text = standard_output(&same);
     assert!(
         text.contains("A has no fikarehu_step: not compared"),
+        "{text}"
+    );
+    assert!(
+        text.contains("B has no fikarehu_run: not compared"),
         "{text}"
     );
     assert!(text.ends_with("\nsame\n"), "{text}");
@@ -181,6 +185,13 @@ fn answers_in_words() {
     assert_eq!(stepped(2, 5, 0), "waiting for name 5");
     assert_eq!(stepped(3, 14, 0), "refused 14 (number is no thread)");
     assert_eq!(stepped(9, 1, 0), "outcome 9, which there is not, number 1");
+    let mut ran = RanAnswer::refused(12);
+    assert_eq!(ran.in_words(), "refused 12 (out buffer under 13,826 bytes)");
+    (ran.stop, ran.turns, ran.buffer, ran.length) = (1, 3, 1, 20);
+    let words = "stop 1 (idle), turns 3, buffer 1, image of 20 bytes";
+    assert!(ran.in_words().ends_with(&format!("), {words}")));
+    ran.refusal = 0;
+    assert_eq!(ran.in_words(), words);
 }
 
 #[test]
@@ -225,6 +236,41 @@ mod with_the_library {
         let steps = text.lines().filter(|line| line.starts_with("step:"));
         let compared = steps.into_iter().all(|line| !line.contains("not compared"));
         assert!(compared, "{text}");
+        assert!(!text.contains("run:   not compared"), "{text}");
+    }
+
+    /// The library with another function of that name, which may call the honest one.
+    fn impostor(folder: &Folder, function: &str, source: &str) -> String {
+        let renamed = folder.path("renamed.a");
+        let rename = format!("--redefine-sym=fikarehu_{function}=honest_{function}");
+        call("objcopy", &[&rename, &archive(), &renamed]);
+        let source = folder.file("impostor.c", source);
+        let header = format!("-I{}", repository().join("include").display());
+        let more = ["-fPIC", header.as_str(), source.as_str()];
+        shared(folder, "impostor.so", &renamed, &more)
+    }
+
+    /// Runs as the library does, but takes a turn less.
+    const TAKES_A_TURN_LESS: &str = "\
+#include \"fikarehu.h\"
+struct fikarehu_ran honest_run(const uint8_t *, size_t, uint16_t, uint8_t *, size_t, uint8_t *, size_t);
+struct fikarehu_ran fikarehu_run(const uint8_t *recipe, size_t recipe_len, uint16_t turns, uint8_t *first,
+                                 size_t first_len, uint8_t *second, size_t second_len) {
+    return honest_run(recipe, recipe_len, turns > 3 ? turns - 1 : turns, first, first_len, second, second_len);
+}
+";
+
+    #[test]
+    fn an_impostor_that_takes_a_turn_less() {
+        let folder = Folder::new();
+        let honest = shared(&folder, "honest.so", &archive(), &[]);
+        let impostor = impostor(&folder, "run", TAKES_A_TURN_LESS);
+        let output = recipe(&["compare", &honest, &impostor, "--count", "500"]);
+        let text = standard_output(&output);
+        assert_eq!(output.status.code(), Some(1), "{text}");
+        for expected in ["difference: run of ", "recipe: 4C46", "A answers: stop "] {
+            assert!(text.contains(expected), "{text}");
+        }
     }
 
     /// Steps as the library does, but for the byte after the image when rule 7 was applied.
@@ -243,13 +289,7 @@ struct fikarehu_stepped fikarehu_step(const uint8_t *image, size_t image_len, ui
     fn an_impostor_that_writes_beyond_the_image() {
         let folder = Folder::new();
         let honest = shared(&folder, "honest.so", &archive(), &[]);
-        let renamed = folder.path("renamed.a");
-        let rename = "--redefine-sym=fikarehu_step=honest_step";
-        call("objcopy", &[rename, &archive(), &renamed]);
-        let source = folder.file("impostor.c", WRITES_BEYOND);
-        let header = format!("-I{}", repository().join("include").display());
-        let more = ["-fPIC", header.as_str(), source.as_str()];
-        let impostor = shared(&folder, "impostor.so", &renamed, &more);
+        let impostor = impostor(&folder, "step", WRITES_BEYOND);
         let output = recipe(&["compare", &honest, &impostor, "--count", "500"]);
         let text = standard_output(&output);
         assert_eq!(output.status.code(), Some(1), "{text}");

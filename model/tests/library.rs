@@ -7,8 +7,11 @@ use common::*;
 use model::answers::{Implementation, Model, RULE};
 use model::command::on_deep_stack;
 use model::comparison::Comparison;
+use model::draw::Draw;
+use model::editions::FIRST;
 use model::examples;
 use model::ffi::Library;
+use model::houses::{self, Bay, Makes};
 use model::limits::MAX_IMAGE;
 use model::tags;
 
@@ -18,9 +21,36 @@ fn on_random_recipes() {
         let mut comparison = Comparison::new(&Library);
         let result = comparison.compare(10, 5_000);
         println!("{}", comparison.counts);
+        let counts = &comparison.counts;
+        assert!(counts.runs[..13].iter().all(|count| *count > 0), "{counts}");
+        assert!(counts.stops.iter().all(|count| *count > 5), "{counts}");
         result.err().map(|difference| difference.0)
     });
     assert_eq!(difference, None);
+}
+
+/// Document 02, T-04: houses that go on for ever, that wait, and 255 threads that all go, for no turn,
+/// one, many and the most.
+#[test]
+fn on_houses() {
+    let houses = [
+        houses::one_moves(),
+        houses::all_move(),
+        houses::most_wait(),
+        houses::crowd(),
+    ];
+    let difference = on_deep_stack(|| {
+        let mut comparison = Comparison::new(&Library);
+        let mut draw = Draw::new(11);
+        for house in houses {
+            for turns in [0, 1, 40, 1_400, 1_401] {
+                comparison.compare_runner(&mut draw, &house.write(), turns)?;
+            }
+        }
+        let alone = houses::house(FIRST, &[Bay::Loops(Makes::Nothing)]);
+        comparison.compare_runner(&mut draw, &alone.write(), u16::MAX)
+    });
+    assert_eq!(difference.err().map(|difference| difference.0), None);
 }
 
 #[test]

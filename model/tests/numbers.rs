@@ -50,7 +50,7 @@ const CAUSES: &[(&str, u64)] = numbers!(causes: FILE_LENGTH OPENING LAYOUT TYPE_
     TERM_SIZE SCOPE ANNOTATION TYPE LINEARITY BAY_ONCE BUFFER IMAGE NO_THREAD ROOM USED_HANDLE
     WRONG_KIND);
 
-const GROUPS: [Group; 10] = [
+const GROUPS: [Group; 11] = [
     group("FIKAREHU_", "Recipe", RECIPE),
     group("FIKAREHU_", "Image", IMAGE),
     group("FIKAREHU_KIND_", "Image", KINDS),
@@ -65,6 +65,7 @@ const GROUPS: [Group; 10] = [
         "Stepped",
         numbers!(answers: DONE RULE WAITING REFUSED),
     ),
+    group("FIKAREHU_", "Ran", numbers!(answers: TURNS IDLE ROOM)),
 ];
 
 /// The Rattle name where it is another one: the type there says the rest.
@@ -196,7 +197,8 @@ fn every_limit_kind_rule_and_cause_of_the_rattle_sources_is_in_the_header() {
     };
     for (whole, value) in in_rattle() {
         let (owner, name) = whole.split_once("::").unwrap_or(("", ""));
-        let public = ["Recipe", "Image", "Type", "Rule", "Cause", "Stepped"].contains(&owner);
+        let public =
+            ["Recipe", "Image", "Type", "Rule", "Cause", "Stepped", "Ran"].contains(&owner);
         // The companion of a name without one is 0 (document 01), and how many variables a term can have around it follows from its nesting: neither is a limit or a kind.
         let inside = ["Image::NO_OWNER", "Recipe::MAX_VARIABLES"].contains(&whole.as_str());
         assert!(

@@ -19,13 +19,12 @@ fn history(file: &[u8], turns: u64, mut order: Order) -> History {
     let bays = loaded.bays as usize;
     let mut runner = Runner::new(&Model, image);
     let mut history = History::start(bays, &runner.image);
-    for turn in 1..=turns {
-        let thread = match runner.next(&mut order) {
-            Ok(thread) => thread,
-            Err(_) => break,
-        };
-        let answer = runner.turn(thread);
-        history.note_turn(turn, thread, answer, &runner.image);
+    for _ in 0..turns {
+        let turn = runner.turn(&mut order);
+        history.note(&turn, &runner.image);
+        if turn.taken.is_err() {
+            break;
+        }
     }
     history.finish();
     history
@@ -102,7 +101,7 @@ fn sixteen_bays() -> Vec<u8> {
 fn sixteen_bays_and_their_words() {
     let file = sixteen_bays();
     for turns in [0, 1, 2, 5, 13, 40, 61, 200] {
-        check(&history(&file, turns, Order::RoundRobin(0)));
+        check(&history(&file, turns, Order::Runner(0)));
         check(&history(&file, turns, Order::random(turns)));
     }
 }
@@ -111,7 +110,7 @@ fn sixteen_bays_and_their_words() {
 fn what_no_vent_can_be_is_a_plain_number_and_scales_the_picture() {
     let text = "bay 0 = exch[num ref →ω num →ω num] setting0 40000\n";
     let file = made(text.as_bytes(), false).expect("a recipe");
-    let history = history(&file, 3, Order::RoundRobin(0));
+    let history = history(&file, 3, Order::Runner(0));
     check(&history);
     let svg = picture("carbon dioxide", &history);
     assert!(svg.contains(">bay 0: 40000<"));
@@ -141,7 +140,7 @@ fn a_long_run_is_drawn_as_finely_as_can_be_seen() {
                  (λf:unit →ω unit. λx:unit. (λy:num. (λz:num. f unit) (exch[num ref →ω num →ω num] setting0 900)) \
                  (exch[num ref →ω num →ω num] setting0 100)))";
     let file = made(again.as_bytes(), false).expect("a recipe");
-    let history = history(&file, 60_000, Order::RoundRobin(0));
+    let history = history(&file, 60_000, Order::Runner(0));
     assert_eq!(history.turns, 60_000);
     let svg = picture("for ever", &history);
     assert!(svg.len() < 300_000, "{} bytes", svg.len());
@@ -153,7 +152,7 @@ fn a_refusal_in_the_last_of_many_turns_is_seen() {
     let cells = "bay 0 = (λf:unit →ω unit. f unit) (thread[((unit →ω unit) →ω unit →ω unit) →ω unit →ω unit] \
                  (λf:unit →ω unit. λx:unit. (λy:num ref. f unit) (cell[num →ω num ref] 3)))";
     let file = made(cells.as_bytes(), false).expect("a recipe");
-    let history = history(&file, 60_000, Order::RoundRobin(0));
+    let history = history(&file, 60_000, Order::Runner(0));
     assert!(history.turns > 500, "{} turns", history.turns);
     check(&history);
     let svg = picture("cells", &history);
@@ -165,7 +164,7 @@ fn a_refusal_in_the_last_of_many_turns_is_seen() {
 
 #[test]
 fn each_threads_bay_and_the_rules_by_name() {
-    let history = history(&sixteen_bays(), 40, Order::RoundRobin(0));
+    let history = history(&sixteen_bays(), 40, Order::Runner(0));
     let svg = picture("sixteen", &history);
     for label in ["16, bay 0", "31, bay 15", "32, bay 0"] {
         assert!(svg.contains(&format!(">{label}</text>")), "{label}");
@@ -194,7 +193,7 @@ fn first_lines(svg: &str) -> Vec<(f64, f64, String)> {
 fn equal_lines_stand_side_by_side_each_in_its_own_colour() {
     let bays: String = (0..16).map(|k| format!("bay {k} = unit\n")).collect();
     let file = made(bays.as_bytes(), false).expect("a recipe");
-    let history = history(&file, 5, Order::RoundRobin(0));
+    let history = history(&file, 5, Order::Runner(0));
     check(&history);
     let lines = first_lines(&picture("closed", &history));
     assert_eq!(lines.len(), 16);

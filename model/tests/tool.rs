@@ -217,7 +217,7 @@ fn progress_only_when_asked() {
     let words = ["run", "examples/recursion.recipe", "--turns", "20000"];
     assert_eq!(standard_error(&recipe(&words)), "");
     let asked = recipe(&["run", "examples/mutex.recipe", "--progress"]);
-    assert_eq!(standard_error(&asked), "40 turns\n");
+    assert_eq!(standard_error(&asked), "31 turns\n");
 }
 
 #[test]
@@ -234,4 +234,66 @@ fn the_picture_of_a_run() {
     recipe(&["run", "examples/waiting-for-ever.recipe", "--svg", &waiting]);
     let text = std::fs::read_to_string(&waiting).expect("a picture");
     assert!(text.contains("waits for name 2"), "{text}");
+}
+
+/// What stands between the turns and the vents.
+fn ending(words: &[&str]) -> String {
+    let output = recipe(words);
+    assert_eq!(output.status.code(), Some(0), "{}", standard_error(&output));
+    let text = standard_output(&output);
+    let (_, end) = text.split_once("\nStopped after ").expect("why it stopped");
+    let (end, _) = end.split_once("\n\nbay  vent").expect("the vents");
+    end.to_owned()
+}
+
+/// Why a run stopped, and whose the runner's answer is.
+#[test]
+fn a_run_says_why_it_stopped() {
+    let one_call = format!(
+        "One call of the runner, by {}, comes to the same: ",
+        model::tool::judge::NAME
+    );
+    let vent = "examples/one-vent.recipe";
+    let expected = format!(
+        "1 turn: no thread can go, each is done or waits.\n  done: thread 1\n{one_call}stop 1, 1 turn, buffer 1, length 20."
+    );
+    assert_eq!(ending(&["run", vent]), expected);
+    let expected = format!(
+        "1 turn: all turns are taken.\n  done: thread 1\n{one_call}stop 0, 1 turn, buffer 1, length 20."
+    );
+    assert_eq!(ending(&["run", vent, "--turns", "1"]), expected);
+    let expected = format!(
+        "0 turns: all turns are taken.\n  can go: thread 1\n{one_call}stop 0, 0 turns, buffer 0, length 26."
+    );
+    assert_eq!(ending(&["run", vent, "--turns", "0"]), expected);
+    let folder = Folder::new();
+    let cells = "bay 0 = (λf:unit →ω unit. f unit) (thread[((unit →ω unit) →ω unit →ω unit) →ω unit →ω unit] \
+                 (λf:unit →ω unit. λx:unit. (λy:num ref. f unit) (cell[num →ω num ref] 3)))";
+    folder.file("cells.txt", cells);
+    assert!(recipe(&["write", &folder.path("cells.txt")])
+        .status
+        .success());
+    let text = ending(&["run", &folder.path("cells.recipe"), "--turns", "3000"]);
+    assert!(
+        text.contains(": no thread can go, and one lacks room.\n"),
+        "{text}"
+    );
+    assert!(text.contains("refused: thread 1 (15: "), "{text}");
+    assert!(text.contains("stop 2, "), "{text}");
+}
+
+/// Other orders, and more turns than the runner takes, are of steps alone.
+#[test]
+fn the_runner_is_asked_in_its_own_order_and_up_to_65535_turns() {
+    let file = "examples/recursion.recipe";
+    let asked = |words: &[&str]| ending(words).contains("One call of the runner");
+    assert!(asked(&["run", file, "--turns", "65535"]));
+    assert!(!asked(&["run", file, "--turns", "65536"]));
+    assert!(!asked(&["run", file, "--seed", "7"]));
+    assert!(!asked(&["run", file, "--order", "1"]));
+    let text = ending(&["run", "examples/nine-bays.recipe", "--order", "9"]);
+    assert!(
+        text.contains(": no thread of the order can go.\n"),
+        "{text}"
+    );
 }

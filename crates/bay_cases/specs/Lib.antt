@@ -10,3 +10,5 @@ pub mod Pairs
 pub mod PairSteps
 -- document 02, T-03, sentence by sentence
 pub mod PairsAndLists
+-- document 02, T-04: rows of runs by the runner
+pub mod HouseRuns

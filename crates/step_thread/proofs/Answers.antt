@@ -1,11 +1,10 @@
 -- What a step answers and leaves, by what leads to each answer.
-use mathlib.Core.Path.{_∙_, _≡_, ap, refl, sym}
+use mathlib.Core.Path.{_∙_, _≡_, refl}
 use mathlib.Core.Bool.{false, true}
 use mathlib.Core.List.{List}
 use Prim.Native.Nat.{_<_, _≤_, ℕ}
 use native.Mathlib.Omega.{arith}
 use lib.ListN.{length}
-use Rattle.calculus.specs.Bytes.{Bytes}
 use Rattle.calculus.specs.Reduction.{number}
 use Rattle.calculus.specs.Limits.{max-image-length}
 use Rattle.calculus.specs.Image.{limits-test}

@@ -7,7 +7,7 @@ pub mod words;
 
 use crate::draw::Draw;
 use crate::examples;
-use crate::generate::{images, recipes};
+use crate::generate::{houses, images, recipes};
 use crate::tool::arguments::Form;
 use crate::tool::problem::{message, Outcome};
 use crate::tool::progress::Progress;
@@ -27,8 +27,10 @@ const SEED: u64 = 2_006;
 const COUNT: u64 = 20_000;
 /// The most seconds of one call.
 const LIMIT: u64 = 10;
-/// The most turns of one recipe.
+/// The most turns of one recipe, stepped one by one.
 const TURNS: usize = 40;
+/// After how many recipes the runners get a house.
+const HOUSE_EVERY: u64 = 50;
 
 pub fn command(words: &[OsString], out: &mut dyn Write) -> Outcome {
     let given = FORM.read(words)?;
@@ -64,8 +66,8 @@ pub fn command(words: &[OsString], out: &mut dyn Write) -> Outcome {
     }
 }
 
-/// The examples, then that many recipes: checked, loaded, the accepted ones run; and an image from
-/// outside for every second recipe.
+/// The examples, then that many recipes: checked, loaded, the accepted ones stepped, all handed to the
+/// runners; an image from outside for every second recipe; and houses for the runners.
 fn compare(
     pair: &mut Pair,
     seed: u64,
@@ -73,15 +75,22 @@ fn compare(
     progress: &mut Progress,
 ) -> Result<(), Box<Difference>> {
     let mut draw = Draw::new(seed);
+    let mut for_runner = Draw::new(!seed);
     let examples: Vec<Vec<u8>> = examples::all().iter().map(|e| e.file()).collect();
     for recipe in &examples {
         compare_recipe(pair, &mut draw, recipe)?;
+        compare_run(pair, &mut for_runner, recipe)?;
     }
     for number in 0..count {
         let recipe = recipes::file(&mut draw);
         compare_recipe(pair, &mut draw, &recipe)?;
+        compare_run(pair, &mut for_runner, &recipe)?;
         if number % 2 == 0 {
             compare_image(pair, &mut draw)?;
+        }
+        if number % HOUSE_EVERY == 0 {
+            let house = houses::house(&mut for_runner).write();
+            compare_run(pair, &mut for_runner, &house)?;
         }
         progress.say(|| format!("recipe {number} of {count}"));
     }
@@ -109,6 +118,12 @@ fn compare_recipe(pair: &mut Pair, draw: &mut Draw, recipe: &[u8]) -> Result<(),
         }
     }
     Ok(())
+}
+
+fn compare_run(pair: &mut Pair, draw: &mut Draw, recipe: &[u8]) -> Result<(), Box<Difference>> {
+    let turns = houses::turns(draw);
+    let rooms = [images::out_length(draw), images::out_length(draw)];
+    pair.run(recipe, turns, rooms)
 }
 
 fn compare_image(pair: &mut Pair, draw: &mut Draw) -> Result<(), Box<Difference>> {

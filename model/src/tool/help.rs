@@ -59,7 +59,8 @@ const RUN: &str = "\
 recipe run FILE [--turns N] [--seed S | --order 1,2,..] [--svg OUT [--force]] [--progress]
 
 Checks, loads and steps the recipe, and prints for each turn the thread, its answer and the
-settings, up to 1000 in tenths of a percent; at the end how the threads stand, and the vents.
+settings, up to 1000 in tenths of a percent; at the end why it stopped, how the threads stand, and
+the vents.
 
   --turns N       at most N turns (1000)
   --seed S        threads by chance, the same for the same S
@@ -68,15 +69,19 @@ settings, up to 1000 in tenths of a percent; at the end how the threads stand, a
   --force         writes over OUT
   --progress      tells on standard error how far it is; on a terminal it does so anyway
 
-Without --seed and --order the threads go in turn, lowest number first, those that are done left
-out. The run stops when no thread can move.
+Without --seed and --order the turns are those of the runner: the first thread that can go, going
+round by number from the one after the last; those that are done, wait or lack room are passed over
+and take no turn. Up to 65535 turns the runner itself is asked too, in one call, and its answer told.
+The run stops when all turns are taken, or when no thread can go: each is done or waits (idle), or
+one lacks room.
 ";
 
 const COMPARE: &str = "\
 recipe compare A B [--seed S] [--count N] [--limit SECONDS] [--progress]
 
 Opens two shared libraries that offer the C interface, gives both the same recipes, images and
-turns, and compares every answer and every byte of the out buffers. Says \"same\", or shows the
+turns, and compares every answer and every byte of the out buffers; of a run by the runner the last
+image, for the rest is free. Says \"same\", or shows the
 first difference in full, with the model's answer beside it; the exit status is then 1. So it is
 when a library is stopped, ends the program or gives no answer in time; library and input are told.
 

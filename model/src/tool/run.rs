@@ -1,4 +1,5 @@
-//! `recipe run`: checks, loads and steps a recipe, through the proved library where it is built in.
+//! `recipe run`: checks, loads and steps a recipe, through the proved library where it is built in; in
+//! the runner's order, the runner is asked too.
 
 pub mod history;
 pub mod image_view;
@@ -6,11 +7,11 @@ pub mod order;
 pub mod report;
 pub mod runner;
 
-use crate::answers::Implementation;
+use crate::answers::{Implementation, RanAnswer};
 use crate::limits;
 use crate::tool::arguments::{Arguments, Form};
 use crate::tool::files;
-use crate::tool::judge::{Judge, Refusal};
+use crate::tool::judge::{self, Judge, Refusal};
 use crate::tool::problem::{message, Outcome, Problem};
 use crate::tool::progress::Progress;
 use crate::tool::svg;
@@ -44,7 +45,8 @@ pub fn command(words: &[OsString], out: &mut dyn Write) -> Outcome {
     let turns = FORM.value(&given, "--turns")?.unwrap_or(TURNS);
     let order = order(&given)?;
     let path = &given.files[0];
-    let (bays, image) = load(path, &files::read(path)?)?;
+    let recipe = files::read(path)?;
+    let (bays, image) = load(path, &recipe)?;
     let picture = given.value("--svg").map(PathBuf::from);
     let force = given.has("--force");
     if let Some(to) = &picture {
@@ -57,7 +59,7 @@ pub fn command(words: &[OsString], out: &mut dyn Write) -> Outcome {
         path.display(),
         order.in_words()
     )?;
-    let history = run(out, (bays, image), turns, order, progress)?;
+    let history = run(out, &recipe, (bays, image), (turns, order), progress)?;
     if let Some(to) = picture {
         let drawn = svg::picture(&path.display().to_string(), &history);
         files::write(&to, force, drawn.as_bytes())?;
@@ -73,7 +75,7 @@ fn order(given: &Arguments) -> Result<Order, Problem> {
         (Some(seed), None) => Ok(Order::random(seed)),
         (None, Some(text)) => Order::list(text)
             .ok_or_else(|| FORM.wrong(&format!("--order takes numbers such as 1,2,1, not {text}"))),
-        (None, None) => Ok(Order::RoundRobin(0)),
+        (None, None) => Ok(Order::Runner(0)),
     }
 }
 
@@ -97,9 +99,9 @@ fn load(path: &Path, recipe: &[u8]) -> Result<(usize, Vec<u8>), Problem> {
 /// The turns, printed one by one; then the end.
 fn run(
     out: &mut dyn Write,
+    recipe: &[u8],
     (bays, image): (usize, Vec<u8>),
-    turns: u64,
-    order: Order,
+    (turns, mut order): (u64, Order),
     progress: Progress,
 ) -> Result<History, Problem> {
     let mut runner = Runner::new(&Judge, image);
@@ -108,40 +110,69 @@ fn run(
     writeln!(out, "{}", report::SIGNS)?;
     write!(out, "{}", report::heading(bays))?;
     write!(out, "{}", report::line(0, None, "loaded", &start))?;
-    let ending = take_turns(out, &mut runner, &mut history, (turns, order), progress)?;
+    let (runs, most) = (&mut runner, (turns, &mut order));
+    let ending = take_turns(out, runs, &mut history, most, progress)?;
     history.finish();
     let threads = ImageView(&runner.image).threads();
     let threads: Vec<_> = threads.iter().map(|t| (*t, runner.answer(*t))).collect();
     let last = ImageView(&runner.image).vents(bays);
     write!(out, "\n{}", report::ending(history.turns, ending, &threads))?;
+    if let (true, Ok(turns)) = (order.passes_over(), u16::try_from(turns)) {
+        let steps = (ending, history.turns, &runner.image[..]);
+        write!(
+            out,
+            "{}",
+            report::one_call(&one_call(recipe, turns, steps)?)
+        )?;
+    }
     write!(out, "\n{}", report::vents(&last))?;
     Ok(history)
 }
 
-/// Turn after turn, until no thread moves or there have been enough.
+/// Turn after turn, until no thread can go or there have been enough.
 fn take_turns<I: Implementation>(
     out: &mut dyn Write,
     runner: &mut Runner<I>,
     history: &mut History,
-    (turns, mut order): (u64, Order),
+    (turns, order): (u64, &mut Order),
     mut progress: Progress,
 ) -> Result<Ending, Problem> {
     let bays = history.vents.len();
-    for turn in 1..=turns {
-        let thread = match runner.next(&mut order) {
-            Ok(thread) => thread,
+    for number in 1..=turns {
+        let turn = runner.turn(order);
+        history.note(&turn, &runner.image);
+        let (thread, answer) = match turn.taken {
+            Ok(taken) => taken,
             Err(ending) => {
-                progress.end(&format!("{} turns", turn - 1));
+                progress.end(&format!("{} turns", number - 1));
                 return Ok(ending);
             }
         };
-        let answer = runner.turn(thread);
         let vents = ImageView(&runner.image).vents(bays);
-        history.note_turn(turn, thread, answer, &runner.image);
-        let line = report::line(turn, Some(thread), &answer.to_string(), &vents);
+        let line = report::line(number, Some(thread), &answer.to_string(), &vents);
         write!(out, "{line}")?;
-        progress.say(|| format!("turn {turn} of {turns}"));
+        progress.say(|| format!("turn {number} of {turns}"));
     }
     progress.end(&format!("{turns} turns"));
     Ok(Ending::Turns)
+}
+
+/// The answer of the runner itself, which must be what the steps came to.
+fn one_call(
+    recipe: &[u8],
+    turns: u16,
+    (ending, taken, image): (Ending, u64, &[u8]),
+) -> Result<RanAnswer, Problem> {
+    let mut buffers = [vec![0; limits::MAX_IMAGE], vec![0; limits::MAX_IMAGE]];
+    let [first, second] = &mut buffers;
+    let answer = Judge.run(recipe, turns, first, second).unwrap_or_default();
+    let last = buffers.get(answer.buffer as usize);
+    let last = last.and_then(|buffer| buffer.get(..answer.length as usize));
+    let told = (answer.refusal, Some(answer.stop), u64::from(answer.turns));
+    if told == (0, ending.stop(), taken) && last == Some(image) {
+        return Ok(answer);
+    }
+    let name = judge::NAME;
+    let text = format!("the runner and the steps of {name} differ: the runner answers {answer:?}");
+    Err(message(text))
 }

@@ -1,6 +1,6 @@
 //! A shared library that offers the C interface of `include/fikarehu.h`, opened while running.
 
-use crate::answers::{Implementation, LoadedAnswer, SteppedAnswer, VerdictAnswer};
+use crate::answers::{Implementation, LoadedAnswer, RanAnswer, SteppedAnswer, VerdictAnswer};
 use crate::tool::problem::{message, Problem};
 use std::ffi::{CStr, CString};
 use std::os::raw::{c_char, c_int, c_void};
@@ -10,6 +10,7 @@ use std::path::Path;
 type Check = unsafe extern "C" fn(*const u8, usize) -> VerdictAnswer;
 type Load = unsafe extern "C" fn(*const u8, usize, *mut u8, usize) -> LoadedAnswer;
 type Step = unsafe extern "C" fn(*const u8, usize, u64, *mut u8, usize) -> SteppedAnswer;
+type Run = unsafe extern "C" fn(*const u8, usize, u16, *mut u8, usize, *mut u8, usize) -> RanAnswer;
 
 extern "C" {
     fn dlopen(file: *const c_char, flags: c_int) -> *mut c_void;
@@ -25,6 +26,7 @@ pub struct SharedLibrary {
     check: Check,
     load: Option<Load>,
     step: Option<Step>,
+    run: Option<Run>,
 }
 
 impl SharedLibrary {
@@ -48,6 +50,8 @@ impl SharedLibrary {
                     .map(|found| std::mem::transmute::<*mut c_void, Load>(found)),
                 step: symbol(library, "fikarehu_step")
                     .map(|found| std::mem::transmute::<*mut c_void, Step>(found)),
+                run: symbol(library, "fikarehu_run")
+                    .map(|found| std::mem::transmute::<*mut c_void, Run>(found)),
             })
         }
     }
@@ -60,6 +64,10 @@ impl SharedLibrary {
 
     pub fn has_step(&self) -> bool {
         self.step.is_some()
+    }
+
+    pub fn has_run(&self) -> bool {
+        self.run.is_some()
     }
 }
 
@@ -99,5 +107,29 @@ impl Implementation for SharedLibrary {
         let room = out.len();
         // SAFETY: two slices that are lent meanwhile, the second alone.
         Some(unsafe { step(image.as_ptr(), image.len(), thread, out.as_mut_ptr(), room) })
+    }
+
+    fn run(
+        &self,
+        recipe: &[u8],
+        turns: u16,
+        first: &mut [u8],
+        second: &mut [u8],
+    ) -> Option<RanAnswer> {
+        let run = self.run?;
+        let (start, rooms) = (recipe.as_ptr(), [first.len(), second.len()]);
+        let (first, second) = (first.as_mut_ptr(), second.as_mut_ptr());
+        // SAFETY: three slices that are lent meanwhile, the buffers each alone.
+        Some(unsafe {
+            run(
+                start,
+                recipe.len(),
+                turns,
+                first,
+                rooms[0],
+                second,
+                rooms[1],
+            )
+        })
     }
 }

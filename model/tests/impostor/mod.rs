@@ -1,7 +1,9 @@
 //! Implementations that are wrong in one thing, put together from the model's.
 #![allow(dead_code)]
 
-use model::answers::{Implementation, LoadedAnswer, Model, SteppedAnswer, VerdictAnswer, REFUSED};
+use model::answers::{
+    Implementation, LoadedAnswer, Model, RanAnswer, SteppedAnswer, VerdictAnswer, REFUSED,
+};
 use model::causes;
 use model::command::on_deep_stack;
 use model::comparison::Comparison;
@@ -9,12 +11,14 @@ use model::comparison::Comparison;
 pub type Check = fn(&[u8]) -> VerdictAnswer;
 pub type Load = fn(&[u8], &mut [u8]) -> LoadedAnswer;
 pub type Step = fn(&[u8], u64, &mut [u8]) -> SteppedAnswer;
+pub type Run = fn(&[u8], u16, &mut [u8], &mut [u8]) -> RanAnswer;
 
-/// An implementation put together from three functions.
+/// An implementation put together from four functions.
 pub struct Impostor {
     pub check: Check,
     pub load: Load,
     pub step: Step,
+    pub run: Run,
 }
 
 impl Implementation for Impostor {
@@ -28,6 +32,16 @@ impl Implementation for Impostor {
 
     fn step(&self, image: &[u8], thread: u64, out: &mut [u8]) -> Option<SteppedAnswer> {
         Some((self.step)(image, thread, out))
+    }
+
+    fn run(
+        &self,
+        recipe: &[u8],
+        turns: u16,
+        first: &mut [u8],
+        second: &mut [u8],
+    ) -> Option<RanAnswer> {
+        Some((self.run)(recipe, turns, first, second))
     }
 }
 
@@ -43,6 +57,11 @@ pub fn step(image: &[u8], thread: u64, out: &mut [u8]) -> SteppedAnswer {
     Model.step(image, thread, out).unwrap_or_default()
 }
 
+pub fn run(recipe: &[u8], turns: u16, first: &mut [u8], second: &mut [u8]) -> RanAnswer {
+    let answer = Model.run(recipe, turns, first, second);
+    answer.unwrap_or_default()
+}
+
 /// "image breaks a rule or limit"
 pub const BROKEN: SteppedAnswer = SteppedAnswer {
     outcome: REFUSED,
@@ -50,7 +69,12 @@ pub const BROKEN: SteppedAnswer = SteppedAnswer {
     length: 0,
 };
 
-pub const HONEST: Impostor = Impostor { check, load, step };
+pub const HONEST: Impostor = Impostor {
+    check,
+    load,
+    step,
+    run,
+};
 
 /// Honest but for one call.
 pub fn with_check(check: Check) -> Impostor {
@@ -63,6 +87,10 @@ pub fn with_load(load: Load) -> Impostor {
 
 pub fn with_step(step: Step) -> Impostor {
     Impostor { step, ..HONEST }
+}
+
+pub fn with_run(run: Run) -> Impostor {
+    Impostor { run, ..HONEST }
 }
 
 pub fn is_found(impostor: &Impostor) -> bool {

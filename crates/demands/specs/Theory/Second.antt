@@ -189,7 +189,7 @@ module _ (s : List ℕ) (b : Bytes s) (x : ℕ) (out : List ℕ) where
 
 -- each answer of the calculus, from how it is told
 module _ (C : Config) (x : ℕ) where
-  abbrev told-of : Answer → Outcome
+  abbrev pub told-of : Answer → Outcome
   told-of a = outcome-of-reply (reply-of within-limits a)
 
   within : {C′ : Config} → limits-test C′ ≡ true → WithinLimits C′
@@ -205,7 +205,7 @@ module _ (C : Config) (x : ℕ) where
     λ (r, C′, m, w, k-is, size-is). rw (rule-iff C C′ x r .1 m, limits-test-iff C′ .1 w, k-is, size-is) refl,
   )
 
-  room-iff : (told-of (step-of C x) ≡ Refused room-cause) ↔ LacksRoom x C
+  pub room-iff : (told-of (step-of C x) ≡ Refused room-cause) ↔ LacksRoom x C
   unfolding outcome-of-reply reply-of limits-test
   room-iff = (
     λ e. there (step-of C x) refl (rw e at (tells (step-of C x))),

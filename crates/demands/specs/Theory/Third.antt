@@ -21,10 +21,10 @@ use Rattle.calculus.specs.Theory.Claim.{demand, images}
 use Rattle.recipe_table.specs.Entries.{type-table}
 use Rattle.check_spec.specs.Bays.{bay-terms}
 use Rattle.check_spec.specs.Verdict.{accepted, refusal}
-use Rattle.check_spec.specs.Recipe.{Recipe}
-use Rattle.check_spec.specs.Theory.Accepted.{accepted-exactly, admitted, table-is, terms-are}
+use Rattle.check_spec.specs.Theory.Accepted.{admitted}
 use Rattle.load_spec.specs.Starting.{starting-image}
 use Rattle.load_spec.specs.Loading.{loaded-of, out-after-load}
+use Rattle.load_spec.specs.Theory.Image.{says}
 use Rattle.load_spec.specs.Theory.Answers.{long as long-enough}
 use Rattle.image.specs.Configuration.{image-of, config-of}
 use Rattle.image.specs.Theory.Exactly.{read-again}
@@ -107,16 +107,13 @@ module _ (τ : TypeNumbers) (s : State) (kept : AllKept τ s) (claim : (run : Li
 
 -- document 01's third demand
 module _ (file : List ℕ) (b : Bytes file) (accepted : refusal file ≡ 0) where
-  says : Recipe file (type-table file) (bay-terms file)
-  says = let (T, es, r) = accepted-exactly file b .0 accepted in rw (table-is r, terms-are r) r
-
-  all-kept : AllKept (type-at (type-table file)) (start (type-table file) (bay-terms file))
+  pub all-kept : AllKept (type-at (type-table file)) (start (type-table file) (bay-terms file))
   all-kept run i n h =
-      let ((k, w), (k′, w′)) = images (admitted says) run i n h in
+      let ((k, w), (k′, w′)) = images (admitted (says file b accepted)) run i n h in
       (record { keeps = k; writable = w }, record { keeps = k′; writable = w′ })
 
   -- the load leaves the starting image in the first bytes, as many as it answers
-  loaded-is : (out : List ℕ) → max-image-length ≤ length out → image-loaded file out ≡ starting-image file
+  pub loaded-is : (out : List ℕ) → max-image-length ≤ length out → image-loaded file out ≡ starting-image file
   unfolding loaded-of out-after-load
   loaded-is out long = rw (long-enough file (length out) long, accepted) (take-append-seam (starting-image file) (drop (length (starting-image file)) out))
 

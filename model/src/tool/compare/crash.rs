@@ -83,8 +83,11 @@ impl Lent {
 static UNDER_WAY: AtomicU64 = AtomicU64::new(0);
 static PATHS: [Lent; 2] = [Lent::none(), Lent::none()];
 static LIBRARY: AtomicUsize = AtomicUsize::new(0);
-static THREAD: AtomicU64 = AtomicU64::new(0);
+/// The thread of a step, or the turns of a run.
+static NUMBER: AtomicU64 = AtomicU64::new(0);
+/// The lengths of the out buffers, the second one's with 1 more, and 0 where there is none.
 static ROOM: AtomicUsize = AtomicUsize::new(0);
+static SECOND: AtomicUsize = AtomicUsize::new(0);
 static CALL: Lent = Lent::none();
 static INPUT: Lent = Lent::none();
 
@@ -137,8 +140,15 @@ fn watch_signals() {
 pub fn note_call(call: &'static str, input: &[u8], thread: u64, room: usize) {
     CALL.set(call.as_bytes());
     INPUT.set(input);
-    THREAD.store(thread, Ordering::SeqCst);
+    NUMBER.store(thread, Ordering::SeqCst);
     ROOM.store(room, Ordering::SeqCst);
+    SECOND.store(0, Ordering::SeqCst);
+}
+
+/// The same of a run: the recipe, the turns and the room of both buffers.
+pub fn note_run(recipe: &[u8], turns: u16, rooms: [usize; 2]) {
+    note_call("run", recipe, u64::from(turns), rooms[0]);
+    SECOND.store(rooms[1] + 1, Ordering::SeqCst);
 }
 
 /// Which library is called now: 0 for A, 1 for B.
@@ -183,10 +193,15 @@ fn say_library() {
 fn tell_call() -> ! {
     say(" in ");
     CALL.say();
-    say(" (thread ");
-    say_number(THREAD.load(Ordering::SeqCst));
+    let second = SECOND.load(Ordering::SeqCst);
+    say(if second == 0 { " (thread " } else { " (turns " });
+    say_number(NUMBER.load(Ordering::SeqCst));
     say(", out buffer of ");
     say_number(ROOM.load(Ordering::SeqCst) as u64);
+    if second != 0 {
+        say(" and of ");
+        say_number(second as u64 - 1);
+    }
     say(" bytes)\n");
     INPUT.tell("given: ");
     // SAFETY: ends the program without more ado.

@@ -1,7 +1,7 @@
 //! Two implementations called with the same input; every answer and every byte of the out buffers
 //! compared. Inputs and buffers end where a page begins that traps.
 
-use crate::answers::{Implementation, Model, RULE};
+use crate::answers::{Implementation, Model, RanAnswer, RULE};
 use crate::comparison::Counts;
 use crate::guard::Guarded;
 use crate::limits;
@@ -30,6 +30,7 @@ pub struct Pair {
     b: SharedLibrary,
     input: Guarded,
     outs: [Guarded; 2],
+    seconds: [Guarded; 2],
     pub counts: Counts,
 }
 
@@ -40,6 +41,7 @@ impl Pair {
             b,
             input: Guarded::new(INPUT_ROOM),
             outs: [Guarded::new(OUT_ROOM), Guarded::new(OUT_ROOM)],
+            seconds: [Guarded::new(OUT_ROOM), Guarded::new(OUT_ROOM)],
             counts: Counts::default(),
         }
     }
@@ -53,6 +55,9 @@ impl Pair {
             }
             if !library.has_step() {
                 missing.push(format!("{name} has no fikarehu_step"));
+            }
+            if !library.has_run() {
+                missing.push(format!("{name} has no fikarehu_run"));
             }
         }
         missing
@@ -138,6 +143,63 @@ impl Pair {
             outs: [out_a.to_vec(), out_b.to_vec(), out],
         }))
     }
+}
+
+impl Pair {
+    /// The runner: the same answer and the same last image; on a refusal, all bytes of both buffers.
+    pub fn run(
+        &mut self,
+        recipe: &[u8],
+        turns: u16,
+        rooms: [usize; 2],
+    ) -> Result<(), Box<Difference>> {
+        let placed = self.input.place(recipe);
+        let [first_a, first_b] = &mut self.outs;
+        let [second_a, second_b] = &mut self.seconds;
+        let a = [patterned(first_a, rooms[0]), patterned(second_a, rooms[1])];
+        let b = [patterned(first_b, rooms[0]), patterned(second_b, rooms[1])];
+        crash::note_run(placed, turns, rooms);
+        let [first_a, second_a] = a;
+        let [first_b, second_b] = b;
+        let found = both(
+            || self.a.run(placed, turns, first_a, second_a),
+            || self.b.run(placed, turns, first_b, second_b),
+        );
+        let (a, b) = match found {
+            (Some(a), Some(b)) => (a, b),
+            _ => return Ok(()),
+        };
+        self.counts.note_run(&a);
+        let out_a = told(&a, [first_a, second_a]);
+        let out_b = told(&b, [first_b, second_b]);
+        if a == b && out_a == out_b {
+            return Ok(());
+        }
+        let mut outs = rooms.map(pattern);
+        let [first, second] = &mut outs;
+        let model = Model.run(recipe, turns, first, second).unwrap_or_default();
+        let out = told(&model, [&outs[0], &outs[1]]);
+        Err(Box::new(Difference {
+            call: format!(
+                "run of {turns} turns between {} and {} bytes",
+                rooms[0], rooms[1]
+            ),
+            recipe: Some(recipe.to_vec()),
+            image: None,
+            answers: texts(a, b, model),
+            outs: [out_a, out_b, out],
+        }))
+    }
+}
+
+/// What a run tells by its buffers: the last image, or after a refusal every byte. The rest is free.
+fn told(answer: &RanAnswer, outs: [&[u8]; 2]) -> Vec<u8> {
+    if answer.refusal != 0 {
+        return outs.concat();
+    }
+    let out = outs.get(answer.buffer as usize);
+    let image = out.and_then(|out| written(out, answer.length));
+    image.unwrap_or_default()
 }
 
 /// A's answer and B's, with a note of who is asked.

@@ -20,7 +20,7 @@ pub fn in_full(difference: &Difference) -> String {
         let bytes: Vec<String> = names
             .iter()
             .zip(&difference.outs)
-            .map(|(name, out)| format!("{name} has {:02X}", out[at]))
+            .filter_map(|(name, out)| Some(format!("{name} has {:02X}", out.get(at)?)))
             .collect();
         let _ = writeln!(
             text,

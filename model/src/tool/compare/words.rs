@@ -1,6 +1,9 @@
 //! Answers in words. Fields that an honest answer leaves at 0 are told where they are not.
 
-use crate::answers::{LoadedAnswer, SteppedAnswer, VerdictAnswer, DONE, REFUSED, RULE, WAITING};
+use crate::answers::{
+    LoadedAnswer, RanAnswer, SteppedAnswer, VerdictAnswer, DONE, IDLE, REFUSED, ROOM, RULE, TURNS,
+    WAITING,
+};
 use crate::limits::MAX_BAYS;
 use crate::tool::refusals;
 
@@ -37,6 +40,28 @@ impl InWords for SteppedAnswer {
             format!(", number {number}")
         };
         first + &extra + &image(self.length, self.outcome == RULE)
+    }
+}
+
+impl InWords for RanAnswer {
+    fn in_words(&self) -> String {
+        let stop = match self.stop {
+            TURNS => "all turns are taken",
+            IDLE => "idle",
+            ROOM => "lack of room",
+            _ => "a stop that there is not",
+        };
+        let run = format!(
+            "stop {} ({stop}), turns {}, buffer {}, image of {} bytes",
+            self.stop, self.turns, self.buffer, self.length
+        );
+        if self.refusal == 0 {
+            return run;
+        }
+        if *self == RanAnswer::refused(self.refusal) {
+            return refused(self.refusal);
+        }
+        format!("{}, {run}", refused(self.refusal))
     }
 }
 

@@ -2,7 +2,7 @@
 
 use crate::rules::{HANDLE_BIND, THREAD_NEW};
 use crate::tool::run::image_view::{ImageView, Vent};
-use crate::tool::run::runner::Answer;
+use crate::tool::run::runner::{Answer, Turn};
 use std::collections::BTreeMap;
 
 /// A stretch of turns in which a thread gave the same kind of answer.
@@ -51,8 +51,36 @@ impl History {
         history
     }
 
+    /// A turn, or that there is none, and the image after it.
+    pub fn note(&mut self, turn: &Turn, image: &[u8]) {
+        match turn.taken {
+            Ok((thread, answer)) => {
+                let number = self.turns + 1;
+                for (passed, answer) in &turn.passed {
+                    self.note_answer(number, *passed, *answer);
+                }
+                self.note_turn(number, thread, answer, image);
+            }
+            Err(_) => {
+                for (passed, answer) in &turn.passed {
+                    self.note_standing(*passed, *answer);
+                }
+            }
+        }
+    }
+
+    /// What a thread answers after the last turn: it stood so in that turn already, unless it moved.
+    fn note_standing(&mut self, thread: u64, answer: Answer) {
+        let spans = self.threads.get(&thread);
+        let moved = spans
+            .and_then(|spans| spans.last())
+            .map_or(0, |last| last.to);
+        let from = self.turns + u64::from(moved > self.turns);
+        self.note_answer(from, thread, answer);
+    }
+
     /// A turn of that thread, and the image after it.
-    pub fn note_turn(&mut self, turn: u64, thread: u64, answer: Answer, image: &[u8]) {
+    fn note_turn(&mut self, turn: u64, thread: u64, answer: Answer, image: &[u8]) {
         self.note_vents(turn, &ImageView(image).vents(self.vents.len()));
         self.note_answer(turn, thread, answer);
         let makes = |rule: u32| MAKE_THREADS.iter().any(|made| u32::from(*made) == rule);

@@ -3,8 +3,8 @@
 use crate::draw::Draw;
 
 pub enum Order {
-    /// The lowest number from here on, then from the beginning again.
-    RoundRobin(u64),
+    /// The runner's: round by number, from here on.
+    Runner(u64),
     Random(u64, Draw),
     /// A list over and over, and the place in it.
     List(Vec<u64>, usize),
@@ -22,21 +22,34 @@ impl Order {
         Some(Order::List(numbers?, 0))
     }
 
-    /// The next thread, of those that are not done where the order does not say.
-    pub fn next(&mut self, open: &[u64]) -> Option<u64> {
+    /// The threads that may have the next turn, of those that are not done where the order does not
+    /// say: one, or in the runner's order each, one after the other until one goes.
+    pub fn next(&mut self, open: &[u64]) -> Vec<u64> {
         match self {
-            Order::RoundRobin(from) => {
-                let later = open.iter().find(|thread| **thread >= *from);
-                let chosen = *later.or_else(|| open.first())?;
-                *from = chosen + 1;
-                Some(chosen)
+            Order::Runner(from) => {
+                let (before, after): (Vec<u64>, Vec<u64>) =
+                    open.iter().partition(|thread| **thread < *from);
+                [after, before].concat()
             }
-            Order::Random(_, draw) => (!open.is_empty()).then(|| draw.pick(open)),
+            Order::Random(_, draw) if !open.is_empty() => vec![draw.pick(open)],
+            Order::Random(..) => Vec::new(),
             Order::List(list, at) => {
                 let chosen = list[*at];
                 *at = (*at + 1) % list.len();
-                Some(chosen)
+                vec![chosen]
             }
+        }
+    }
+
+    /// Whether a thread that cannot go is passed over, without a turn.
+    pub fn passes_over(&self) -> bool {
+        matches!(self, Order::Runner(_))
+    }
+
+    /// A rule has moved that thread.
+    pub fn note(&mut self, moved: u64) {
+        if let Order::Runner(from) = self {
+            *from = moved + 1;
         }
     }
 
@@ -50,7 +63,7 @@ impl Order {
 
     pub fn in_words(&self) -> String {
         match self {
-            Order::RoundRobin(_) => "round robin".to_owned(),
+            Order::Runner(_) => "in the runner's order".to_owned(),
             Order::Random(seed, _) => format!("random threads, seed {seed}"),
             Order::List(list, _) => {
                 let list: Vec<String> = list.iter().map(u64::to_string).collect();

@@ -1,5 +1,7 @@
 //! A run as lines of text.
 
+use crate::answers::RanAnswer;
+use crate::tool::judge;
 use crate::tool::refusals;
 use crate::tool::run::image_view::Vent;
 use crate::tool::run::runner::{Answer, Ending};
@@ -40,18 +42,14 @@ pub fn line(turn: u64, thread: Option<u64>, answer: &str, vents: &[Vent]) -> Str
 
 /// Why the run ended, and how each thread stands.
 pub fn ending(turns: u64, ending: Ending, threads: &[(u64, Answer)]) -> String {
-    let turns = match turns {
-        1 => "1 turn".to_owned(),
-        _ => format!("{turns} turns"),
+    let why = match ending {
+        Ending::Turns => "all turns are taken",
+        Ending::Idle => "no thread can go, each is done or waits",
+        Ending::Room => "no thread can go, and one lacks room",
+        Ending::NoThreadOfTheOrder => "no thread of the order can go",
     };
-    let mut text = match ending {
-        Ending::NoThreadMoves => format!("After {turns} no thread can move.\n"),
-        Ending::NoThreadOfTheOrderMoves => {
-            format!("After {turns} no thread of the order can move.\n")
-        }
-        Ending::Turns => format!("Stopped after {turns}.\n"),
-    };
-    for group in ["can move", "waiting", "refused", "done"] {
+    let mut text = format!("Stopped after {}: {why}.\n", counted(turns));
+    for group in ["can go", "waiting", "refused", "done"] {
         let told = threads.iter().filter_map(|(thread, answer)| {
             let (own, more) = standing(*answer);
             (own == group).then(|| format!("{thread}{more}"))
@@ -64,10 +62,26 @@ pub fn ending(turns: u64, ending: Ending, threads: &[(u64, Answer)]) -> String {
     text
 }
 
+fn counted(turns: u64) -> String {
+    match turns {
+        1 => "1 turn".to_owned(),
+        _ => format!("{turns} turns"),
+    }
+}
+
+/// The runner's own answer, which is what the turns came to.
+pub fn one_call(answer: &RanAnswer) -> String {
+    let (turns, name) = (counted(u64::from(answer.turns)), judge::NAME);
+    let (stop, buffer, length) = (answer.stop, answer.buffer, answer.length);
+    format!(
+        "One call of the runner, by {name}, comes to the same: stop {stop}, {turns}, buffer {buffer}, length {length}.\n"
+    )
+}
+
 /// How a thread stands, by what it would answer now, and more about it.
 fn standing(answer: Answer) -> (&'static str, String) {
     match answer {
-        Answer::Rule(_) => ("can move", String::new()),
+        Answer::Rule(_) => ("can go", String::new()),
         Answer::Waiting(name) => ("waiting", format!(" (for name {name})")),
         Answer::Refused(number) => {
             let words = refusals::in_words(number);

@@ -1,6 +1,7 @@
 //! A run, one turn at a time, and when it has come to its end.
 
-use crate::answers::{Implementation, SteppedAnswer, DONE, RULE, WAITING};
+use crate::answers::{Implementation, SteppedAnswer, DONE, IDLE, ROOM, RULE, TURNS, WAITING};
+use crate::causes;
 use crate::limits;
 use crate::tool::refusals;
 use crate::tool::run::image_view::ImageView;
@@ -42,9 +43,43 @@ impl fmt::Display for Answer {
 /// Why a run ends.
 #[derive(Debug, Clone, Copy, PartialEq, Eq)]
 pub enum Ending {
-    NoThreadMoves,
-    NoThreadOfTheOrderMoves,
+    /// All turns are taken.
     Turns,
+    /// No thread can go: each is done or waits.
+    Idle,
+    /// No thread can go, and one lacks room.
+    Room,
+    /// Another thread than those of the order could go.
+    NoThreadOfTheOrder,
+}
+
+impl Ending {
+    /// The end of a run in which every thread answers so, and none goes.
+    fn of(answers: impl IntoIterator<Item = Answer>) -> Ending {
+        let mut answers = answers.into_iter();
+        if answers.any(|answer| answer == Answer::Refused(causes::ROOM)) {
+            Ending::Room
+        } else {
+            Ending::Idle
+        }
+    }
+
+    /// The number that the runner has for it, if it has one.
+    pub fn stop(self) -> Option<u32> {
+        match self {
+            Ending::Turns => Some(TURNS),
+            Ending::Idle => Some(IDLE),
+            Ending::Room => Some(ROOM),
+            Ending::NoThreadOfTheOrder => None,
+        }
+    }
+}
+
+/// A turn, or why there is none.
+pub struct Turn {
+    /// The threads that were passed over before it, and what they answered.
+    pub passed: Vec<(u64, Answer)>,
+    pub taken: Result<(u64, Answer), Ending>,
 }
 
 pub struct Runner<'a, I: Implementation> {
@@ -75,22 +110,44 @@ impl<'a, I: Implementation> Runner<'a, I> {
         threads
     }
 
-    /// The next thread; or why there is none, for nothing changes until a rule does it.
-    pub fn next(&self, order: &mut Order) -> Result<u64, Ending> {
+    /// The next turn by that order.
+    pub fn turn(&mut self, order: &mut Order) -> Turn {
         let open = self.open();
-        let mut chosen = order.chosen(&open).iter();
-        if !chosen.all(|thread| self.idle.contains(thread)) {
-            return order.next(&open).ok_or(Ending::NoThreadMoves);
+        let mut passed = Vec::new();
+        if let Some(ending) = self.ending(order, &open) {
+            let taken = Err(ending);
+            return Turn { passed, taken };
         }
-        let all = open.iter().all(|thread| self.answer(*thread).is_idle());
-        Err(if all {
-            Ending::NoThreadMoves
+        for thread in order.next(&open) {
+            let answer = self.step(thread);
+            if answer.is_idle() && order.passes_over() {
+                passed.push((thread, answer));
+                continue;
+            }
+            order.note(thread);
+            let taken = Ok((thread, answer));
+            return Turn { passed, taken };
+        }
+        let taken = Err(Ending::of(passed.iter().map(|(_, answer)| *answer)));
+        Turn { passed, taken }
+    }
+
+    /// Why there is no next turn, if every thread that the order chooses has answered that it cannot
+    /// go; for nothing changes until a rule does it.
+    fn ending(&self, order: &Order, open: &[u64]) -> Option<Ending> {
+        let mut chosen = order.chosen(open).iter();
+        if order.passes_over() || !chosen.all(|thread| self.idle.contains(thread)) {
+            return None;
+        }
+        let answers: Vec<Answer> = open.iter().map(|thread| self.answer(*thread)).collect();
+        Some(if answers.iter().all(|answer| answer.is_idle()) {
+            Ending::of(answers)
         } else {
-            Ending::NoThreadOfTheOrderMoves
+            Ending::NoThreadOfTheOrder
         })
     }
 
-    pub fn turn(&mut self, thread: u64) -> Answer {
+    fn step(&mut self, thread: u64) -> Answer {
         let stepped = self.implementation.step(&self.image, thread, &mut self.out);
         let stepped = stepped.unwrap_or_default();
         let answer = Answer::of(&stepped);

@@ -14,8 +14,9 @@ const MOVING: &str = "#a6cbe3";
 const WAITING: &str = "#ffd27f";
 const REFUSED: &str = "#f4a6a0";
 const DONE: &str = "#e4e4e4";
-/// The least width of a refusal, which may come in the last of many turns.
-const LEAST_REFUSED: f64 = 6.0;
+/// The least width of a refusal, which may come in the last of many turns, and of how a thread stands
+/// after its move in the last one.
+const LEAST: f64 = 6.0;
 /// Refusals that end this near to the last one drawn are left out.
 const NEAR: f64 = 1.0;
 /// How many rules Fig. 5 has.
@@ -69,15 +70,18 @@ fn draw_spans(sheet: &mut Sheet, y: f64, scale: &Scale, thread: u64, spans: &[Sp
     for (place, span) in spans.iter().enumerate() {
         let (mut from, to) = (scale.x(span.from), scale.x(span.to));
         let is_refusal = matches!(span.state, State::Refused(_));
-        let is_last_refusal = is_refusal && place + 1 == spans.len();
-        let shown = is_last_refusal || is_refusal && to - refused >= NEAR;
+        let is_last = place + 1 == spans.len();
+        let is_at_end = is_last && span.from == span.to;
+        let shown = is_at_end || is_refusal && (is_last || to - refused >= NEAR);
         if to - drawn < 0.1 && !shown {
             continue;
         }
         drawn = to;
         if is_refusal {
             refused = to;
-            from = from.min(to - LEAST_REFUSED).max(scale.left);
+        }
+        if is_refusal || is_at_end {
+            from = from.min(to - LEAST).max(scale.left);
         }
         draw_span(sheet, (from, to, y), thread, span);
     }
@@ -90,8 +94,11 @@ fn draw_span(sheet: &mut Sheet, (from, to, y): (f64, f64, f64), thread: u64, spa
         State::Waiting(name) => (WAITING, format!("waits for name {name}")),
         State::Refused(number) => (REFUSED, format!("refused {number}")),
     };
-    let last = span.to - 1;
-    let words = format!("thread {thread} {words}, turns {} to {last}", span.from);
+    let when = match span.to.checked_sub(1) {
+        Some(last) if last >= span.from => format!("turns {} to {last}", span.from),
+        _ => "after the last turn".to_owned(),
+    };
+    let words = format!("thread {thread} {words}, {when}");
     sheet.bar((from, y), (to - from, BAR), fill, &words);
     let label = fitting(span.state, to - from);
     if !label.is_empty() {

@@ -1,0 +1,4 @@
+-- a run on its way
+pub mod Underway
+-- the whole run
+pub mod Whole
