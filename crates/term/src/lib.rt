@@ -28,20 +28,30 @@ impl Form {
     pub const TO_NAME: u8 = 3;
 
     // A form in one byte: the operand's bytes, and how much a subterm, a binder and what is referred to weigh. Each column is below `COLUMN`.
-    const COLUMN: u8 = 4;
+    const COLUMN: u64 = 4;
 
-    const SUBTERM: u8 = Form::COLUMN;
+    const SUBTERM: u64 = Form::COLUMN;
 
-    const BINDER: u8 = Form::SUBTERM * Form::COLUMN;
+    const BINDER: u64 = Form::SUBTERM * Form::COLUMN;
 
-    const REFERS: u8 = Form::BINDER * Form::COLUMN;
+    const REFERS: u64 = Form::BINDER * Form::COLUMN;
 
     // One byte after the tag, a number of a variable, of a type, a name.
-    const VARIABLE_BYTE: u8 = 1 + Form::REFERS * Form::TO_VARIABLE;
+    const VARIABLE_BYTE: u64 = 1 + Form::REFERS * (Form::TO_VARIABLE as u64);
 
-    const TYPE_BYTE: u8 = 1 + Form::REFERS * Form::TO_TYPE;
+    const TYPE_BYTE: u64 = 1 + Form::REFERS * (Form::TO_TYPE as u64);
 
-    const NAME_BYTE: u8 = 1 + Form::REFERS * Form::TO_NAME;
+    const NAME_BYTE: u64 = 1 + Form::REFERS * (Form::TO_NAME as u64);
+
+    // Two subterms.
+    const TWO: u64 = 2 * Form::SUBTERM;
+
+    // Eight forms in one number, the first in its lowest byte: how many, and how many bits and values each has.
+    const IN_ONE: u8 = 8;
+
+    const BITS: u8 = 8;
+
+    const VALUES: u64 = 1 << Form::BITS;
 }
 
 // A node without its subterms: its tag, the number after the tag, the bytes that the two take, how many subterms follow, how many more variables the last of
@@ -96,35 +106,36 @@ pub enum Front {
     Bad,
 }
 
-// Document 01's and T-03's table of node forms, in the order of the tags. An entry is one byte, since a constant table is laid out anew at each use: as a table of
-// structs that takes longer than all else of reading a node.
-pub const FORMS: [u8; Node::TAGS as usize] = [
-    Form::VARIABLE_BYTE, // variable
-    Form::TYPE_BYTE + Form::SUBTERM + Form::BINDER, // lambda
-    2 * Form::SUBTERM, // application
-    0, // unit
-    2, // num
-    Form::TYPE_BYTE, // cell
-    Form::TYPE_BYTE, // exch
-    Form::TYPE_BYTE, // thread
-    Form::TYPE_BYTE, // handle
-    Form::NAME_BYTE, // name
-    Form::TYPE_BYTE + 2 * Form::SUBTERM, // pair
-    Form::TYPE_BYTE + 2 * Form::SUBTERM, // list front
-    2 * Form::SUBTERM + 2 * Form::BINDER, // a pair taken apart
-    2 * Form::SUBTERM + 2 * Form::BINDER, // a list taken apart
+// Document 01's and T-03's table of node forms, in the order of the tags, eight to an entry. A constant table is laid out anew at each use: of structs that takes longer than
+// all else of reading a node, and of single bytes, which are laid out in larger pieces, it is long until one can be read. So an entry is read as it is laid out.
+pub const FORMS: [u64; 2] = [
+    Form::VARIABLE_BYTE // variable
+        + ((Form::TYPE_BYTE + Form::SUBTERM + Form::BINDER) << 8) // lambda
+        + (Form::TWO << 16) // application
+        + (0 << 24) // unit
+        + (2 << 32) // num
+        + (Form::TYPE_BYTE << 40) // cell
+        + (Form::TYPE_BYTE << 48) // exch
+        + (Form::TYPE_BYTE << 56), // thread
+    Form::TYPE_BYTE // handle
+        + (Form::NAME_BYTE << 8) // name
+        + ((Form::TYPE_BYTE + Form::TWO) << 16) // pair
+        + ((Form::TYPE_BYTE + Form::TWO) << 24) // list front
+        + ((Form::TWO + 2 * Form::BINDER) << 32) // a pair taken apart
+        + ((Form::TWO + 2 * Form::BINDER) << 40), // a list taken apart
 ];
 
 pub fn form_of(tag: u8) -> Form
     requires { ⌜ tag < tags ⌝ }
     ensures { λ r. ⌜ r ≡ form-of tag ⌝ }
 {
-    let form = FORMS[tag as usize];
+    let eight = FORMS[(tag / Form::IN_ONE) as usize];
+    let form = (eight >> (tag % Form::IN_ONE * Form::BITS)) % Form::VALUES;
     Form {
-        operand: form % Form::SUBTERM,
-        subterms: form / Form::SUBTERM % Form::COLUMN,
-        binders: form / Form::BINDER % Form::COLUMN,
-        refers: form / Form::REFERS,
+        operand: (form % Form::SUBTERM) as u8,
+        subterms: (form / Form::SUBTERM % Form::COLUMN) as u8,
+        binders: (form / Form::BINDER % Form::COLUMN) as u8,
+        refers: (form / Form::REFERS) as u8,
     }
 }
 

@@ -1,55 +1,39 @@
--- `buffer::put_bytes` meets its contract. The loop's invariant: `out` has `src`'s first copied bytes written at `at`, and `next` is the place after them.
--- The measure is what is left of `src`.
-use Prim.Native.Nat.{_≤_, _-_}
+-- `buffer::put_bytes` meets its contract.
+use mathlib.Core.Path.{_∙_}
+use Prim.Native.Nat.{_-_}
 use native.Mathlib.Omega.{arith}
-use lib.ListN.{length, take}
-use Rattle.buffer.specs.Written.{Wrote}
-use Rattle.buffer.specs.Theory.Writes.{still, same, copied-one, copied-next, copied-all}
+use Rattle.buffer.specs.Theory.Writes.{known-as, length-rest, same, then, with-rest}
+use borrow.Author.Needs.{needs}
 use Rattle.buffer.proofs.put_bytes.Statement.{statement}
 use Rattle.buffer.proofs.put_bytes.Tie as tie
 
-abbrev Inv-loop : tie.InvT-loop
-Inv-loop out₀ at src next₀ copied₀ out next copied = (copied ≤ length src) × Wrote out₀ at (take copied src) out next
+put-each-requires : tie.Need-put-each-requires
+put-each-requires c κs =
+    let w = c .before .before .before .before .put-eights .ensures in
+    let st = c .before .before .before .before .before .before .before .before in
+    omega (arith, w .onward, w .within, same (w .wrote), length-rest (c .before .before .before .before .put-eights .result - st .args .at) (st .args .src .now), st .pre)
 
-abbrev μ-loop : tie.MeasureT-loop
-μ-loop out₀ at src next₀ copied₀ out next copied = length src - copied
+same-length : tie.Need-same-length
+same-length c =
+    let w = c .before .before .before .before .before .before .before .put-eights .ensures .wrote in
+    same (c .before .before .put-each .ensures) ∙ same w
 
-loop-holds : tie.Need-loop-holds Inv-loop μ-loop
-loop-holds c = (omega arith, still)
-
-slice-write-out : tie.Need-slice-write-out Inv-loop μ-loop
-slice-write-out c =
-    let inv = c .before .before .loop .inv in
-    omega (arith, same (inv .1), copied-next _ _ _ _ _ _ (inv .0) (inv .1))
-
-add-next : tie.Need-add-next Inv-loop μ-loop
-add-next c =
-    let inv = c .before .before .loop .inv in
-    omega (arith, copied-next _ _ _ _ _ _ (inv .0) (inv .1))
-
-loop-again : tie.Need-loop-again Inv-loop μ-loop
-loop-again c =
-    let inv = c .before .before .loop .inv in
-    (omega arith, copied-one _ _ _ _ _ _ (c .before .loop-test .taken) (inv .1))
-
-same-length : tie.Need-same-length Inv-loop μ-loop
-same-length c = same (c .before .loop .inv .1)
-
-returns : tie.Need-returns Inv-loop μ-loop
-returns c = copied-all _ _ _ _ _ _ (c .loop-test .left) (c .before .loop .inv .1)
+returns : tie.Need-returns
+returns c =
+    let at-put-eights = c .before .before .before .before .before .before .before in
+    let st = at-put-eights .before .before .before .before in
+    known-as (then (at-put-eights .put-eights .ensures .wrote) (c .before .before .put-each .ensures))
+    (with-rest (at-put-eights .put-eights .result - st .args .at) (st .args .src .now))
 
 pub put-bytes-spec : {M : Type 1} → statement M
 put-bytes-spec =
     tie.close
     (tie.spec
-    Inv-loop
-    μ-loop
-    loop-holds
-    (λ c. omega arith)
-    slice-write-out
-    add-next
-    (λ c. omega arith)
-    (λ c. omega arith)
-    loop-again
+    (λ c κs. search needs)
+    (λ c. search needs)
+    (λ c. search needs)
+    (λ c. search needs)
+    (λ c. search needs)
+    put-each-requires
     same-length
     returns)

@@ -1,13 +1,13 @@
 -- The laws of `written` and `Wrote`. Only those that read back (`written-parts`, `front`, `beyond`) ask for room.
 use mathlib.Core.Path.{_≡_, refl, sym, ap, _∙_}
 use mathlib.Core.List.{List, [], _∷_, _++_}
-use Prim.Native.Nat.{ℕ, suc, _+_, _≤_, _<_}
+use Prim.Native.Nat.{ℕ, suc, zero, _+_, _-_, _≤_, _<_}
 use native.Mathlib.Nat.{add-zero, zero-add, add-suc, suc-add, add-assoc}
 use native.Mathlib.Numerals.{add-one}
 use native.Mathlib.Omega.{arith}
-use lib.ListN.{length, take, drop, set, getD, length-append}
-use lib.Seq.{sets, length-sets, sets-eq, take-suc, take-all, length-take-le, take-append-seam}
-use Rattle.buffer.specs.Written.{written, Wrote}
+use lib.ListN.{length, take, drop, set, getD, length-append, length-drop, length-take, take-append-drop}
+use lib.Seq.{sets, length-sets, sets-eq, drop-cons, take-add, take-suc, take-all, length-take-le, take-append-seam}
+use Rattle.buffer.specs.Written.{written, CopiedTo, Wrote}
 
 -- where there is room, the buffer in its three parts
 pub written-parts : (old : List ℕ) (at : ℕ) (new : List ℕ) → at + length new ≤ length old
@@ -79,6 +79,44 @@ copied-next old src at j out next h w = w .ends ∙ ap (λ (k : ℕ). at + k) (l
 -- it has copied all
 pub copied-all : (old src : List ℕ) (at j : ℕ) (out : List ℕ) (next : ℕ) → length src ≤ j → Wrote old at (take j src) out next → Wrote old at src out next
 copied-all old src at j out next h w = known-as w (take-all j src h)
+
+-- a turn that stores the next eight
+pub copied-eight : (old src : List ℕ) (at j : ℕ) {out end : List ℕ} {next last : ℕ} → Wrote old at (take j src) out next
+    → Wrote out next (take 8 (drop j src)) end last → Wrote old at (take (j + 8) src) end last
+copied-eight old src at j w v = known-as (then w v) (sym (take-add j 8 src))
+
+-- what it has copied so far
+pub copied-to : (old src : List ℕ) (at j : ℕ) (out : List ℕ) (next : ℕ) → j ≤ length src → Wrote old at (take j src) out next → CopiedTo src old at out next
+copied-to old src at j out next h w =
+    let n = copied-next old src at j out next h w in
+    let k : next - at ≡ j = omega (arith, n) in
+    record { onward = omega (arith, n); within = omega (arith, k); wrote = rw k w }
+
+-- the rest of it
+pub length-rest : (k : ℕ) (src : List ℕ) → length (take (length src - k) (drop k src)) ≡ length src - k
+length-rest k src = simp (length-take, length-drop) (omega arith)
+
+pub with-rest : (k : ℕ) (src : List ℕ) → take k src ++ take (length src - k) (drop k src) ≡ src
+with-rest k src =
+    ap (λ (r : List ℕ). take k src ++ r) (take-all (length src - k) (drop k src) (omega (arith, length-drop k src)))
+    ∙ take-append-drop k src
+
+-- bytes one by one: n of them, from j + i on
+unfoldable one-by-one : List ℕ → ℕ → ℕ → ℕ → List ℕ
+one-by-one l j i zero = []
+one-by-one l j i (suc n) = getD l (j + i) 0 ∷ one-by-one l j (suc i) n
+
+are-taken : (l : List ℕ) (j i n : ℕ) → j + i + n ≤ length l → one-by-one l j i n ≡ take n (drop (j + i) l)
+unfolding one-by-one
+are-taken l j i zero h = refl
+are-taken l j i (suc n) h =
+    ap (λ (r : List ℕ). getD l (j + i) 0 ∷ r) (are-taken l j (suc i) n (omega arith) ∙ ap (λ (k : ℕ). take n (drop k l)) (add-suc j i))
+    ∙ sym (ap (take (suc n)) (drop-cons l (j + i) 0 (omega arith)))
+
+pub eight-from : (l : List ℕ) (j : ℕ) → j + 8 ≤ length l →
+    getD l j 0 ∷ getD l (j + 1) 0 ∷ getD l (j + 2) 0 ∷ getD l (j + 3) 0 ∷ getD l (j + 4) 0 ∷ getD l (j + 5) 0 ∷ getD l (j + 6) 0 ∷ getD l (j + 7) 0 ∷ [] ≡ take 8 (drop j l)
+unfolding one-by-one
+eight-from l j h = rw add-zero at (are-taken l j 0 8 (omega arith))
 
 -- what was written at the front of a buffer is its first bytes
 pub front : {old new out : List ℕ} {next : ℕ} → Wrote old 0 new out next → length new ≤ length old → take next out ≡ new

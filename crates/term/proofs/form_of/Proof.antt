@@ -4,11 +4,21 @@ use Rattle.term.proofs.Packed.{unpacked-form}
 use Rattle.term.proofs.form_of.Statement.{statement}
 use Rattle.term.proofs.form_of.Tie as tie
 
-array-read-form : tie.Need-array-read-form
-array-read-form c = search needs
-
 returns : tie.Need-returns
 returns c = unpacked-form (c .args .tag) (c .pre)
 
 pub form-of-spec : {M : Type 1} → statement M
-form-of-spec = tie.close (tie.spec array-read-form returns)
+form-of-spec =
+    tie.close
+    (tie.spec
+    (λ c. search needs)
+    (λ c. search needs)
+    (λ c. search needs)
+    (λ c. search needs)
+    (λ c. search needs)
+    (λ c. search needs)
+    (λ c. search needs)
+    (λ c. search needs)
+    (λ c. search needs)
+    (λ c. search needs)
+    returns)
