@@ -234,7 +234,8 @@ def known_names():
             if match:
                 names.update(match.group(1).split())
     for path in glob.glob('crates/*/src/*.rt'):
-        names.update(re.findall(r'(?:fn|struct|enum|const|impl|pub) (\w+)', open(path, encoding='utf-8').read()))
+        text = open(path, encoding='utf-8').read()
+        names.update(re.findall(r'\b(?:fn|struct|enum|const|impl) (\w+)', text) + re.findall(r'\bpub (\w+):', text))
     names.update(os.path.basename(p) for p in glob.glob('crates/*'))
     return names
 

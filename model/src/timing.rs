@@ -47,14 +47,15 @@ pub fn fastest(rounds: usize, least: Duration, works: &mut [Work]) -> Vec<f64> {
     best
 }
 
-/// Nanoseconds for each call, in one round.
+/// Nanoseconds for each call, in one round. Asking the time takes as long as a short call, so the works between two askings double.
 fn round(least: Duration, work: &mut Work) -> f64 {
-    let (begin, mut calls) = (processor_time(), 0);
+    let (begin, mut calls, mut works) = (processor_time(), 0, 1);
     loop {
-        calls += work();
+        calls += (0..works).map(|_| work()).sum::<u64>();
         let taken = processor_time() - begin;
         if taken >= least {
             return taken.as_secs_f64() * 1e9 / calls as f64;
         }
+        works *= 2;
     }
 }

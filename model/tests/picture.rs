@@ -1,7 +1,9 @@
-//! The picture of a run: no words on top of each other and none outside, for up to 16 bays.
+//! The picture of a run: no words on top of each other and none outside, for up to 16 bays. The same for the curves of `weights`.
 
 use model::answers::{Implementation, Model};
 use model::command::on_deep_stack;
+use model::curves::picture::Panel;
+use model::curves::{self, Curve, Point};
 use model::draw::Draw;
 use model::generate::recipes;
 use model::limits;
@@ -10,6 +12,7 @@ use model::tool::run::order::Order;
 use model::tool::run::runner::Runner;
 use model::tool::svg::picture;
 use model::tool::write::made;
+use model::weights;
 
 /// The history of a run, and the number of bays.
 fn history(file: &[u8], turns: u64, mut order: Order) -> History {
@@ -69,8 +72,11 @@ fn overlap(a: &Words, b: &Words) -> bool {
 }
 
 fn check(history: &History) {
-    let svg = picture("a recipe's name", history);
-    let (width, height) = (number(&svg, "width"), number(&svg, "height"));
+    check_words(&picture("a recipe's name", history));
+}
+
+fn check_words(svg: &str) {
+    let (width, height) = (number(svg, "width"), number(svg, "height"));
     let words: Vec<Words> = svg.lines().filter_map(words_of).collect();
     assert!(words.len() > 10);
     for (at, one) in words.iter().enumerate() {
@@ -200,5 +206,31 @@ fn equal_lines_stand_side_by_side_each_in_its_own_colour() {
     for pair in lines.windows(2) {
         let apart = (pair[1].0 - pair[0].0).abs();
         assert!(apart >= pair[0].1 - 0.15, "{pair:?}");
+    }
+}
+
+/// Times that grow with the size, so many times as long.
+fn points(curve: &Curve, slowness: f64) -> Vec<Point> {
+    let point = |&size: &usize| Point {
+        size,
+        library: slowness * size as f64,
+        plain: slowness * size as f64 / 2.0,
+    };
+    curve.sizes.iter().map(point).collect()
+}
+
+#[test]
+fn the_curves_of_weights_and_their_words() {
+    let all = weights::all();
+    for slowness in [0.0004, 0.003, 0.02, 0.9] {
+        let panels = all.iter().map(|weighed| Panel {
+            curve: &weighed.curve,
+            now: points(&weighed.curve, slowness),
+            before: Some(points(&weighed.curve, 1.5 * slowness)),
+        });
+        let panels: Vec<Panel> = panels.collect();
+        let svg = curves::picture::picture(&panels, weights::CURVES);
+        check_words(&svg);
+        assert_eq!(svg.matches("<polyline").count(), 3 * all.len());
     }
 }

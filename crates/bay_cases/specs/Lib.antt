@@ -12,3 +12,5 @@ pub mod PairSteps
 pub mod PairsAndLists
 -- document 02, T-04: rows of runs by the runner
 pub mod HouseRuns
+-- document 02, T-05: steps on both sides of the limit of nodes
+pub mod WeightSteps

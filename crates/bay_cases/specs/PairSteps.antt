@@ -2,7 +2,6 @@
 use mathlib.Core.Path.{_≡_, refl}
 use mathlib.Core.List.{List, [], _∷_, _++_, map}
 use Prim.Native.Nat.{ℕ}
-use lib.ListN.{replicate}
 use Rattle.calculus.specs.Syntax.{sum-in, sum-all}
 use Rattle.calculus.specs.Lists.{tabulate, each-below}
 use Rattle.calculus.specs.Bytes.{two-bytes, word}
@@ -11,7 +10,6 @@ use Rattle.term.specs.Numbers.{value-of, little-endian}
 use Rattle.term.specs.Forms.{form-of, forms}
 use Rattle.term.specs.Reader.{one-term, read, read-term}
 use Rattle.term.specs.Expressions.{exp-of, leaf-exp, leaf-forms, bytes, const-bytes, op-tag, both-tag, case-tag, term-of, two-exp, two-forms}
-use Rattle.recipe_file.specs.Whole.{joined}
 use Rattle.calculus.specs.Reduction.{substitute, plug}
 use Rattle.calculus.specs.Step.{beside, within, place, when-done, step-call, step-exchange, step-meeting, step-place, step-redex, step-case, step-subject, step-of}
 use Rattle.calculus.specs.Reply.{reply-of}
@@ -27,25 +25,25 @@ use Rattle.runs.specs.Run.{Step, answer, left, renewed}
 use Rattle.bay_cases.specs.Cases.{call}
 
 -- an image and a thread; what a step answers, and the image that is left
-record Turn : Type 0 where
-  image : List ℕ
-  thread : ℕ
-  outcome : Outcome
-  new : List ℕ
+pub record Turn : Type 0 where
+  pub image : List ℕ
+  pub thread : ℕ
+  pub outcome : Outcome
+  pub new : List ℕ
 
-abbrev turn : List ℕ → ℕ → Outcome → List ℕ → Turn
+abbrev pub turn : List ℕ → ℕ → Outcome → List ℕ → Turn
 turn image thread outcome new = record { image = image; thread = thread; outcome = outcome; new = new }
 
 -- the image stays
-abbrev still : List ℕ → ℕ → Outcome → Turn
+abbrev pub still : List ℕ → ℕ → Outcome → Turn
 still image thread outcome = turn image thread outcome image
 
 -- the step of a turn; its types are not asked
-abbrev step-at : Turn → Step
+abbrev pub step-at : Turn → Step
 step-at r = record { image = r .image; types = []; call = call (r .thread) }
 
 -- the turn with what is computed in place of what is claimed
-unfoldable stepped : Turn → Turn
+unfoldable pub stepped : Turn → Turn
 stepped r = turn (r .image) (r .thread) (answer (step-at r)) (left (step-at r))
 
 -- taking apart "needs its subject's value as an exch does": by what the subject is
@@ -175,33 +173,10 @@ standing =
     ∷ still (0x01 ∷ 0x00 ∷ 0x01 ∷ 0x00 ∷ 0x08 ∷ 0x00 ∷ 0x09 ∷ 0x00 ∷ 0x0C ∷ 0x0A ∷ 0x05 ∷ 0x04 ∷ 0x01 ∷ 0x00 ∷ 0x04 ∷ 0x02 ∷ 0x00 ∷ []) 0 (Refused 13)
     ∷ []
 
--- a lambda of 240 nodes, and a case, by its tag, that has it as first component, by the tag of that, and uses it 17 times; what comes of it
-unfoldable large-value : List ℕ
-large-value = 0x01 ∷ 0x03 ∷ (replicate 119 0x02 ++ replicate 120 0x03)
-
-unfoldable large : ℕ → ℕ → List ℕ
-large case-tag both-tag = case-tag ∷ both-tag ∷ 0x05 ∷ (large-value ++ (0x04 ∷ 0x02 ∷ 0x00 ∷ (replicate 16 0x02 ++ joined (replicate 17 (0x00 ∷ 0x01 ∷ [])))))
-
-unfoldable many-times : List ℕ
-many-times = replicate 16 0x02 ++ joined (replicate 17 large-value)
-
--- "outcome above 256 names or 4,096 nodes" of rules 8 and 9. Slips told here: 4,096 refused, a value counted once for all its places
-abbrev room : List Turn
-room =
-    -- rule 8 with 4,096 nodes after it: 17 times a value of 240 nodes, and 16 applications
-    turn ((0x01 ∷ 0x00 ∷ 0x01 ∷ 0x00 ∷ 0x08 ∷ 0x00 ∷ 0x29 ∷ 0x01 ∷ []) ++ large 0x0C 0x0A) 0 (Rule 8 4121) ((0x01 ∷ 0x00 ∷ 0x01 ∷ 0x00 ∷ 0x08 ∷ 0x00 ∷ 0x11 ∷ 0x10 ∷ []) ++ many-times)
-    -- rule 8 with one node more, in another thread: 15
-    ∷ still ((0x02 ∷ 0x00 ∷ 0x01 ∷ 0x00 ∷ 0x0E ∷ 0x00 ∷ 0x29 ∷ 0x01 ∷ 0x01 ∷ 0x00 ∷ 0x37 ∷ 0x01 ∷ 0x01 ∷ 0x00 ∷ []) ++ (large 0x0C 0x0A ++ (0x03 ∷ []))) 0 (Refused 15)
-    -- rule 9 with 4,096 nodes after it
-    ∷ turn ((0x01 ∷ 0x00 ∷ 0x01 ∷ 0x00 ∷ 0x08 ∷ 0x00 ∷ 0x29 ∷ 0x01 ∷ []) ++ large 0x0D 0x0B) 0 (Rule 9 4121) ((0x01 ∷ 0x00 ∷ 0x01 ∷ 0x00 ∷ 0x08 ∷ 0x00 ∷ 0x11 ∷ 0x10 ∷ []) ++ many-times)
-    -- rule 9 with one node more: 15
-    ∷ still ((0x02 ∷ 0x00 ∷ 0x01 ∷ 0x00 ∷ 0x0E ∷ 0x00 ∷ 0x29 ∷ 0x01 ∷ 0x01 ∷ 0x00 ∷ 0x37 ∷ 0x01 ∷ 0x01 ∷ 0x00 ∷ []) ++ (large 0x0D 0x0B ++ (0x03 ∷ []))) 0 (Refused 15)
-    ∷ []
-
 abbrev turns : List Turn
-turns = subjects ++ places ++ standing ++ room
+turns = subjects ++ places ++ standing
 
 -- what is claimed is what is computed
 each-stepped : map stepped turns ≡ turns
-unfolding two-bytes word exp-of leaf-exp leaf-forms two-exp two-forms one-term read read-term form-of forms value-of tabulate each-below nodes renewed outcome-of out-after-step step-reply outcome-of-reply out-after-reply config-of decode components image-of encode terms-stand image-stands kind-test companion-test length-test head-agrees head-stands stand-from heads-stand names kind-at companion-at offset-in length-at expression-at encoded-at encoded-all head heads expressions image-bytes bytes const-bytes op-tag both-tag case-tag little-endian reply-of sum-in sum-all expression-test is-settled is-awaited handle-for component-test each-test limits-test image-test beside within place when-done step-call step-exchange step-meeting step-place step-redex step-case step-subject step-of substitute plug term-of stepped large many-times joined large-value
+unfolding two-bytes word exp-of leaf-exp leaf-forms two-exp two-forms one-term read read-term form-of forms value-of tabulate each-below nodes renewed outcome-of out-after-step step-reply outcome-of-reply out-after-reply config-of decode components image-of encode terms-stand image-stands kind-test companion-test length-test head-agrees head-stands stand-from heads-stand names kind-at companion-at offset-in length-at expression-at encoded-at encoded-all head heads expressions image-bytes bytes const-bytes op-tag both-tag case-tag little-endian reply-of sum-in sum-all expression-test is-settled is-awaited handle-for component-test each-test limits-test image-test beside within place when-done step-call step-exchange step-meeting step-place step-redex step-case step-subject step-of substitute plug term-of stepped
 each-stepped = refl

@@ -127,7 +127,7 @@ pub fn take_turn(image: &[u8], at: At, out: &mut [u8]) -> Taken
 {
     match go_round(image, at.nodes, at.next) {
         Found::Goes(x, step, after) => {
-            let length = step_write::put_image_after(image, step, after.names, out);
+            let length = step_write::put_image_after(image, step, after, out);
             let on = At {
                 next: x + 1,
                 length,

@@ -28,7 +28,7 @@ use Rattle.image_layout.specs.Theory.Slice.{encoded-kind}
 use Rattle.image.specs.Configuration.{config-of, encode}
 use Rattle.image.specs.Stands.{image-stands}
 use Rattle.step_rules.specs.declared.Step.{Step}
-use Rattle.step_rules.specs.Moves.{names-after, nodes-after}
+use Rattle.step_rules.specs.Moves.{nodes-after}
 use Rattle.step_rules.specs.Stepped.{Stepped}
 use Rattle.step_rules.specs.Theory.Reading.{encoded-is, rules, thread-stands}
 use Rattle.step_decide.proofs.Names.{as-thread, kind-there}
@@ -36,6 +36,7 @@ use Rattle.step_decide.specs.declared.Decision.{Decision}
 use Rattle.step_decide.specs.declared.Decision.the-variants.{Goes}
 use Rattle.step_decide.specs.Decided.{Decided, goes as decided-goes, refuses-used, refuses-wrong, waits}
 use Rattle.step_room.specs.declared.Size.{Size}
+use Rattle.step_room.specs.Counting.{After}
 use Rattle.image_check.specs.Theory.Names.{config-parts}
 use Rattle.step_spec.specs.declared.Outcome.the-variants.{Done, Refused}
 use Rattle.step_spec.specs.Stepping.{outcome-of-reply}
@@ -94,16 +95,16 @@ module _ (s : List ℕ) (x : ℕ) where
 
 -- 15 is the calculus's test of the outcome
 module _ {s : List ℕ} {x : ℕ} {step : Step} (S : Stepped s x step) {n : ℕ} (n-is : nodes-all (config-of s) ≡ n) {after : Size}
-    (counts : (after .names ≡ names-after s step) × (after .nodes ≡ nodes-after n s step)) where
+    (counts : After s n step after) where
   nodes-are : after .nodes ≡ nodes-all (S .outcome)
-  nodes-are = counts .1 ∙ ap (λ (k : ℕ). nodes-after k s step) (sym n-is) ∙ sym (S .counted)
+  nodes-are = counts .nodes ∙ ap (λ (k : ℕ). nodes-after k s step) (sym n-is) ∙ sym (S .counted)
 
   pub room-is : within-limits (after .names) (after .nodes) ≡ limits-test (S .outcome)
   unfolding limits-test
-  room-is = ap₂ (λ (i j : ℕ). within-limits i j) (counts .0 ∙ sym (S .named)) nodes-are
+  room-is = ap₂ (λ (i j : ℕ). within-limits i j) (counts .handed .names ∙ sym (S .named)) nodes-are
 
   pub by-room : limits-test (S .outcome) ≡ true → Going s x step after
-  by-room l = record { stepped = S; fits = l; named = counts .0; counted = nodes-are }
+  by-room l = record { stepped = S; fits = l; handed = counts .handed; counted = nodes-are }
 
 -- an image that stands has few enough nodes to count on
 pub few-before : (s : List ℕ) → Bytes s → image-stands s ≡ true → nodes-all (config-of s) ≤ max-nodes

@@ -12,9 +12,9 @@ use Rattle.image_layout.specs.Slice.{kind-at, names}
 use Rattle.image.specs.Configuration.{config-of}
 use Rattle.image.specs.Stands.{image-stands}
 use Rattle.step_rules.specs.declared.Step.{Step}
-use Rattle.step_rules.specs.Moves.{names-after}
 use Rattle.step_rules.specs.Stepped.{Stepped}
 use Rattle.step_room.specs.declared.Size.{Size}
+use Rattle.step_room.specs.Counting.{Handed}
 use Rattle.step_decide.specs.declared.Decision.{Decision}
 use Rattle.step_decide.specs.declared.Decision.the-variants.{Goes as DecisionGoes, Waits, Refuses}
 use Rattle.step_spec.specs.declared.Outcome.{Outcome}
@@ -42,11 +42,11 @@ stays (Refuses number) = Refused number
 abbrev pub reply-in : List ℕ → ℕ → Reply
 reply-in s x = reply-of within-limits (step-of (config-of s) x)
 
--- the thread goes by this step, and the outcome is within the limits: so many names and nodes
+-- the thread goes by this step, and the outcome is within the limits; what the writer is handed, and how many nodes there are then
 pub record Going (s : List ℕ) (x : ℕ) (step : Step) (after : Size) : Type 0 where
   pub stepped : Stepped s x step
   pub fits : limits-test (stepped .outcome) ≡ true
-  pub named : after .names ≡ names-after s step
+  pub handed : Handed s step after
   pub counted : after .nodes ≡ nodes-all (stepped .outcome)
 
 -- it stays: what is answered, and that it is no rule

@@ -2,10 +2,10 @@
 use mathlib.Core.Path.{_≡_}
 use mathlib.Core.Bool.{true}
 use mathlib.Core.List.{List}
-use Prim.Native.Nat.{ℕ, _+_, _*_, _<_, _≤_}
+use Prim.Native.Nat.{ℕ, _<_, _≤_}
 use lib.ListN.{length}
 use Rattle.calculus.specs.Bytes.{two-byte-values}
-use Rattle.calculus.specs.Limits.{max-names, max-nodes}
+use Rattle.calculus.specs.Limits.{max-names}
 use Rattle.image_layout.specs.Layout.{heads-stand}
 use Rattle.step_rules.specs.declared.Step.{Step}
 use Rattle.step_rules.specs.Moves.{names-after}
@@ -20,7 +20,3 @@ pub record CanWrite (s : List ℕ) (step : Step) : Type 0 where
   pub short : length s < two-byte-values
   -- "At most 256 names"
   pub few : names-after s step ≤ max-names
-
--- what stands in place of an application or case is shorter: a body, with a value in place of each of its nodes
-abbrev pub max-redex-length : ℕ
-max-redex-length = two-byte-values + max-nodes * two-byte-values

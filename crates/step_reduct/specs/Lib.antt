@@ -2,5 +2,3 @@
 
 -- what a writer of the image after a step needs
 pub mod CanWrite
--- a body with values in it
-pub mod Substitutions

@@ -1,7 +1,5 @@
 -- Laws of the count before a step.
 
--- a scan of a term that stands
-mod Scanned
 -- what is counted of a move that is known
 mod Counts
 -- no number is too large

@@ -1,11 +1,10 @@
 -- Fig. 5 in bytes, and T-03's rules 8 and 9, a clause for each rule.
 use mathlib.Core.List.{List, [], _∷_, _++_}
-use Prim.Native.Nat.{ℕ, _+_, _-_, _*_}
+use Prim.Native.Nat.{ℕ, _+_, _-_}
 use lib.ListN.{drop, take}
 use Rattle.calculus.specs.Image.{nodes}
-use Rattle.calculus.specs.Names.{uses}
 use Rattle.calculus.specs.Reduction.{substitute, substitute-both, Rule, BETA, THREAD-NEW, FUTURE-DEREF, HANDLE-NEW, HANDLE-BIND, CELL-NEW, CELL-EXCH, CASE}
-use Rattle.calculus.specs.Syntax.{pair, list}
+use Rattle.calculus.specs.Syntax.{Exp, pair, list}
 use Rattle.calculus.specs.Kinds.{no-owner}
 use Rattle.term.specs.Expressions.{bytes, term-at}
 use Rattle.term.specs.Forms.{application-tag, unit-tag, name-tag}
@@ -65,29 +64,21 @@ pub record Effect : Type 0 where
   -- the other names that change
   pub changed : List Named
 
--- rules 8 and 9, E[case v₁, v₂ of x, y ⇒ e] → E[e[v₁/x][v₂/y]]: v₂ stands at `rest`. A value comes for each x and each y; these, the values, their pair or
--- front and the case go.
+-- rules 1, 8 and 9 put values in a body: the outcome comes; body and values go, of so many nodes, and the two nodes around them
+abbrev pub put-in : Exp → ℕ → Effect
+put-in outcome gone = record { redex = bytes outcome; gained = nodes outcome; lost = gone + 2; new = []; changed = [] }
+
+-- rules 8 and 9, E[case v₁, v₂ of x, y ⇒ e] → E[e[v₁/x][v₂/y]]: v₂ stands at `rest`. Around them were the case and the pair or front.
 unfoldable pub taken-apart : List ℕ → Meeting → ℕ → Effect
 taken-apart s m rest =
-    record {
-      redex = bytes (substitute-both (term-at s (m .at + to-component)) (term-at s rest) (term-at s (m .second)));
-      gained = uses 0 (term-at s (m .second)) * nodes (term-at s rest) + uses 1 (term-at s (m .second)) * nodes (term-at s (m .at + to-component));
-      lost = uses 0 (term-at s (m .second)) + uses 1 (term-at s (m .second)) + nodes (term-at s rest) + nodes (term-at s (m .at + to-component)) + 2;
-      new = [];
-      changed = [];
-    }
+    put-in (substitute-both (term-at s (m .at + to-component)) (term-at s rest) (term-at s (m .second)))
+    (nodes (term-at s (m .second)) + (nodes (term-at s rest) + nodes (term-at s (m .at + to-component))))
 
 -- at the meeting m in the image s
 unfoldable pub effect-of : List ℕ → Meeting → Move → Effect
--- BETA: E[(λy.e) v] → E[e[v/y]]. A value comes for each y; these, the value, the lambda and the application go.
+-- BETA: E[(λy.e) v] → E[e[v/y]]. Around them were the application and the lambda.
 effect-of s m Beta =
-    record {
-      redex = bytes (substitute 0 (term-at s (m .second)) (term-at s (m .at + to-body)));
-      gained = uses 0 (term-at s (m .at + to-body)) * nodes (term-at s (m .second));
-      lost = uses 0 (term-at s (m .at + to-body)) + nodes (term-at s (m .second)) + 2;
-      new = [];
-      changed = [];
-    }
+    put-in (substitute 0 (term-at s (m .second)) (term-at s (m .at + to-body))) (nodes (term-at s (m .at + to-body)) + nodes (term-at s (m .second)))
 -- THREAD.NEW: E[thread v] → (νy)(E[y] | y ⇐ v y)
 effect-of s m ThreadNew =
     record {

@@ -8,6 +8,8 @@ pub mod Effects
 pub mod Moves
 -- what a writer of the image after a step needs, and that the step is the calculus's
 pub mod Stepped
+-- rules 1, 8 and 9: a body with values in it
+pub mod Substitutions
 -- the meeting of two values in a thread of an image
 pub mod Meets
 pub mod Theory

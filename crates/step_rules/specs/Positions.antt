@@ -1,15 +1,12 @@
 -- The table of node forms: where the parts of an application or case stand in which values meet.
 use Prim.Native.Nat.{ℕ, _+_, _*_}
 
--- the bytes of an application before its function, of a lambda before its body, of a variable, a name, a constant with a type, and unit
+-- the bytes of an application before its function, of a lambda before its body, of a name, and of a constant with a type
 abbrev pub application-length : ℕ
 application-length = 1
 
 abbrev pub lambda-length : ℕ
 lambda-length = 2
-
-abbrev pub variable-length : ℕ
-variable-length = 2
 
 abbrev pub name-length : ℕ
 name-length = 2

@@ -8,6 +8,10 @@ pub mod Changes
 pub mod Meeting
 -- what a writer needs
 pub mod Writers
+-- how long what a step writes is
+pub mod Lengths
+-- what rules 1, 8 and 9 put in a body
+pub mod Substitutions
 -- the nine rules
 pub mod Rules
 -- what a search has found

@@ -1,9 +1,13 @@
 // What a step by a rule does to an image. The definitions stand in specs/.
 use numbers::Rule;
 use term_redex::Meeting;
+use term_subst::Span;
 ghost use mathlib.Core.Path.{_≡_};
+ghost use Prim.Native.Nat.{_<_};
+ghost use Rattle.calculus.specs.Bytes.{two-byte-values};
 ghost use Rattle.calculus.specs.Reduction.{number};
 ghost use Rattle.step_rules.specs.Effects.{rule-of};
+ghost use Rattle.step_rules.specs.Substitutions.{argument-in, components-in};
 
 // A move by a rule of Fig. 5 or by T-03's 8 and 9, with what it needs besides the place: from where to where the value that is copied stands, the handle and
 // its future, the cell and from where to where its value stands, where the second component stands of what is taken apart.
@@ -77,5 +81,57 @@ pub fn rule_of(by: Move) -> u8
         Move::CellExch(_, _, _) => Rule::CELL_EXCH,
         Move::CasePair(_) => Rule::CASE_PAIR,
         Move::CaseList(_) => Rule::CASE_LIST,
+    }
+}
+
+// A body, and the values for the places of its two innermost variables.
+pub struct Substitution {
+    pub body: Span,
+    pub inner: Span,
+    pub outer: Span,
+}
+
+// Rule 1: the argument in the body of a lambda. No place has the next variable, whatever is given for it.
+pub fn applied(meeting: Meeting) -> Substitution
+    requires { ⌜ meeting .at < two-byte-values ⌝ }
+    ensures { λ r. ⌜ r ≡ argument-in meeting ⌝ }
+{
+    let argument = meeting.second;
+    let body = Span {
+        from: meeting.at + Step::BODY,
+        to: argument,
+    };
+    let value = Span {
+        from: argument,
+        to: meeting.end,
+    };
+    Substitution {
+        body,
+        inner: value,
+        outer: value,
+    }
+}
+
+// Rules 8 and 9: the components in the body of a case, the second for the innermost variable.
+pub fn taken(meeting: Meeting, rest: usize) -> Substitution
+    requires { ⌜ meeting .at < two-byte-values ⌝ }
+    ensures { λ r. ⌜ r ≡ components-in meeting rest ⌝ }
+{
+    let first = Span {
+        from: meeting.at + Step::COMPONENT,
+        to: rest,
+    };
+    let second = Span {
+        from: rest,
+        to: meeting.second,
+    };
+    let body = Span {
+        from: meeting.second,
+        to: meeting.end,
+    };
+    Substitution {
+        body,
+        inner: second,
+        outer: first,
     }
 }

@@ -21,7 +21,7 @@ fn step_checked(image: &[u8], nodes: usize, thread: usize, out: &mut [u8]) -> Ou
         Look::Goes(step, after) => {
             let by = step.by;
             let rule = step_rules::rule_of(by);
-            let length = step_write::put_image_after(image, step, after.names, out);
+            let length = step_write::put_image_after(image, step, after, out);
             Outcome::Rule(rule, length)
         }
         Look::Stays(outcome) => outcome,

@@ -15,7 +15,7 @@ use Rattle.step_rules.specs.Positions.{application-length, name-length}
 use Rattle.step_rules.specs.Effects.{started-bytes}
 use Rattle.step_rules.specs.Moves.{component-after, names-after, components-after, image-after}
 use Rattle.step_reduct.specs.CanWrite.{CanWrite}
-use Rattle.step_reduct.proofs.Redexes.{argument-length}
+use Rattle.step_rules.specs.Theory.Lengths.{argument-length}
 use Rattle.step_write.specs.declared.Change.{Change}
 use Rattle.step_write.specs.Changes.{Becomes}
 
@@ -33,7 +33,7 @@ same-expression e = ap (λ (z : Encoded). z .expression) (sym e)
 
 -- the new thread of rule 2
 pub started-length : {s : List ℕ} {step : Step} → CanWrite s step → length (started-bytes s (step .meeting)) ≡ step .meeting .end - step .meeting .second + (application-length + name-length)
-started-length w = simp (length-append, argument-length w) (omega arith)
+started-length w = simp (length-append, argument-length (w .movable)) (omega arith)
 
 -- room for the image, and its three writes
 pub image-room : (s : List ℕ) (step : Step) {out : List ℕ} → length (image-after s step) ≤ length out → length (image-after s step) < two-byte-values → Room (names-after s step) (component-after s step) out

@@ -11,11 +11,11 @@ use image_layout::length_at;
 use image_layout::names_of;
 use image_layout::put_head;
 use numbers::Image;
-use step_reduct::argument_size;
 use step_reduct::put_argument;
 use step_reduct::put_name;
 use step_reduct::put_thread_after;
-use step_reduct::thread_size;
+use step_room::Size;
+use step_room::argument_size;
 use step_rules::Move;
 use step_rules::Step;
 use term::Node;
@@ -34,7 +34,8 @@ ghost use Rattle.image_layout.specs.Heads.{Says};
 ghost use Rattle.image_layout.specs.Theory.Turns.{Room};
 ghost use Rattle.step_rules.specs.Positions.{application-length, name-length};
 ghost use Rattle.step_rules.specs.Effects.{started-bytes};
-ghost use Rattle.step_rules.specs.Moves.{component-after, names-after, image-after};
+ghost use Rattle.step_rules.specs.Moves.{component-after, expression-after, names-after, image-after};
+ghost use Rattle.step_room.specs.Counting.{Handed};
 ghost use Rattle.step_reduct.specs.CanWrite.{CanWrite};
 ghost use Rattle.step_write.specs.Changes.{Becomes};
 
@@ -151,9 +152,9 @@ fn holding(kind: u8, owner: u8, size: usize) -> Head
     }
 }
 
-// The head of name k.
-fn head_after(image: &[u8], step: Step, k: usize) -> Head
-    requires { ⌜ CanWrite (now image) step × (k < names-after (now image) step) ⌝ }
+// The head of name k, where the expression of the thread that goes has so many bytes.
+fn head_after(image: &[u8], step: Step, thread: usize, k: usize) -> Head
+    requires { ⌜ CanWrite (now image) step × ((thread ≡ length (expression-after (now image) step)) × (k < names-after (now image) step)) ⌝ }
     ensures { λ r. ⌜ Says r (component-after (now (image .entry)) step k) ⌝ }
 {
     let owner = Image::NO_OWNER;
@@ -164,32 +165,32 @@ fn head_after(image: &[u8], step: Step, k: usize) -> Head
             companion: companion_at(image, k),
             size: length_at(image, k),
         },
-        Change::Goes => holding(Image::THREAD, owner, thread_size(image, step)),
+        Change::Goes => holding(Image::THREAD, owner, thread),
         Change::Starts => holding(Image::THREAD, owner, started_size(step.meeting)),
         Change::Holds(kind) => holding(kind, owner, argument_size(step.meeting)),
         Change::Bare(kind, companion) => bare(kind, companion),
     }
 }
 
-// Writes the heads of so many names.
-fn put_heads(out: &mut [u8], at: usize, image: &[u8], step: Step, names: usize) -> usize
-    requires { ⌜ CanWrite (now image) step × ((names ≡ names-after (now image) step) × (at ≡ first-head)) ⌝ }
+// Writes the heads.
+fn put_heads(out: &mut [u8], at: usize, image: &[u8], step: Step, after: Size) -> usize
+    requires { ⌜ CanWrite (now image) step × (Handed (now image) step after × (at ≡ first-head)) ⌝ }
     requires { ⌜ Room (names-after (now image) step) (component-after (now image) step) (now out) ⌝ }
     ensures { λ r. ⌜ Wrote (now (out .entry)) at (heads (head-offset (names-after (now (image .entry)) step)) (tabulate (names-after (now (image .entry)) step) (component-after (now (image .entry)) step))) (now (out .exit)) r ⌝ }
 {
     let mut next = Next {
         head: at,
-        expression: Image::FIRST_HEAD + Image::HEAD_LENGTH * names,
+        expression: Image::FIRST_HEAD + Image::HEAD_LENGTH * after.names,
     };
     let mut k = 0;
-    while k < names {
-        next = put_head(out, next, head_after(image, step, k));
+    while k < after.names {
+        next = put_head(out, next, head_after(image, step, after.thread, k));
         k += 1;
     }
     next.head
 }
 
-// Writes their expressions.
+// Writes the expressions of so many names.
 fn put_expressions(out: &mut [u8], at: usize, image: &[u8], step: Step, names: usize) -> usize
     requires { ⌜ CanWrite (now image) step × ((names ≡ names-after (now image) step) × (at ≡ head-offset (names-after (now image) step))) ⌝ }
     requires { ⌜ Room (names-after (now image) step) (component-after (now image) step) (now out) ⌝ }
@@ -204,13 +205,13 @@ fn put_expressions(out: &mut [u8], at: usize, image: &[u8], step: Step, names: u
     next
 }
 
-// Writes the image after a step, of so many names.
-pub fn put_image_after(image: &[u8], step: Step, names: usize, out: &mut [u8]) -> usize
-    requires { ⌜ CanWrite (now image) step × (names ≡ names-after (now image) step) ⌝ }
+// Writes the image after a step. What was counted before is handed on: its names, and the bytes of the expression of the thread that goes.
+pub fn put_image_after(image: &[u8], step: Step, after: Size, out: &mut [u8]) -> usize
+    requires { ⌜ CanWrite (now image) step × Handed (now image) step after ⌝ }
     requires { ⌜ (length (image-after (now image) step) ≤ length (now out)) × (length (image-after (now image) step) < two-byte-values) ⌝ }
     ensures { λ r. ⌜ Wrote (now (out .entry)) 0 (image-after (now (image .entry)) step) (now (out .exit)) r ⌝ }
 {
-    let after_names = put_u16(out, 0, names);
-    let after_heads = put_heads(out, after_names, image, step, names);
-    put_expressions(out, after_heads, image, step, names)
+    let after_names = put_u16(out, 0, after.names);
+    let after_heads = put_heads(out, after_names, image, step, after);
+    put_expressions(out, after_heads, image, step, after.names)
 }

@@ -5,10 +5,11 @@ use Prim.Native.Nat.{_+_, _-_, ℕ}
 use native.Mathlib.Omega.{arith}
 use lib.ListN.{drop, length, length-append, length-drop, take}
 use lib.Seq.{drop-at, drop-drop, take-at}
-use Rattle.calculus.specs.Syntax.{Exp, app, both, case-of, Shape}
-use Rattle.calculus.specs.Reduction.{Context, hole, in-function, in-argument, in-first, in-second, in-subject, plug}
+use Rattle.calculus.specs.Syntax.{Exp, app, both, case-of, Shape, thread-of, Config, sum-in}
+use Rattle.calculus.specs.Reduction.{Context, hole, in-function, in-argument, in-first, in-second, in-subject, plug, Has, put}
 use Rattle.calculus.specs.Step.{application, Redex, subject}
-use Rattle.calculus.specs.Image.{Closed, closed-app, closed-both, closed-case, nodes, size}
+use Rattle.calculus.specs.Image.{Closed, closed-app, closed-both, closed-case, nodes, nodes-all, size}
+use Rattle.calculus.specs.Theory.Configurations.{sum-set}
 use Rattle.term.specs.Expressions.{both-tag, bytes, case-tag, TermAt, FitsBytes}
 use Rattle.term.proofs.Sizes.{length-bytes}
 use Rattle.term.proofs.Trees.{fits-app, fits-both, fits-case}
@@ -38,6 +39,11 @@ plug-nodes (in-argument v w F) e = omega (arith, plug-nodes F e)
 plug-nodes (in-first s t F e₂) e = omega (arith, plug-nodes F e)
 plug-nodes (in-second s t v w F) e = omega (arith, plug-nodes F e)
 plug-nodes (in-subject s F e₂) e = omega (arith, plug-nodes F e)
+
+-- the nodes of a configuration whose thread x has e in place of r
+pub put-nodes : (C : Config) (x : ℕ) (F : Context) (r : Exp) → Has C x F r → (e : Exp) → nodes-all (put C x F e) + nodes r ≡ nodes-all C + nodes e
+unfolding sum-in
+put-nodes C x F r h e = omega (arith, sum-set (sum-in nodes) C x (thread-of (plug F e)) h, plug-nodes F e, plug-nodes F r)
 
 -- What fits in bytes
 

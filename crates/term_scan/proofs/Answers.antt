@@ -50,6 +50,13 @@ scan-stands l at e n inside q = is (read-term (drop at l)) refl q
     is none r q = absurd (refused-ends (sym q))
     is (got t rest) r q = stood (record { inside = inside; good = is-good (drop at l) t rest r })
 
+-- so of a term that stands it answers, with the term's nodes
+pub not-refused : {l : List ℕ} {at : ℕ} → GoodAt l at → Refused ≡ extent-at l at → ⊥
+not-refused g q = refused-ends (q ∙ scan-good g)
+
+pub scanned-nodes : {l : List ℕ} {at e n : ℕ} → GoodAt l at → Ends e n ≡ extent-at l at → n ≡ nodes (term-at l at)
+scanned-nodes {l} {at} {e} {n} g q = sym (scan-stands l at e n (g .inside) q .count)
+
 -- the same under a budget
 pub small-good : {l : List ℕ} {at : ℕ} (b : ℕ) → GoodAt l at → nodes (term-at l at) ≤ b → small b (extent-at l at) ≡ Ends (end-at l at) (nodes (term-at l at))
 small-good {l} {at} b g le = rw (scan-good g, le-leb (nodes (term-at l at)) b le)

@@ -20,38 +20,37 @@ use Rattle.term.proofs.Shapes.{uses-one, uses-two}
 use Rattle.term_walk.specs.Frames.{max-waits, opened, Passed, stack-of}
 use Rattle.term_walk.proofs.Law.{fold, from, from-good, from-node, from-none, Walk}
 use Rattle.term_walk.proofs.Stack.{pop}
+use Rattle.term_scan.proofs.Many.{seen-end}
+use Rattle.term_scan.proofs.Answers.{scanned-nodes}
 use Rattle.term_scan.proofs.Going.{Going, going-few, going-node, going-on, going-start}
-use Rattle.term_subst.specs.declared.Uses.{Uses}
+use Rattle.term_subst.specs.Counted.{UsesOf}
 use Rattle.term_subst.specs.Variable.{is-variable}
 use Rattle.term_subst.proofs.Nodes.{none-one, none-two, uses-leaf}
 
-abbrev counted : ℕ → ℕ → Uses
-counted a b = record { inner = a; outer = b }
-
 -- how often the two innermost variables around an expression stand in it
-abbrev uses-of : Exp → Uses
-uses-of e = counted (uses 0 e) (uses 1 e)
+abbrev uses-of : Exp → ℕ × ℕ
+uses-of e = (uses 0 e, uses 1 e)
 
 -- a use at a node
 abbrev pub use-at : ℕ → ℕ → ℕ → ℕ
 use-at refers arg d = cond (is-variable refers arg d) 1 0
 
 -- the walk that counts the uses of two variables, those counted before in hand
-abbrev pub counting : Walk (ℕ → ℕ → Uses)
+abbrev pub counting : Walk (ℕ → ℕ → ℕ × ℕ)
 counting =
     record {
       first = λ tag d. d;
       last = λ tag d. d + binders-of tag;
       visit = λ d tag arg next a b. next (a + use-at (refers-of tag) arg d) (b + use-at (refers-of tag) arg (d + 1));
-      refused = λ a b. counted 0 0;
-      done = λ l a b. counted a b;
+      refused = λ a b. (0, 0);
+      done = λ l a b. (a, b);
       strict = λ d tag arg. refl;
     }
 
 unused : {x : Bool} → x ≡ false → _≡_ {A = ℕ} (cond x 1 0) 0
 unused e = rw e refl
 
-fold-uses : (d : ℕ) (t : Tree) → Shaped t → (next : ℕ → ℕ → Uses) (a b : ℕ) →
+fold-uses : (d : ℕ) (t : Tree) → Shaped t → (next : ℕ → ℕ → ℕ × ℕ) (a b : ℕ) →
     fold counting d t next a b ≡ next (a + uses d (exp-of t)) (b + uses (d + 1) (exp-of t))
 unfolding fold exp-of
 fold-uses d (leaf tag arg) f next a b = ap₂ next (ap (λ x. a + x) (sym (uses-leaf d arg tag f))) (ap (λ x. b + x) (sym (uses-leaf (d + 1) arg tag f)))
@@ -79,25 +78,23 @@ unfolding term-of tree-at first-tree
 whole {l} {at} g =
     ap (λ x. x 0 0) (from-good counting 0 g)
     ∙ fold-uses 0 (tree-at l at) (shaped-at g) _ 0 0
-    ∙ ap₂ counted (omega arith) (omega arith)
+    ∙ ap₂ (λ a b. (a, b)) (omega arith) (omega arith)
 
--- a, b uses counted
-pub record Counting (l : List ℕ) (at here waits : ℕ) (frames : List ℕ) (a b : ℕ) : Type 0 where
+-- n nodes read, a, b uses counted
+pub record Counting (l : List ℕ) (at here waits : ℕ) (frames : List ℕ) (n a b : ℕ) : Type 0 where
   pub good : GoodAt l at
   pub small : nodes (term-at l at) ≤ max-nodes
-  pub read : ℕ
-  pub going : Going l at here read waits frames
-  pub few : (a ≤ read) × (b ≤ read)
+  pub going : Going l at here n waits frames
+  pub few : (a ≤ n) × (b ≤ n)
   pub same : uses-of (term-at l at) ≡ from counting (stack-of waits frames) l here a b
 
 pub counting-start : (l : List ℕ) (at : ℕ) (frames : List ℕ) → GoodAt l at → nodes (term-at l at) ≤ max-nodes → length frames ≡ max-waits → getD frames 0 0 ≡ 0 →
-    Counting l at at 1 frames 0 0
+    Counting l at at 1 frames 0 0 0
 unfolding stack-of
 counting-start l at frames g small room z =
     record {
       good = g;
       small = small;
-      read = 0;
       going = going-start l at frames (g .inside) room z;
       few = (omega arith, omega arith);
       same = sym (whole g) ∙ ap (λ x. from counting (x ∷ []) l at 0 0) (sym z);
@@ -107,22 +104,23 @@ at-most-one : (x : Bool) → cond x 1 0 ≤ 1
 at-most-one true = omega arith
 at-most-one false = omega arith
 
-module _ {l : List ℕ} {at here waits : ℕ} {frames : List ℕ} {a b : ℕ} (c : Counting l at here waits frames a b) where
-  found : waits ≡ 0 → counted a b ≡ uses-of (term-at l at)
+module _ {l : List ℕ} {at here waits : ℕ} {frames : List ℕ} {n a b : ℕ} (c : Counting l at here waits frames n a b) where
+  found : waits ≡ 0 → (a, b) ≡ uses-of (term-at l at)
   unfolding stack-of
   found e = sym (c .same ∙ ap (λ x. from counting (stack-of x frames) l here a b) e ∙ ap (λ x. x a b) (from-none counting l here))
 
-  pub counting-done : waits ≡ 0 → (a ≡ uses 0 (term-at l at)) × (b ≡ uses 1 (term-at l at))
-  counting-done e = (ap (λ u. u .inner) (found e), ap (λ u. u .outer) (found e))
+  pub counting-done : waits ≡ 0 → UsesOf (term-at l at) (record { nodes = n; inner = a; outer = b })
+  counting-done e =
+      record { nodes = scanned-nodes (c .good) (seen-end (c .going .seen) e); inner = ap (λ u. u .0) (found e); outer = ap (λ u. u .1) (found e) }
 
   -- the nodes read and the terms to come
-  pub counting-few : c .read + waits ≤ max-nodes
+  pub counting-few : n + waits ≤ max-nodes
   counting-few = omega (arith, going-few (c .going) (c .good), c .small)
 
   module _ (some : 0 < waits) where
     -- the numbers stay small
-    pub counting-room : (a < max-nodes) × (b < max-nodes)
-    counting-room = (omega (arith, counting-few, some, c .few .0), omega (arith, counting-few, some, c .few .1))
+    pub counting-room : (n < max-nodes) × ((a < max-nodes) × (b < max-nodes))
+    counting-room = (omega (arith, counting-few, some), (omega (arith, counting-few, some, c .few .0), omega (arith, counting-few, some, c .few .1)))
 
     abbrev d : ℕ
     d = getD frames (waits - 1) 0
@@ -133,22 +131,21 @@ module _ {l : List ℕ} {at here waits : ℕ} {frames : List ℕ} {a b : ℕ} (c
           ≡ from counting (opened (h .subterms) d (d + h .binders) (stack-of (waits - 1) frames)) l (here + h .size)
           (a + use-at (h .refers) (h .arg) d) (b + use-at (h .refers) (h .arg) (d + 1))
       turn =
-          let n = going-node (c .going) some is in
+          let f = going-node (c .going) some is in
           c .same
           ∙ ap (λ x. from counting x l here a b) (pop waits frames some)
           ∙ ap (λ x. x a b) (from-node counting d (stack-of (waits - 1) frames) l here is)
           ∙ ap₂
           (λ x y. from counting (opened (h .subterms) d (d + x) (stack-of (waits - 1) frames)) l (here + h .size)
           (a + use-at y (h .arg) d) (b + use-at y (h .arg) (d + 1)))
-          (n .binds) (n .refers)
+          (f .binds) (f .refers)
 
       pub counting-on : {new : List ℕ} {next : ℕ} → Passed frames waits (h .subterms) d (d + h .binders) new next →
-          Counting l at (here + h .size) next new (a + use-at (h .refers) (h .arg) d) (b + use-at (h .refers) (h .arg) (d + 1))
+          Counting l at (here + h .size) next new (n + 1) (a + use-at (h .refers) (h .arg) d) (b + use-at (h .refers) (h .arg) (d + 1))
       counting-on {new} {next} p =
           record {
             good = c .good;
             small = c .small;
-            read = c .read + 1;
             going = going-on (c .going) some is p;
             few = (omega (arith, c .few .0, at-most-one (is-variable (h .refers) (h .arg) d)), omega (arith, c .few .1, at-most-one (is-variable (h .refers) (h .arg) (d + 1))));
             same =

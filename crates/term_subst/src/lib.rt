@@ -11,12 +11,12 @@ ghost use mathlib.Core.Bool.{cond};
 ghost use Prim.Native.Nat.{_*_, _+_, _≤_};
 ghost use lib.ListN.{length};
 ghost use Rattle.calculus.specs.Limits.{max-nodes};
-ghost use Rattle.calculus.specs.Names.{uses};
 ghost use Rattle.calculus.specs.Image.{nodes};
 ghost use Rattle.term.specs.Reader.{end-at, GoodAt};
 ghost use Rattle.term.specs.Expressions.{bytes, term-at};
 ghost use Rattle.buffer.specs.Written.{Wrote};
 ghost use Rattle.term_subst.specs.Variable.{is-variable};
+ghost use Rattle.term_subst.specs.Counted.{UsesOf};
 ghost use Rattle.term_subst.specs.Replaced.{replaced};
 
 // Whether a node refers to the variable with number `depth` around it.
@@ -39,36 +39,47 @@ fn use_of(refers: u8, arg: usize, depth: usize) -> usize
     0
 }
 
-// How often two variables stand in a term: the innermost around it, and the next.
+// The nodes of a term, and how often two variables stand in it: the innermost around it, and the next.
 pub struct Uses {
+    pub nodes: usize,
     pub inner: usize,
     pub outer: usize,
 }
 
-// How often the two innermost variables around the term at `at` stand in it.
+// One walk over the term at `at`: its nodes, and how often the two innermost variables around it stand in it.
 pub fn count_uses(s: &[u8], at: usize) -> Uses
     requires { ⌜ GoodAt (now s) at × (nodes (term-at (now s) at) ≤ max-nodes) ⌝ }
-    ensures { λ r. ⌜ (r .inner ≡ uses 0 (term-at (now (s .entry)) at)) × (r .outer ≡ uses 1 (term-at (now (s .entry)) at)) ⌝ }
+    ensures { λ r. ⌜ UsesOf (term-at (now (s .entry)) at) r ⌝ }
 {
     let mut frames = [0u16; Frames::MAX_WAITS];
     let mut waits: usize = 1;
     let mut here = at;
+    let mut nodes: usize = 0;
     let mut inner: usize = 0;
     let mut outer: usize = 0;
     while 0 < waits {
         let Front::Is(node) = term::node_at(s, here) else {
-            return Uses { inner, outer };
+            return Uses {
+                nodes,
+                inner,
+                outer,
+            };
         };
         let around = frames[waits - 1];
         let size = node.size;
         let subterms = node.subterms;
         let last = around + (node.binders as u16);
+        nodes += 1;
         inner += use_of(node.refers, node.arg, around as usize);
         outer += use_of(node.refers, node.arg, (around as usize) + 1);
         waits = pass(&mut frames, waits, subterms, around, last);
         here += size;
     }
-    Uses { inner, outer }
+    Uses {
+        nodes,
+        inner,
+        outer,
+    }
 }
 
 // Bytes of a slice, from one position to another.

@@ -39,7 +39,7 @@ put-image-after-requires c κs =
     let st = start (searched f) in
     let g = goes f .0 in
     let l = after-fits g in
-    ((can-write g (are-bytes (searched f)) (st .pre .0 .stands), g .named), (omega (arith, l, st .pre .1 .1), omega (arith, l)))
+    ((can-write g (are-bytes (searched f)) (st .pre .0 .stands), g .handed), (omega (arith, l, st .pre .1 .1), omega (arith, l)))
 
 add-t15 : tie.Need-add-t15
 add-t15 c =

@@ -23,6 +23,7 @@ use Rattle.image_check.specs.Theory.Names.{config-parts}
 use Rattle.image_check.specs.Theory.Whole.{whole-sound}
 use Rattle.step_look.proofs.look_at.Statement.{statement}
 use Rattle.step_look.specs.Looked.{Staying, goes, stays-so}
+use Rattle.step_look.specs.Theory.Writing.{countable}
 use Rattle.step_look.proofs.Looking.{by-decision, by-done, by-no-room, by-no-thread, by-room, few-before, no-thread-there, not-goes, room-is, stepped, thread-is-there}
 use Rattle.step_look.proofs.look_at.Tie as tie
 
@@ -119,7 +120,8 @@ returns-3 c =
 size-after-requires : tie.Need-size-after-requires
 size-after-requires c κs =
     let st = start (goes-in c) in
-    (goes-by c .movable, omega (arith, counted st, few-before (image st) (are-bytes (known (goes-in c))) (st .pre .stands)))
+    let b = are-bytes (known (goes-in c)) in
+    (countable (goes-by c) b (st .pre .stands), omega (arith, counted st, few-before (image st) b (st .pre .stands)))
 
 -- the limits asked are those of the outcome
 limits : (w : tie.After-within-limits) → limits-test (goes-by (w .before .before) .outcome) ≡ w .within-limits .result

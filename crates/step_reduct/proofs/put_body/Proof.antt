@@ -1,5 +1,5 @@
 -- `step_reduct::put_body` meets its contract.
-use Rattle.step_reduct.specs.Substitutions.{substituted}
+use Rattle.step_rules.specs.Substitutions.{substituted}
 use borrow.Author.Needs.{needs}
 use Rattle.step_reduct.proofs.put_body.Statement.{statement}
 use Rattle.step_reduct.proofs.put_body.Tie as tie
@@ -9,7 +9,7 @@ unfolding substituted
 put-substituted-requires c κs =
     let start = c .before .before .before in
     let w = start .pre .0 in
-    ((w .body .good, w .body .few), ((w .inner, w .inner-ends), ((w .outer, w .outer-ends), start .pre .1)))
+    ((w .body .counted .good, w .body .counted .few), ((w .inner .counted .good, w .inner .ends), ((w .outer .counted .good, w .outer .ends), start .pre .1)))
 
 returns : tie.Need-returns
 unfolding substituted

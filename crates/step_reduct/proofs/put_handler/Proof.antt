@@ -4,7 +4,8 @@ use Prim.Native.Nat.{_-_, _+_, ℕ}
 use native.Mathlib.Omega.{arith}
 use Rattle.buffer.specs.Theory.Writes.{same, then, known-as}
 use Rattle.step_rules.specs.Effects.{name-bytes, effect-of}
-use Rattle.step_reduct.proofs.Redexes.{argument-length, redex-by, names-by, length-4}
+use Rattle.step_rules.specs.Theory.Lengths.{argument-length, redex-by, length-4}
+use Rattle.step_reduct.proofs.Redexes.{names-by}
 use borrow.Author.Needs.{needs}
 use Rattle.step_reduct.proofs.put_handler.Statement.{statement}
 use Rattle.step_reduct.proofs.put_handler.Tie as tie
@@ -26,14 +27,14 @@ put-byte-requires : tie.Need-put-byte-requires
 put-byte-requires c κs =
     let start = c .before .before .before .before in
     let w = start .pre .0 in
-    let n = length-4 w (start .pre .1 .0) in
+    let n = length-4 (w .movable) (start .pre .1 .0) in
     omega (arith, n, start .pre .1 .1)
 
 put-byte-requires-2 : tie.Need-put-byte-requires-2
 put-byte-requires-2 c κs =
     let start = before-names-of (c .before .before .before .before .before) in
     let w = start .pre .0 in
-    let n = length-4 w (start .pre .1 .0) in
+    let n = length-4 (w .movable) (start .pre .1 .0) in
     omega (arith, n, c .before .before .before .put-byte .ensures .ends, same (c .before .before .before .put-byte .ensures), start .pre .1 .1)
 
 put-argument-requires : tie.Need-put-argument-requires
@@ -42,8 +43,8 @@ put-argument-requires c κs =
     let at-put-byte = before-put-byte2 at-put-byte2 in
     let start = at-put-byte .before .before .before .before .before in
     let w = start .pre .0 in
-    let n = length-4 w (start .pre .1 .0) in
-    (w, omega (arith, n, argument-length w, at-put-byte .put-byte .ensures .ends, same (at-put-byte .put-byte .ensures), at-put-byte2 .put-byte2 .ensures .ends, same (at-put-byte2 .put-byte2 .ensures), start .pre .1 .1))
+    let n = length-4 (w .movable) (start .pre .1 .0) in
+    (w, omega (arith, n, argument-length (w .movable), at-put-byte .put-byte .ensures .ends, same (at-put-byte .put-byte .ensures), at-put-byte2 .put-byte2 .ensures .ends, same (at-put-byte2 .put-byte2 .ensures), start .pre .1 .1))
 
 put-name-requires : tie.Need-put-name-requires
 unfolding effect-of
@@ -54,8 +55,8 @@ put-name-requires c κs =
     let at-names-of = at-put-byte .before .before in
     let start = before-names-of at-names-of in
     let w = start .pre .0 in
-    let n = length-4 w (start .pre .1 .0) in
-    (omega (arith, names-by w (start .pre .1 .0), at-names-of .names-of .ensures .0), omega (arith, n, argument-length w, at-put-byte .put-byte .ensures .ends, same (at-put-byte .put-byte .ensures), at-put-byte2 .put-byte2 .ensures .ends, same (at-put-byte2 .put-byte2 .ensures), at-put-argument .put-argument .ensures .ends, same (at-put-argument .put-argument .ensures), start .pre .1 .1))
+    let n = length-4 (w .movable) (start .pre .1 .0) in
+    (omega (arith, names-by w (start .pre .1 .0), at-names-of .names-of .ensures .0), omega (arith, n, argument-length (w .movable), at-put-byte .put-byte .ensures .ends, same (at-put-byte .put-byte .ensures), at-put-byte2 .put-byte2 .ensures .ends, same (at-put-byte2 .put-byte2 .ensures), at-put-argument .put-argument .ensures .ends, same (at-put-argument .put-argument .ensures), start .pre .1 .1))
 
 put-name-requires-2 : tie.Need-put-name-requires-2
 unfolding effect-of
@@ -67,8 +68,8 @@ put-name-requires-2 c κs =
     let at-names-of = at-put-byte .before .before in
     let start = before-names-of at-names-of in
     let w = start .pre .0 in
-    let n = length-4 w (start .pre .1 .0) in
-    (omega (arith, names-by w (start .pre .1 .0), at-names-of .names-of .ensures .0), omega (arith, n, argument-length w, at-put-byte .put-byte .ensures .ends, same (at-put-byte .put-byte .ensures), at-put-byte2 .put-byte2 .ensures .ends, same (at-put-byte2 .put-byte2 .ensures), at-put-argument .put-argument .ensures .ends, same (at-put-argument .put-argument .ensures), at-put-name .put-name .ensures .ends, same (at-put-name .put-name .ensures), start .pre .1 .1))
+    let n = length-4 (w .movable) (start .pre .1 .0) in
+    (omega (arith, names-by w (start .pre .1 .0), at-names-of .names-of .ensures .0), omega (arith, n, argument-length (w .movable), at-put-byte .put-byte .ensures .ends, same (at-put-byte .put-byte .ensures), at-put-byte2 .put-byte2 .ensures .ends, same (at-put-byte2 .put-byte2 .ensures), at-put-argument .put-argument .ensures .ends, same (at-put-argument .put-argument .ensures), at-put-name .put-name .ensures .ends, same (at-put-name .put-name .ensures), start .pre .1 .1))
 
 returns : tie.Need-returns
 unfolding effect-of
@@ -84,7 +85,7 @@ returns c =
     let m = at-names-of .names-of .ensures .0 in
     known-as
     (then (then (then (then (at-put-byte .put-byte .ensures) (at-put-byte2 .put-byte2 .ensures)) (at-put-argument .put-argument .ensures)) (known-as (at-put-name .put-name .ensures) (ap name-bytes m))) (known-as (at-put-name2 .put-name2 .ensures) (ap (λ (k : ℕ). name-bytes (k + 1)) m)))
-    (sym (redex-by w (start .pre .1 .0)))
+    (sym (redex-by (w .movable) (start .pre .1 .0)))
 
 pub put-handler-spec : {M : Type 1} → statement M
 put-handler-spec =

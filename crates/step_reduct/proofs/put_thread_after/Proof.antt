@@ -6,7 +6,8 @@ use lib.ListN.{take, drop}
 use Rattle.buffer.specs.Theory.Writes.{same, then, known-as}
 use Rattle.step_rules.specs.Effects.{bytes-between}
 use Rattle.step_rules.specs.Moves.{expression-after}
-use Rattle.step_reduct.proofs.Redexes.{length-between, has-thread, expression-length}
+use Rattle.step_rules.specs.Theory.Lengths.{length-between, expression-length}
+use Rattle.step_reduct.proofs.Redexes.{has-thread}
 use borrow.Author.Needs.{needs}
 use Rattle.step_reduct.proofs.put_thread_after.Statement.{statement}
 use Rattle.step_reduct.proofs.put_thread_after.Tie as tie
@@ -32,7 +33,7 @@ put-part-requires c κs =
     let start = c .before .before .before .before .before in
     let w = start .pre .0 in
     let o = c .before .before .offset-at .ensures .0 in
-    (omega (arith, o, w .movable .begins), (omega (arith, w .movable .second, w .movable .third, w .movable .ends, w .movable .inside), omega (arith, o, expression-length w, start .pre .1)))
+    (omega (arith, o, w .movable .begins), (omega (arith, w .movable .second, w .movable .third, w .movable .ends, w .movable .inside), omega (arith, o, expression-length (w .movable), start .pre .1)))
 
 first-part : (c : tie.After-put-redex-after-arg) → c .before .before .before .put-part .result ≡ before-length-at (before-put-redex-after-arg c) .args .at + (before-length-at (before-put-redex-after-arg c) .args .step .meeting .at - (before-put-redex-after-arg c) .before .offset-at .result)
 unfolding bytes-between
@@ -54,7 +55,7 @@ put-redex-after-requires c κs =
     let w = start .pre .0 in
     let o = at-offset-at .offset-at .ensures .0 in
     let u = c .before .before .before .put-part .ensures in
-    (w, omega (arith, first-part c, expression-length w, u .ends, same u, start .pre .1))
+    (w, omega (arith, first-part c, expression-length (w .movable), u .ends, same u, start .pre .1))
 
 put-part-requires-2 : tie.Need-put-part-requires-2
 put-part-requires-2 c κs =
@@ -68,7 +69,7 @@ put-part-requires-2 c κs =
     let l = at-length-at .length-at .ensures .0 in
     let u = at-put-part .put-part .ensures in
     let v = c .before .before .before .put-redex-after .ensures in
-    (omega (arith, o, l, w .movable .ends), (omega (arith, o, l, w .movable .inside), omega (arith, o, l, first-part at-put-redex-after-arg, expression-length w, u .ends, same u, v .ends, same v, start .pre .1)))
+    (omega (arith, o, l, w .movable .ends), (omega (arith, o, l, w .movable .inside), omega (arith, o, l, first-part at-put-redex-after-arg, expression-length (w .movable), u .ends, same u, v .ends, same v, start .pre .1)))
 
 returns : tie.Need-returns
 unfolding expression-after bytes-between

@@ -1,7 +1,7 @@
 -- `step_room::nodes_at` meets its contract.
 use mathlib.Core.Path.{sym, _∙_}
 use borrow.Author.Needs.{needs}
-use Rattle.step_room.proofs.Scanned.{not-refused, scanned-nodes}
+use Rattle.term_scan.proofs.Answers.{not-refused, scanned-nodes}
 use Rattle.step_room.proofs.nodes_at.Statement.{statement}
 use Rattle.step_room.proofs.nodes_at.Tie as tie
 

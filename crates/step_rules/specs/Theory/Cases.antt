@@ -5,7 +5,6 @@ use Prim.Native.Nat.{ℕ}
 use Rattle.calculus.specs.Bytes.{two-bytes, word}
 use Rattle.calculus.specs.Lists.{tabulate}
 use Rattle.calculus.specs.Image.{nodes}
-use Rattle.calculus.specs.Names.{uses}
 use Rattle.calculus.specs.Reduction.{substitute}
 use Rattle.term.specs.Forms.{form-of, forms}
 use Rattle.term.specs.Numbers.{value-of}
@@ -128,5 +127,5 @@ Hold [] = Unit {0}
 Hold (r ∷ rs) = ((image-after (r .before) (r .step) ≡ r .next) × (nodes-after (r .nodes-before) (r .before) (r .step) ≡ r .nodes-next)) × Hold rs
 
 pub cases : Hold rows
-unfolding image-after components-after component-after other-after look-up from-name expression-after effect-of taken-apart bytes-between names-after nodes-after tabulate image-bytes heads head expressions two-bytes word names kind-at companion-at offset-at length-at expression-at encoded-at bytes const-bytes substitute uses nodes term-of exp-of leaf-exp leaf-forms two-exp two-forms both-tag case-tag read-term read form-of forms value-of
+unfolding image-after components-after component-after other-after look-up from-name expression-after effect-of taken-apart bytes-between names-after nodes-after tabulate image-bytes heads head expressions two-bytes word names kind-at companion-at offset-at length-at expression-at encoded-at bytes const-bytes substitute nodes term-of exp-of leaf-exp leaf-forms two-exp two-forms both-tag case-tag read-term read form-of forms value-of
 cases = ((refl, refl), ((refl, refl), ((refl, refl), ((refl, refl), ((refl, refl), ((refl, refl), ((refl, refl), ((refl, refl), ((refl, refl), ((refl, refl), ((refl, refl), ((refl, refl), tt))))))))))))

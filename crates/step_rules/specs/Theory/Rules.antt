@@ -25,8 +25,7 @@ use Rattle.image_layout.specs.Slice.{names, offset-at, length-at, encoded-at}
 use Rattle.image.specs.Configuration.{encode, config-of, image-of}
 use Rattle.image.specs.Owned.{thread-holding, cell-holding}
 use Rattle.term_redex.specs.declared.Meeting.{Meeting}
-use Rattle.term_redex.proofs.Contexts.{closed-components, closed-parts, closed-subject, components-stand, plug-closed, plug-nodes}
-use Rattle.calculus.specs.Theory.Weights.{nodes-both, nodes-substitute}
+use Rattle.term_redex.proofs.Contexts.{closed-components, closed-parts, closed-subject, components-stand, plug-closed, put-nodes}
 use Rattle.step_rules.specs.declared.Move.{Move}
 use Rattle.step_rules.specs.declared.Move.the-variants.{Beta, ThreadNew, HandleNew, HandleBind, CellNew}
 use Rattle.step_rules.specs.Positions.{name-length, to-body, to-component}
@@ -63,8 +62,7 @@ module _ {s : List ℕ} {x : ℕ} {m : Meeting} {F : Context} {r : Exp} {d : Red
 
   -- the nodes of a configuration whose thread x has e in the place of the application or case
   nodes-put : (e : Exp) → nodes-all (put (config-of s) x F e) + nodes r ≡ nodes-all (config-of s) + nodes e
-  unfolding sum-in
-  nodes-put e = omega (arith, sum-set (sum-in nodes) (config-of s) x (thread-of (plug F e)) (M .thread), plug-nodes F e, plug-nodes F r)
+  nodes-put e = put-nodes (config-of s) x F r (M .thread) e
 
   -- the thread's component after a step
   abbrev thread-after : Exp → Encoded
@@ -93,7 +91,7 @@ beta-moves {s} {x} {t} {m} {F} {e} {v} M =
     stepped M Beta (substitute 0 v e) _ (names s) _ refl
     (ap₂ (λ a c. bytes (substitute 0 a c)) p q)
     (table-put M (substitute 0 v e)) (omega arith) (λ k. refl)
-    (rw (p, q) (omega (arith, nodes-put M (substitute 0 v e), nodes-substitute 0 v e)))
+    (rw (p, q) (omega (arith, nodes-put M (substitute 0 v e))))
     (record { body = counted body (omega (arith, few M)); body-ends = omega (arith, M .placed .second-at, found-at body .ends); body-closed = rw q (closed-body (closed-parts (closed-there M) .0)) })
 
 -- rules 2, 4 and 6: new names. The thread is none of them.
@@ -296,7 +294,7 @@ module _ {s : List ℕ} {x t : ℕ} {m : Meeting} {F : Context} {shape : Shape} 
       stepped M by outcome (put (config-of s) x F outcome) (names s) _ moves
       (ap (λ (i : Effect). i .redex) effect ∙ rw (p, q, b) refl)
       (table-put M outcome) (rw effect (omega arith)) (λ k. rw effect refl)
-      (rw (effect, p, q, b) (omega (arith, nodes-put M outcome, nodes-both first-is-closed v₂ e)))
+      (rw (effect, p, q, b) (omega (arith, nodes-put M outcome)))
       has
 
 pub case-moves : {s : List ℕ} {x t : ℕ} {m : Meeting} {F : Context} (shape : Shape) {v₁ v₂ e : Exp} {u : Value v₁} {u′ : Value v₂} →

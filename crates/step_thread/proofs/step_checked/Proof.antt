@@ -36,7 +36,7 @@ put-image-after-requires c κs =
     let g = c .before .before .before in
     let st = start (looked g) in
     let f = after-fits (goes-by g) in
-    ((can-write (goes-by g) (are-bytes (looked g)) (st .pre .0 .stands), goes-by g .named), (omega (arith, f, st .pre .1), omega (arith, f)))
+    ((can-write (goes-by g) (are-bytes (looked g)) (st .pre .0 .stands), goes-by g .handed), (omega (arith, f, st .pre .1), omega (arith, f)))
 
 returns : tie.Need-returns
 returns c =

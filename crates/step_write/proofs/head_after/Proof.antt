@@ -5,7 +5,7 @@ use Rattle.image_layout.specs.Theory.Slice.{encoded-kind, encoded-companion, en
 use Rattle.image_layout.specs.Theory.Reading.{has-head, expression-length}
 use Rattle.step_write.specs.Changes.{changed}
 use Rattle.step_write.proofs.Components.{becomes-as, as-head, started-length}
-use Rattle.step_reduct.proofs.Redexes.{argument-length}
+use Rattle.step_rules.specs.Theory.Lengths.{argument-length}
 use borrow.Author.Needs.{needs}
 use Rattle.step_write.proofs.head_after.Statement.{statement}
 use Rattle.step_write.proofs.head_after.Tie as tie
@@ -45,9 +45,9 @@ returns c =
 returns-2 : tie.Need-returns-2
 unfolding changed
 returns-2 c =
-    let p = c .before .before .before .before in
+    let p = c .before .before .before in
     let h = c .holding .ensures in
-    as-head (becomes-as (p .change-of .ensures) (c .before .before .enum-told2 .given .1) .is) (record { kinds = h .0; companions = h .1 .0; sizes = h .1 .1 ∙ c .before .thread-size .ensures })
+    as-head (becomes-as (p .change-of .ensures) (c .before .enum-told2 .given .1) .is) (record { kinds = h .0; companions = h .1 .0; sizes = h .1 .1 ∙ start p .pre .1 .0 })
 
 returns-3 : tie.Need-returns-3
 unfolding changed
@@ -61,7 +61,7 @@ unfolding changed
 returns-4 c =
     let p = c .before .before .before .before .before in
     let h = c .holding3 .ensures in
-    as-head (becomes-as (p .change-of .ensures) (c .before .before .before .change .given .1) .is) (record { kinds = h .0; companions = h .1 .0; sizes = h .1 .1 ∙ c .before .argument-size .ensures ∙ sym (argument-length (start p .pre .0)) })
+    as-head (becomes-as (p .change-of .ensures) (c .before .before .before .change .given .1) .is) (record { kinds = h .0; companions = h .1 .0; sizes = h .1 .1 ∙ c .before .argument-size .ensures ∙ sym (argument-length (start p .pre .0 .movable)) })
 
 returns-5 : tie.Need-returns-5
 unfolding changed
@@ -80,7 +80,6 @@ head-after-spec =
     companion-at-requires
     length-at-requires
     (λ c. search needs)
-    (λ c κs. search needs)
     (λ c κs. search needs)
     (λ c. search needs)
     (λ c κs. search needs)

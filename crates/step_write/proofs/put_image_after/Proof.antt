@@ -26,14 +26,14 @@ few : (t : tie.Start) → (first-head ≤ length (t .args .out .now)) × (names-
 few t = room-names (names-after (t .args .image .now) (t .args .step)) (component-after (t .args .image .now) (t .args .step)) (has-room t)
 
 put-u16-requires : tie.Need-put-u16-requires
-put-u16-requires c κs = let t = c .before .before .before in omega (arith, t .pre .0 .1, few t)
+put-u16-requires c κs = let t = c .before .before .before in omega (arith, t .pre .0 .1 .names, few t)
 
 names-wrote : (c : tie.After-put-heads-arg) → (c .before .before .before .put-u16 .result ≡ first-head)
     × Wrote (before-put-heads-arg c .args .out .now) 0 (two-bytes (names-after (before-put-heads-arg c .args .image .now) (before-put-heads-arg c .args .step))) (c .before .before .before .put-u16 .last .0) (c .before .before .before .put-u16 .result)
 names-wrote c =
     let t = before-put-heads-arg c in
     let w = c .before .before .before .put-u16 .ensures in
-    (omega (arith, w .ends, length-two-bytes (t .args .names)), known-as w (ap two-bytes (t .pre .0 .1)))
+    (omega (arith, w .ends, length-two-bytes (t .args .after .names)), known-as w (ap two-bytes (t .pre .0 .1 .names)))
 
 put-heads-requires : tie.Need-put-heads-requires
 put-heads-requires c κs =
@@ -45,7 +45,7 @@ put-expressions-requires c κs =
     let at-put-heads-arg = c .before .before .before .before in
     let t = before-put-heads-arg at-put-heads-arg in
     let w = c .before .before .before .put-heads .ensures in (
-      (t .pre .0 .0, (t .pre .0 .1, heads-end (names-after (t .args .image .now) (t .args .step)) (component-after (t .args .image .now) (t .args .step)) (names-wrote at-put-heads-arg .0) (w .ends))),
+      (t .pre .0 .0, (t .pre .0 .1 .names, heads-end (names-after (t .args .image .now) (t .args .step)) (component-after (t .args .image .now) (t .args .step)) (names-wrote at-put-heads-arg .0) (w .ends))),
       room-kept _ _ {old = t .args .out .now} (has-room t) (same w ∙ same (names-wrote at-put-heads-arg .1)),
     )
 

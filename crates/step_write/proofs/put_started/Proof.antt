@@ -4,7 +4,7 @@ use native.Mathlib.Omega.{arith}
 use Rattle.buffer.specs.Theory.Writes.{same, then, known-as}
 use Rattle.step_rules.specs.Effects.{name-bytes}
 use Rattle.step_write.proofs.Components.{started-length}
-use Rattle.step_reduct.proofs.Redexes.{argument-length}
+use Rattle.step_rules.specs.Theory.Lengths.{argument-length}
 use borrow.Author.Needs.{needs}
 use Rattle.step_write.proofs.put_started.Statement.{statement}
 use Rattle.step_write.proofs.put_started.Tie as tie
@@ -25,7 +25,7 @@ put-argument-requires c κs =
     let start = before-put-byte at-put-byte in
     let w = start .pre .0 .0 in
     let u = at-put-byte .put-byte .ensures in
-    (w, omega (arith, started-length w, argument-length w, u .ends, same u, start .pre .1))
+    (w, omega (arith, started-length w, argument-length (w .movable), u .ends, same u, start .pre .1))
 
 put-name-requires : tie.Need-put-name-requires
 put-name-requires c κs =
@@ -35,7 +35,7 @@ put-name-requires c κs =
     let w = start .pre .0 .0 in
     let u = at-put-byte .put-byte .ensures in
     let v = at-put-argument .put-argument .ensures in
-    (omega (arith, c .names-of .ensures .0, start .pre .0 .1), omega (arith, started-length w, argument-length w, u .ends, same u, v .ends, same v, start .pre .1))
+    (omega (arith, c .names-of .ensures .0, start .pre .0 .1), omega (arith, started-length w, argument-length (w .movable), u .ends, same u, v .ends, same v, start .pre .1))
 
 returns : tie.Need-returns
 returns c =

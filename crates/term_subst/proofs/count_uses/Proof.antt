@@ -18,10 +18,10 @@ use Rattle.term_subst.proofs.count_uses.Statement.{statement}
 use Rattle.term_subst.proofs.count_uses.Tie as tie
 
 abbrev Inv-loop : tie.InvT-loop
-Inv-loop s at frames₀ waits₀ here₀ inner₀ outer₀ frames waits here inner outer = Counting s at here waits frames inner outer
+Inv-loop s at frames₀ waits₀ here₀ nodes₀ inner₀ outer₀ frames waits here nodes inner outer = Counting s at here waits frames nodes inner outer
 
 abbrev μ-loop : tie.MeasureT-loop
-μ-loop s at frames₀ waits₀ here₀ inner₀ outer₀ frames waits here inner outer = length s - here
+μ-loop s at frames₀ waits₀ here₀ nodes₀ inner₀ outer₀ frames waits here nodes inner outer = length s - here
 
 abbrev AtLoop : Type 0
 AtLoop = tie.At-loop Inv-loop μ-loop
@@ -48,7 +48,7 @@ is-head c = sym (c .before .before .before .node-at .ensures) ∙ c .before .nod
 node : (c : AtNode) → NodeAt (all (loop c)) (loop c .loop .here) (head c)
 node c = going-node (loop c .loop .inv .going) (some c) (is-head c)
 
-few : (c : AtNode) → loop c .loop .inv .read + loop c .loop .waits ≤ max-nodes
+few : (c : AtNode) → loop c .loop .nodes + loop c .loop .waits ≤ max-nodes
 few c = counting-few (loop c .loop .inv)
 
 room : (c : AtNode) → loop c .loop .waits < max-waits
@@ -92,6 +92,9 @@ cast-last c = omega (arith, node (c .before) .bound)
 add-last : tie.Need-add-last Inv-loop μ-loop
 add-last c = omega (arith, node (c .before) .bound, low (c .before))
 
+add-nodes : tie.Need-add-nodes Inv-loop μ-loop
+add-nodes c = let n = c .before in omega (arith, counting-room (loop n .loop .inv) (some n) .0)
+
 cast-use-of : tie.Need-cast-use-of Inv-loop μ-loop
 cast-use-of c = omega (arith, low (c .before))
 
@@ -99,7 +102,7 @@ use-of-requires : tie.Need-use-of-requires Inv-loop μ-loop
 use-of-requires c κs = search needs
 
 add-inner : tie.Need-add-inner Inv-loop μ-loop
-add-inner c = let n = c .before .before in omega (arith, counting-room (loop n .loop .inv) (some n) .0, c .use-of .ensures .1)
+add-inner c = let n = c .before .before in omega (arith, counting-room (loop n .loop .inv) (some n) .1 .0, c .use-of .ensures .1)
 
 cast-use-of-2 : tie.Need-cast-use-of-2 Inv-loop μ-loop
 cast-use-of-2 c = omega (arith, low (c .before .before))
@@ -111,7 +114,7 @@ use-of-requires-2 : tie.Need-use-of-requires-2 Inv-loop μ-loop
 use-of-requires-2 c κs = search needs
 
 add-outer : tie.Need-add-outer Inv-loop μ-loop
-add-outer c = let n = c .before .before .before in omega (arith, counting-room (loop n .loop .inv) (some n) .1, c .use-of2 .ensures .1)
+add-outer c = let n = c .before .before .before in omega (arith, counting-room (loop n .loop .inv) (some n) .1 .1, c .use-of2 .ensures .1)
 
 slice-aggregate-pass : tie.Need-slice-aggregate-pass Inv-loop μ-loop
 slice-aggregate-pass c = search needs
@@ -152,6 +155,7 @@ count-uses-spec =
     array-read-around
     cast-last
     add-last
+    add-nodes
     cast-use-of
     use-of-requires
     add-inner

@@ -1,20 +1,16 @@
--- The outcome of a substitution in bytes: it is what the rules say, and its length.
+-- The outcome of a substitution in bytes is what the rules say.
 use mathlib.Core.Path.{_≡_, ap, ap₂, refl}
 use mathlib.Core.Bool.{Bool, cond, false, true}
 use mathlib.Core.List.{List, _++_, _∷_}
-use Prim.Native.Nat.{_*_, _+_, _≤_, suc, ℕ}
-use native.Mathlib.Nat.{mul-le-mul}
+use Prim.Native.Nat.{_+_, _≤_, suc, ℕ}
 use native.Mathlib.Omega.{arith}
 use lib.Dec.{eqb}
-use lib.ListN.{length, length-append}
 use Rattle.calculus.specs.Syntax.{Exp, var, name, const, lam, app, both, case-of}
 use Rattle.calculus.specs.Reduction.{substitute}
-use Rattle.calculus.specs.Names.{uses}
-use Rattle.calculus.specs.Image.{Closed, closed-app, closed-both, closed-case, closed-const, closed-lam, closed-name, closed-var, nodes, size}
+use Rattle.calculus.specs.Image.{Closed, closed-app, closed-both, closed-case, closed-const, closed-lam, closed-name, closed-var}
 use Rattle.calculus.specs.Theory.Tests.{eqb-differ, eqb-sound}
 use Rattle.term.specs.Forms.{lambda-tag, application-tag}
 use Rattle.term.specs.Expressions.{both-tag, bytes, case-tag}
-use Rattle.term.proofs.Sizes.{length-bytes}
 use Rattle.term_subst.specs.Replaced.{replaced}
 
 -- nothing is put in where no variable is
@@ -63,51 +59,3 @@ module _ (v : Exp) (outer : List ℕ) where
   bytes-beta d (closed-app c c′) = ap₂ (λ l m. application-tag ∷ (l ++ m)) (bytes-beta d c) (bytes-beta d c′)
   bytes-beta d (closed-both {s = s} {t = t} c c′) = ap₂ (λ l m. both-tag s ∷ t ∷ (l ++ m)) (bytes-beta d c) (bytes-beta d c′)
   bytes-beta d (closed-case {s = s} c c′) = ap₂ (λ l m. case-tag s ∷ (l ++ m)) (bytes-beta d c) (bytes-beta (suc (suc d)) c′)
-
--- a place of one of the two variables is no place of the other
-one-place : (P : Bool → Bool → Type 0) (d i : ℕ) → P true false → P false true → P false false → P (eqb i d) (eqb i (suc d))
-one-place P d i p q r = by (eqb i d) refl (eqb i (suc d)) refl
-  where
-    by : (a : Bool) → eqb i d ≡ a → (b : Bool) → eqb i (suc d) ≡ b → P a b
-    by true e true f = absurd (omega (arith, eqb-sound i d e, eqb-sound i (suc d) f))
-    by true e false f = p
-    by false e true f = q
-    by false e false f = r
-
--- the body's bytes and, for each place of a variable, its value's less the variable's two
-module _ (x y : List ℕ) where
-  pub length-replaced : (d : ℕ) (e : Exp) →
-      length (replaced d x y e) + (uses d e + uses (suc d) e) * 2 ≡ size e + (uses d e * length x + uses (suc d) e * length y)
-  unfolding replaced uses size bytes
-  length-replaced d (var i) =
-      one-place (λ a b. length (cond a x (cond b y (bytes (var i)))) + (cond a 1 0 + cond b 1 0) * 2 ≡ 2 + (cond a 1 0 * length x + cond b 1 0 * length y)) d i
-      (omega arith) (omega arith) (omega arith)
-  length-replaced d (name k) = omega arith
-  length-replaced d (const c) = omega (arith, length-bytes (const c))
-  length-replaced d (lam t e) = omega (arith, length-replaced (suc d) e)
-  length-replaced d (app f a) =
-      omega (arith, length-append (replaced d x y f) (replaced d x y a), length-replaced d f, length-replaced d a)
-  length-replaced d (both s t e₁ e₂) =
-      omega (arith, length-append (replaced d x y e₁) (replaced d x y e₂), length-replaced d e₁, length-replaced d e₂)
-  length-replaced d (case-of s e₁ e₂) =
-      omega (arith, length-append (replaced d x y e₁) (replaced (suc (suc d)) x y e₂), length-replaced d e₁, length-replaced (suc (suc d)) e₂)
-
--- the two variables have no more places than there are nodes
-pub uses-nodes : (d : ℕ) (e : Exp) → uses d e + uses (suc d) e ≤ nodes e
-unfolding uses nodes
-uses-nodes d (var i) = one-place (λ a b. cond a 1 0 + cond b 1 0 ≤ 1) d i (omega arith) (omega arith) (omega arith)
-uses-nodes d (name k) = omega arith
-uses-nodes d (const c) = omega arith
-uses-nodes d (lam t e) = omega (arith, uses-nodes (suc d) e)
-uses-nodes d (app f a) = omega (arith, uses-nodes d f, uses-nodes d a)
-uses-nodes d (both s t e₁ e₂) = omega (arith, uses-nodes d e₁, uses-nodes d e₂)
-uses-nodes d (case-of s e₁ e₂) = omega (arith, uses-nodes d e₁, uses-nodes (suc (suc d)) e₂)
-
--- so values of at most m each in their places are no more than m for each node
-pub uses-most : {n m p q : ℕ} (d : ℕ) (e : Exp) → nodes e ≤ n → p ≤ m → q ≤ m → uses d e * p + uses (suc d) e * q ≤ n * m
-uses-most {n} {m} {p} {q} d e few small small′ =
-    let all : uses d e + uses (suc d) e ≤ n = omega (arith, uses-nodes d e) in
-    let x : uses d e * p ≤ uses d e * m = mul-le-mul (omega arith) small in
-    let y : uses (suc d) e * q ≤ uses (suc d) e * m = mul-le-mul (omega arith) small′ in
-    let z : (uses d e + uses (suc d) e) * m ≤ n * m = mul-le-mul all (omega arith) in
-    omega (arith, x, y, z)

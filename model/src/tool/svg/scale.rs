@@ -2,6 +2,9 @@
 
 use crate::tool::svg::sheet::{Anchor, Sheet};
 
+/// The most marks of the axis beside the load's.
+const MARKS: u64 = 12;
+
 pub struct Scale {
     pub left: f64,
     pub width: f64,
@@ -24,23 +27,11 @@ impl Scale {
         self.width / self.end as f64
     }
 
-    /// 1, 2, 5, 10, 20, ..: the first that gives few marks.
-    fn every(&self) -> u64 {
-        let mut power = 1;
-        loop {
-            let few = |factor: &u64| self.end / (factor * power) <= 12;
-            if let Some(factor) = [1, 2, 5].into_iter().find(few) {
-                return factor * power;
-            }
-            power *= 10;
-        }
-    }
-
     /// The axis below a drawing, with the number of a turn at its marks.
     pub fn axis(&self, sheet: &mut Sheet, y: f64) {
         let right = self.left + self.width;
         sheet.line((self.left, y), (right, y), "stroke=\"#222\"");
-        let every = self.every();
+        let every = every(self.end, MARKS);
         let mut turn = 0;
         while turn < self.end {
             let x = self.x(turn) + self.turn_width() / 2.0;
@@ -55,5 +46,17 @@ impl Scale {
             12,
             "turn (0 is the load)",
         );
+    }
+}
+
+/// 1, 2, 5, 10, 20, ..: the first that gives at most so many marks up to the end, beside the one at 0.
+pub fn every(end: u64, marks: u64) -> u64 {
+    let mut power = 1;
+    loop {
+        let few = |factor: &u64| end / (factor * power) <= marks;
+        if let Some(factor) = [1, 2, 5].into_iter().find(few) {
+            return factor * power;
+        }
+        power *= 10;
     }
 }

@@ -2,14 +2,14 @@
 use mathlib.Core.Path.{_≡_}
 use mathlib.Core.List.{List}
 use Prim.Native.Nat.{ℕ, _+_}
-use Rattle.term.specs.Reader.{end-at, GoodAt}
+use Rattle.term.specs.Reader.{end-at}
 use Rattle.term.specs.Expressions.{bytes, term-at}
 use Rattle.term_redex.specs.declared.Meeting.{Meeting}
 use Rattle.term_subst.specs.declared.Span.{Span}
 use Rattle.term_subst.specs.Replaced.{replaced}
 use Rattle.step_rules.specs.Positions.{to-body, to-component}
 use Rattle.step_rules.specs.Stepped.{Counted}
-use Rattle.step_reduct.specs.declared.Substitution.{Substitution}
+use Rattle.step_rules.specs.declared.Substitution.{Substitution}
 
 abbrev pub span : ℕ → ℕ → Span
 span from to = record { from = from; to = to }
@@ -26,11 +26,13 @@ components-in m rest = record { body = span (m .second) (m .end); inner = span r
 unfoldable pub substituted : List ℕ → Substitution → List ℕ
 substituted s with = replaced 0 (bytes (term-at s (with .inner .from))) (bytes (term-at s (with .outer .from))) (term-at s (with .body .from))
 
--- the body and both values stand whole in the image
+-- a term stands whole in a part of the image
+pub record TermIn (s : List ℕ) (part : Span) : Type 0 where
+  pub counted : Counted s (part .from)
+  pub ends : part .to ≡ end-at s (part .from)
+
+-- so do the body and both values
 pub record Whole (s : List ℕ) (with : Substitution) : Type 0 where
-  pub body : Counted s (with .body .from)
-  pub body-ends : with .body .to ≡ end-at s (with .body .from)
-  pub inner : GoodAt s (with .inner .from)
-  pub inner-ends : with .inner .to ≡ end-at s (with .inner .from)
-  pub outer : GoodAt s (with .outer .from)
-  pub outer-ends : with .outer .to ≡ end-at s (with .outer .from)
+  pub body : TermIn s (with .body)
+  pub inner : TermIn s (with .inner)
+  pub outer : TermIn s (with .outer)

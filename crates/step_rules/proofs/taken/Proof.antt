@@ -1,9 +1,9 @@
--- `step_reduct::taken` meets its contract.
+-- `step_rules::taken` meets its contract.
 use mathlib.Core.Path.{refl}
-use Rattle.step_reduct.specs.Substitutions.{components-in}
+use Rattle.step_rules.specs.Substitutions.{components-in}
 use borrow.Author.Needs.{needs}
-use Rattle.step_reduct.proofs.taken.Statement.{statement}
-use Rattle.step_reduct.proofs.taken.Tie as tie
+use Rattle.step_rules.proofs.taken.Statement.{statement}
+use Rattle.step_rules.proofs.taken.Tie as tie
 
 returns : tie.Need-returns
 unfolding components-in

@@ -1,9 +1,9 @@
--- `step_reduct::applied` meets its contract.
+-- `step_rules::applied` meets its contract.
 use mathlib.Core.Path.{refl}
-use Rattle.step_reduct.specs.Substitutions.{argument-in}
+use Rattle.step_rules.specs.Substitutions.{argument-in}
 use borrow.Author.Needs.{needs}
-use Rattle.step_reduct.proofs.applied.Statement.{statement}
-use Rattle.step_reduct.proofs.applied.Tie as tie
+use Rattle.step_rules.proofs.applied.Statement.{statement}
+use Rattle.step_rules.proofs.applied.Tie as tie
 
 returns : tie.Need-returns
 unfolding argument-in

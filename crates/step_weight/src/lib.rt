@@ -1,0 +1,1 @@
+// What the outcomes of rules 1, 8 and 9 weigh. The definitions stand in specs/.
