@@ -51,7 +51,7 @@ impl Form {
 
     const BITS: u8 = 8;
 
-    const VALUES: u64 = 1 << Form::BITS;
+    const VALUES: u64 = Byte::VALUES as u64;
 }
 
 // A node without its subterms: its tag, the number after the tag, the bytes that the two take, how many subterms follow, how many more variables the last of
