@@ -1,4 +1,4 @@
-.PHONY: host install library recipe rows run shared test uninstall
+.PHONY: draws host install library recipe rows run shared test uninstall
 
 # The recipe that `make run` and `make host` load: any file name, also one with a space.
 RECIPE = examples/one-bay.recipe
@@ -43,6 +43,19 @@ run:
 	@lines=$$(target/bin/recipe_image <"$$RECIPE_FILE") && printf '%s\n' "$$lines" && \
 	case $$lines in 'verdict 0'*) ;; *) exit 1 ;; esac
 
+# The test load's seed and number of draws for `make draws`.
+SEED = 1
+DRAWS = 20
+
+# Builds the test load and runs it on a recipe: a line for each draw. A refusal is an error.
+draws:
+	@$(recipe_is_file)
+	@$(call first_time,target/bin/test_load)
+	@$(call prove,check test_load,draws)
+	@byte() { printf "$$(printf '\\%03o' $$(($$1 & 255)))"; }; \
+	lines=$$({ for n in 0 8 16 24; do byte $$(($(SEED) >> n)); done; for n in 0 8; do byte $$(($(DRAWS) >> n)); done; cat "$$RECIPE_FILE"; } | target/bin/test_load) && \
+	{ [ -z "$$lines" ] || printf '%s\n' "$$lines"; } && case $$lines in verdict*) exit 1 ;; esac
+
 # Proves what the static library needs, and builds it.
 library:
 	@$(call first_time,$(STATIC))
@@ -78,7 +91,7 @@ install: shared recipe
 	ln -sf $(SONAME) '$(INSTALLED)/lib/libfikarehu.so'
 	sed 's|@PREFIX@|$(PREFIX)|' include/fikarehu.pc.in >'$(INSTALLED)/lib/pkgconfig/fikarehu.pc'
 	install -m 755 $(TOOL) '$(INSTALLED)/bin/recipe'
-	for command in '' show write run compare; do $(TOOL) help $$command && echo; done >'$(INSTALLED)/share/doc/fikarehu/recipe.txt'
+	for command in '' show write run draws compare; do $(TOOL) help $$command && echo; done >'$(INSTALLED)/share/doc/fikarehu/recipe.txt'
 
 # Takes away what `make install` with the same PREFIX and DESTDIR has put there.
 uninstall:

@@ -36,9 +36,9 @@ extern "C" {
 #endif
 
 /* This header's version. */
-#define FIKAREHU_VERSION "0.5.0"
+#define FIKAREHU_VERSION "0.6.0"
 #define FIKAREHU_VERSION_MAJOR 0
-#define FIKAREHU_VERSION_MINOR 5
+#define FIKAREHU_VERSION_MINOR 6
 #define FIKAREHU_VERSION_PATCH 0
 
 /* The limits of a recipe. */
@@ -121,7 +121,7 @@ enum {
 
 /* The refusals: 1 to 11 by a check, a load or a run, 12 by a load, a step or a run, 13 to 17 by a
  * step. A run passes on what arises, 12 first; 15 never does, for lack of room only passes a thread
- * over. */
+ * over. 18 is the program test_load's. */
 enum {
     FIKAREHU_REFUSED_FILE_LENGTH = 1,  /* file length outside 12 to 8,192 */
     FIKAREHU_REFUSED_OPENING = 2,      /* first two bytes, edition, or n outside 2 to 17 */
@@ -141,8 +141,9 @@ enum {
     FIKAREHU_REFUSED_NO_THREAD = 14,   /* number is no thread */
     FIKAREHU_REFUSED_ROOM = 15,        /* a rule applies, outcome above 256 names or 4,096 nodes */
     FIKAREHU_REFUSED_USED_HANDLE = 16, /* used handle applied */
-    FIKAREHU_REFUSED_WRONG_KIND = 17   /* two values meet, neither a rule, nor waiting, nor 16; a case of
+    FIKAREHU_REFUSED_WRONG_KIND = 17,  /* two values meet, neither a rule, nor waiting, nor 16; a case of
                                           another kind of value */
+    FIKAREHU_REFUSED_SEED = 18         /* a seed of zero; no function here answers it */
 };
 
 /* The rules: Fig. 5's in its order, and the two that take a pair or a list apart. */

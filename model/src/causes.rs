@@ -34,3 +34,5 @@ pub const ROOM: u32 = 15;
 pub const USED_HANDLE: u32 = 16;
 /// Two values meet that nothing fits.
 pub const WRONG_KIND: u32 = 17;
+/// A seed of zero, of the test load (document 02, T-06).
+pub const SEED: u32 = 18;

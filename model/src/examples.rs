@@ -62,6 +62,12 @@ pub fn all() -> Vec<Example> {
     examples
 }
 
+/// The file of the example of that name.
+pub fn file_of(name: &str) -> Vec<u8> {
+    let example = all().into_iter().find(|e| e.name == name);
+    example.expect("an example of that name").file()
+}
+
 fn example(name: &'static str, text: &'static str, recipe: Recipe) -> Example {
     Example { name, text, recipe }
 }

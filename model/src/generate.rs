@@ -10,3 +10,4 @@ pub mod mutants;
 pub mod recipes;
 pub mod tables;
 pub mod terms;
+pub mod test_loads;

@@ -1,7 +1,7 @@
 //! Houses for the runner: bays that go on for ever, wait, take up room or give it back.
 
 use crate::by_hand::*;
-use crate::editions::{Edition, FIRST};
+use crate::editions::{Edition, FIRST, SECOND};
 use crate::format::Recipe;
 use crate::limits::MAX_BAYS;
 use crate::types::{Constant, Multiplicity, Shape};
@@ -183,6 +183,40 @@ pub fn one_moves() -> Recipe {
 /// Sixteen bays that go on for ever.
 pub fn all_move() -> Recipe {
     house(FIRST, &[Bay::Loops(Makes::Nothing); MAX_BAYS])
+}
+
+/// Ten bays of which one goes on for ever, and the others come to values that fill the image: 4,096
+/// nodes after every second step of the one.
+pub fn fullest() -> Recipe {
+    let mut bays = [Bay::Done; 10];
+    bays[0] = Bay::Loops(Makes::Nothing);
+    for (bay, times) in bays[1..].iter_mut().zip([9, 7, 5, 3, 1]) {
+        *bay = Bay::Doubles(times);
+    }
+    house(FIRST, &bays)
+}
+
+/// Sixteen bays of which one goes on for ever, and the others make cells while there are names.
+pub fn all_names() -> Recipe {
+    let mut bays = [Bay::Loops(Makes::Cells); MAX_BAYS];
+    bays[0] = Bay::Loops(Makes::Nothing);
+    house(FIRST, &bays)
+}
+
+/// Nine bays, one of each sort: some go on for ever, some are done, one waits, some come to lack room.
+pub fn nine_sorts() -> Recipe {
+    let bays = [
+        Bay::Loops(Makes::Nothing),
+        Bay::Loops(Makes::Cells),
+        Bay::Loops(Makes::Threads),
+        Bay::Loops(Makes::Handles),
+        Bay::Pairs(10),
+        Bay::Doubles(9),
+        Bay::Holds(5, 25),
+        Bay::Steps(9),
+        Bay::Waits,
+    ];
+    house(SECOND, &bays)
 }
 
 /// The powers of two that make 252.

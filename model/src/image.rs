@@ -44,6 +44,20 @@ fn heads(image: &[u8]) -> Option<Vec<Head>> {
     Some(bytes.chunks_exact(limits::HEAD_LENGTH).map(head).collect())
 }
 
+/// The names that the heads of a slice give that kind, as far as there are heads.
+pub fn names_of_kind(image: &[u8], wanted: u8) -> Vec<u64> {
+    let count = image.get(..limits::FIRST_HEAD).unwrap_or(&[0, 0]);
+    let names = usize::from(u16::from_le_bytes([count[0], count[1]]));
+    let heads = image.get(limits::FIRST_HEAD..).unwrap_or(&[]);
+    let heads = heads.chunks_exact(limits::HEAD_LENGTH).take(names);
+    let found = heads.map(|head| head[0]);
+    (0..)
+        .zip(found)
+        .filter(|(_, kind)| *kind == wanted)
+        .map(|(name, _)| name)
+        .collect()
+}
+
 /// The configuration of an image, or `None` when it breaks a rule or limit (refusal 13).
 pub fn read_image(image: &[u8]) -> Option<Configuration> {
     let heads = heads(image)?;

@@ -37,6 +37,7 @@ pub mod step;
 pub mod subjects;
 pub mod table;
 pub mod tags;
+pub mod test_load;
 pub mod timing;
 pub mod tool;
 pub mod types;

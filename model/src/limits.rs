@@ -36,3 +36,5 @@ pub const HEAD_LENGTH: usize = 6;
 pub const MAX_NODE_LENGTH: usize = 3;
 /// "No image is longer than 2 + 6 × 256 + 3 × 4,096 = 13,826 bytes."
 pub const MAX_IMAGE: usize = FIRST_HEAD + HEAD_LENGTH * MAX_NAMES + MAX_NODE_LENGTH * MAX_NODES;
+/// "a number above 10,000 as 10,000": the draws of the test load (document 02, T-06).
+pub const MAX_DRAWS: u16 = 10_000;

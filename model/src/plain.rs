@@ -9,6 +9,7 @@ mod place;
 mod run;
 mod step;
 mod term;
+mod test_load;
 mod walk;
 mod write;
 
@@ -16,3 +17,4 @@ pub use check::{check, Answer};
 pub use load::load;
 pub use run::{run, Ran};
 pub use step::{step, Stepped};
+pub use test_load::printed;

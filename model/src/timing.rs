@@ -1,5 +1,5 @@
-//! Times of calls by the thread's processor time: what else the machine does counts little. Several works are measured in turn, and of each the
-//! fastest round counts.
+//! Times of calls by the thread's processor time, and of processes by theirs: what else the machine does counts little. Several works are
+//! measured in turn, and of each the fastest round counts.
 
 use std::time::Duration;
 
@@ -25,6 +25,45 @@ fn processor_time() -> Duration {
     // The call writes one timespec, which is ours.
     unsafe { clock_gettime(CLOCK_THREAD_CPUTIME_ID, &mut time) };
     Duration::new(time.seconds as u64, time.nanoseconds as u32)
+}
+
+/// `struct timeval` of 64-bit Linux.
+#[repr(C)]
+#[derive(Clone, Copy, Default)]
+struct Timeval {
+    seconds: i64,
+    microseconds: i64,
+}
+
+/// `struct rusage` of 64-bit Linux.
+#[repr(C)]
+#[derive(Default)]
+struct Usage {
+    user: Timeval,
+    system: Timeval,
+    others: [i64; 14],
+}
+
+const RUSAGE_CHILDREN: i32 = -1;
+
+extern "C" {
+    fn getrusage(who: i32, usage: *mut Usage) -> i32;
+}
+
+/// The processor time that the processes which this one started and saw end have had.
+pub fn time_of_processes() -> Duration {
+    let mut usage = Usage::default();
+    // The call writes one rusage, which is ours.
+    unsafe { getrusage(RUSAGE_CHILDREN, &mut usage) };
+    let time =
+        |value: Timeval| Duration::new(value.seconds as u64, 1_000 * value.microseconds as u32);
+    time(usage.user) + time(usage.system)
+}
+
+/// The one in the middle, of an odd number of times.
+pub fn median(mut times: Vec<f64>) -> f64 {
+    times.sort_by(f64::total_cmp);
+    times[times.len() / 2]
 }
 
 /// The value itself: the compiler can tell neither where it comes from nor that nobody uses it.

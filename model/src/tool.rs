@@ -1,7 +1,8 @@
-//! The command-line tool `recipe`: shows, writes, runs and compares.
+//! The command-line tool `recipe`: shows, writes, runs, compares, and prints the draws of the test load.
 
 pub mod arguments;
 pub mod compare;
+pub mod draws;
 pub mod faults;
 pub mod files;
 pub mod help;
@@ -86,6 +87,7 @@ fn command(words: Vec<OsString>, out: &mut dyn Write) -> Outcome {
         Some("show") => show::command(rest, out),
         Some("write") => write::command(rest, out),
         Some("run") => run::command(rest, out),
+        Some("draws") => draws::command(rest, out),
         Some("compare") => compare::command(rest, out),
         Some("help" | "--help" | "-h") => help::command(rest, out),
         Some("--version") => version::command(out),

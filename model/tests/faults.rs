@@ -44,9 +44,7 @@ fn every_file_can_be_shown() {
 }
 
 fn fault_of(name: &str) -> Fault {
-    let example = examples::all().into_iter().find(|e| e.name == name);
-    let file = example.expect("an example of that name").file();
-    fault(&file).expect("a refused example")
+    fault(&examples::file_of(name)).expect("a refused example")
 }
 
 #[test]

@@ -1,9 +1,14 @@
-//! What `show` and `run` print for the examples is what stands in `tests/golden`. With GOLDEN=write
-//! in the environment the files are written anew, to be read before they are kept.
+//! What `show`, `run` and `draws` print for the examples is what stands in `tests/golden`. With
+//! GOLDEN=write in the environment the files are written anew, to be read before they are kept.
 
+mod program_common;
 mod tool_common;
 
+use model::answers::Model;
+use model::command::on_deep_stack;
 use model::examples;
+use model::generate::test_loads;
+use model::test_load::{printed, Input};
 use std::path::Path;
 use tool_common::*;
 
@@ -71,4 +76,48 @@ fn orders() {
         "mutex, order 1,1,3,9",
         without_first_line(&standard_output(&order)),
     );
+}
+
+#[test]
+fn draws() {
+    for example in examples::all() {
+        let file = format!("examples/{}.recipe", example.name);
+        let output = recipe(&["draws", &file, "--seed", "1", "--count", "40"]);
+        let refused = example.name.starts_with("refused");
+        assert_eq!(output.status.code(), Some(i32::from(refused)));
+        compare("draws", example.name, &standard_output(&output));
+    }
+}
+
+/// The program's own run is held beside it: 10,000 draws over nine bays, and the model's lines.
+#[test]
+fn the_held_run() {
+    let folder = Path::new(env!("CARGO_MANIFEST_DIR")).join("../crates/test_load");
+    let given = test_loads::held();
+    let printed = on_deep_stack(|| printed(&Model, &given));
+    assert_eq!(printed.lines().count(), 10_000);
+    for (name, found) in [("stdin", &given[..]), ("stdout", printed.as_bytes())] {
+        let file = folder.join(name);
+        if std::env::var("GOLDEN").as_deref() == Ok("write") {
+            std::fs::write(&file, found).expect("the held file is written");
+        }
+        let kept = std::fs::read(&file).unwrap_or_default();
+        assert!(found == kept, "{}", file.display());
+    }
+}
+
+/// The program that the variable TEST_LOAD names prints what the tool does.
+#[test]
+fn the_program_prints_what_is_held() {
+    if let Some(program) = std::env::var_os("TEST_LOAD") {
+        for example in examples::all() {
+            let input = Input {
+                seed: 1,
+                count: 40,
+                recipe: &example.file(),
+            };
+            let text = program_common::written(&program, &input.bytes());
+            compare("draws", example.name, &text);
+        }
+    }
 }

@@ -1,13 +1,13 @@
 //! The program gives the model's lines: on the examples, and where a file is too long or too short. The variable RECIPE_IMAGE names the program; without it nothing is run.
 
+mod program_common;
+
 use model::examples;
 use model::format::hexadecimal;
 use model::limits;
 use model::load::starting_image;
 use model::verdict::verdict;
-use std::ffi::OsString;
-use std::io::Write;
-use std::process::{Command, Stdio};
+use program_common::written;
 
 /// "two lines: the word verdict and the number (0 for accepted), then, if accepted, the word image
 /// and the image in upper-case hexadecimal"
@@ -19,21 +19,6 @@ fn lines(file: &[u8]) -> String {
     }
     let image = starting_image(file).expect("an accepted recipe has a starting image");
     format!("{first}image {}\n", hexadecimal(&image))
-}
-
-/// What the program writes for a file. It may leave a part of a long one unread.
-fn written(program: &OsString, file: &[u8]) -> String {
-    let mut child = Command::new(program)
-        .stdin(Stdio::piped())
-        .stdout(Stdio::piped())
-        .spawn()
-        .expect("the program starts");
-    let mut input = child.stdin.take().expect("its input is a pipe");
-    let _ = input.write_all(file);
-    drop(input);
-    let output = child.wait_with_output().expect("the program ends");
-    assert!(output.status.success());
-    String::from_utf8(output.stdout).expect("the lines are text")
 }
 
 fn files() -> Vec<Vec<u8>> {

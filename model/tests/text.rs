@@ -77,8 +77,7 @@ fn bytes(text: &str) -> Vec<u8> {
 #[test]
 fn types_that_are_not_listed_are_added() {
     let short = bytes("bay 0 = exch[num ref →ω num →ω num] setting0 250");
-    let example = examples::all().into_iter().find(|e| e.name == "one-vent");
-    assert_eq!(Some(short), example.map(|e| e.file()));
+    assert_eq!(short, examples::file_of("one-vent"));
 }
 
 #[test]

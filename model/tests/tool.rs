@@ -2,7 +2,12 @@
 
 mod tool_common;
 
-use std::process::{Command, Stdio};
+use model::answers::Model;
+use model::command::on_deep_stack;
+use model::examples;
+use model::limits::MAX_DRAWS;
+use model::test_load::printed;
+use std::process::{Command, Output, Stdio};
 use tool_common::*;
 
 #[test]
@@ -19,12 +24,13 @@ fn help() {
     }
     assert!(standard_output(&recipe(&["help", "run"])).contains("--svg"));
     assert!(standard_output(&recipe(&["run", "--help"])).contains("--svg"));
+    assert!(standard_output(&recipe(&["help", "draws"])).contains("| test_load"));
     assert!(standard_output(&recipe(&["help", "compare"])).contains("gcc -shared"));
 }
 
 #[test]
 fn wrong_words() {
-    let cases: [(&[&str], &str); 15] = [
+    let cases: [(&[&str], &str); 21] = [
         (&["run", "a", "--svg", "--force"], "--svg needs a value"),
         (&[], "no command is given"),
         (&["fly"], "there is no command fly"),
@@ -51,6 +57,24 @@ fn wrong_words() {
             "--seed and --order exclude each other",
         ),
         (&["write", "-"], "needs the name of the file to write"),
+        (
+            &["draws", "--seed", "1", "--count", "1"],
+            "a file is missing",
+        ),
+        (&["draws", "a", "--count", "1"], "--seed is missing"),
+        (&["draws", "a", "--seed", "1"], "--count is missing"),
+        (
+            &["draws", "a", "--seed", "-1", "--count", "1"],
+            "--seed takes a number, not -1",
+        ),
+        (
+            &["draws", "a", "--seed", "4294967296", "--count", "1"],
+            "--seed takes a number up to 4294967295, not 4294967296",
+        ),
+        (
+            &["draws", "a", "--seed", "1", "--count", "65536"],
+            "--count takes a number up to 65535, not 65536",
+        ),
         (&["compare", "a"], "a file is missing"),
     ];
     for (words, expected) in cases {
@@ -85,6 +109,8 @@ fn files_that_cannot_be_read() {
         assert!(text.contains("cannot read"), "{text}");
         assert!(text.contains("No such file"), "{text}");
     }
+    let words = ["draws", &folder.path("none"), "--seed", "1", "--count", "1"];
+    assert!(complaint(&words).contains("cannot read"));
     assert!(complaint(&["show", &folder.path("")]).contains("cannot read"));
     assert!(complaint(&["show", "/dev/zero"]).contains("is longer than"));
     let text = folder.file("latin.txt", b"bay 0 = unit # \xE4");
@@ -296,4 +322,66 @@ fn the_runner_is_asked_in_its_own_order_and_up_to_65535_turns() {
         text.contains(": no thread of the order can go.\n"),
         "{text}"
     );
+}
+
+/// The tool with these words after `draws`, a file, a seed and a number.
+fn draws(file: &str, seed: u32, count: u16, more: &[&str]) -> Output {
+    let (seed, count) = (seed.to_string(), count.to_string());
+    let words = ["draws", file, "--seed", &seed, "--count", &count];
+    recipe(&[&words[..], more].concat())
+}
+
+/// The lines are the model's, also where the library steps; `--input` writes what they are the lines of.
+#[test]
+fn the_draws_of_a_test_load() {
+    for name in ["mutex", "queue", "recursion", "waiting-for-ever"] {
+        let file = format!("examples/{name}.recipe");
+        for (seed, count) in [(1, 0), (7, 1), (2_006, 300), (u32::MAX, u16::MAX)] {
+            let output = draws(&file, seed, count, &[]);
+            assert_eq!(output.status.code(), Some(0));
+            assert_eq!(standard_error(&output), "");
+            let text = standard_output(&output);
+            assert_eq!(text.lines().count(), usize::from(count.min(MAX_DRAWS)));
+            let input = draws(&file, seed, count, &["--input"]).stdout;
+            assert_eq!(input[..4], seed.to_le_bytes());
+            assert_eq!(input[4..6], count.to_le_bytes());
+            assert_eq!(input[6..], examples::file_of(name));
+            assert_eq!(text, on_deep_stack(|| printed(&Model, &input)));
+        }
+    }
+}
+
+/// The recipe's verdict is told first, and a seed of zero then; the message says more.
+#[test]
+fn draws_that_are_refused() {
+    let name = model::tool::judge::NAME;
+    for (file, seed, number, why) in [
+        (
+            "refused-9",
+            1,
+            9,
+            format!(": refused 9 by {name}: application "),
+        ),
+        (
+            "refused-9",
+            0,
+            9,
+            format!(": refused 9 by {name}: application "),
+        ),
+        (
+            "one-vent",
+            0,
+            18,
+            ": refused 18: a seed of zero\n".to_owned(),
+        ),
+    ] {
+        let file = format!("examples/{file}.recipe");
+        let output = draws(&file, seed, 5, &[]);
+        assert_eq!(output.status.code(), Some(1));
+        assert_eq!(standard_output(&output), format!("verdict {number}\n"));
+        let told = standard_error(&output);
+        assert!(told.starts_with(&format!("recipe: {file}{why}")), "{told}");
+        let input = draws(&file, seed, 5, &["--input"]);
+        assert_eq!(input.status.code(), Some(0));
+    }
 }

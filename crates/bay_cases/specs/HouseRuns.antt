@@ -75,7 +75,7 @@ abbrev refused-run : List ℕ → ℕ → ℕ → ℕ → ℕ → HouseRun
 refused-run file turns first second number = record { file = file; turns = turns; first = first; second = second; answer = Refused number; threads = []; last = [] }
 
 -- n times the same bytes, then a term
-unfoldable repeated : ℕ → List ℕ → List ℕ → List ℕ
+unfoldable pub repeated : ℕ → List ℕ → List ℕ → List ℕ
 repeated zero bytes term = term
 repeated (suc n) bytes term = bytes ++ repeated n bytes term
 
@@ -84,7 +84,7 @@ abbrev identities-of : ℕ → List ℕ
 identities-of n = 0x01 ∷ 0x03 ∷ repeated n (0x02 ∷ 0x01 ∷ 0x03 ∷ 0x00 ∷ 0x00 ∷ []) (0x00 ∷ 0x00 ∷ [])
 
 -- (λ f. f (f (.. 7))) (identities-of n), p places: 2p + 3n + 5 nodes. Rule 1 makes p (3n + 3) + 1 nodes of it
-abbrev copies : ℕ → ℕ → List ℕ
+abbrev pub copies : ℕ → ℕ → List ℕ
 copies p n = 0x02 ∷ 0x01 ∷ 0x04 ∷ repeated p (0x02 ∷ 0x00 ∷ 0x00 ∷ []) (0x04 ∷ 0x07 ∷ 0x00 ∷ []) ++ identities-of n
 
 -- what rule 1 makes of it
@@ -93,11 +93,11 @@ copied p n = repeated p (0x02 ∷ identities-of n) (0x04 ∷ 0x07 ∷ 0x00 ∷ [
 
 -- the tables, by what they are for
 -- 3: num many to num; 4: 3 many to num
-abbrev copying : List ℕ
+abbrev pub copying : List ℕ
 copying = num-to-num ++ (0x04 ∷ 0x03 ∷ 0x01 ∷ [])
 
 -- 3: unit many to unit; 4: a handle for it; 7: handle at 3; 8: unit once to unit; 9: thread at unit
-abbrev awaiting : List ℕ
+abbrev pub awaiting : List ℕ
 awaiting = T3 ++ (0x04 ∷ 0x00 ∷ 0x00 ∷ 0x03 ∷ 0x03 ∷ 0x00 ∷ 0x04 ∷ 0x04 ∷ 0x00 ∷ 0x04 ∷ 0x03 ∷ 0x05 ∷ 0x04 ∷ 0x06 ∷ 0x00 ∷ 0x03 ∷ 0x00 ∷ 0x00 ∷ 0x04 ∷ 0x03 ∷ 0x00 ∷ [])
 
 -- 3: unit many to unit; 5: thread at 3
@@ -105,15 +105,15 @@ abbrev calling : List ℕ
 calling = T3 ++ (0x04 ∷ 0x00 ∷ 0x00 ∷ 0x04 ∷ 0x03 ∷ 0x03 ∷ 0x04 ∷ 0x04 ∷ 0x03 ∷ [])
 
 -- handle (λ x. λ h. (λ z. h (λ u. u)) (x unit)): it needs the future before it gets to the handle
-abbrev waits-for-ever : List ℕ
+abbrev pub waits-for-ever : List ℕ
 waits-for-ever = 0x02 ∷ 0x08 ∷ 0x07 ∷ 0x01 ∷ 0x06 ∷ 0x01 ∷ 0x05 ∷ 0x02 ∷ 0x01 ∷ 0x08 ∷ 0x02 ∷ 0x00 ∷ 0x01 ∷ 0x01 ∷ 0x03 ∷ 0x00 ∷ 0x00 ∷ 0x02 ∷ 0x00 ∷ 0x01 ∷ 0x03 ∷ []
 
 -- handle (λ x. λ h. (λ z. (λ u. h (λ v. v)) ((λ u. u) unit)) (thread (λ z. x unit))): the new thread needs the future before bay 0 binds it
-abbrev waits-until-bound : List ℕ
+abbrev pub waits-until-bound : List ℕ
 waits-until-bound = 0x02 ∷ 0x08 ∷ 0x07 ∷ 0x01 ∷ 0x06 ∷ 0x01 ∷ 0x05 ∷ 0x02 ∷ 0x01 ∷ 0x08 ∷ 0x02 ∷ 0x01 ∷ 0x08 ∷ 0x02 ∷ 0x00 ∷ 0x02 ∷ 0x01 ∷ 0x03 ∷ 0x00 ∷ 0x00 ∷ 0x02 ∷ 0x01 ∷ 0x03 ∷ 0x00 ∷ 0x00 ∷ 0x03 ∷ 0x02 ∷ 0x07 ∷ 0x09 ∷ 0x01 ∷ 0x03 ∷ 0x02 ∷ 0x00 ∷ 0x02 ∷ 0x03 ∷ []
 
 -- a new thread that applies the identity to its own name, and is its own name then
-abbrev own-name : List ℕ
+abbrev pub own-name : List ℕ
 own-name = 0x02 ∷ 0x07 ∷ 0x04 ∷ 0x01 ∷ 0x03 ∷ 0x00 ∷ 0x00 ∷ []
 
 -- document 01's cases A to C. Slips told here: idle where all the turns were taken, and the other way round; a turn less; the image before the last

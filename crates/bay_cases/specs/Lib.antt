@@ -14,3 +14,5 @@ pub mod PairsAndLists
 pub mod HouseRuns
 -- document 02, T-05: steps on both sides of the limit of nodes
 pub mod WeightSteps
+-- document 02, T-06: rows of test loads
+pub mod TestLoads

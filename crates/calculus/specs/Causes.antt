@@ -1,4 +1,4 @@
--- Document 01, the table of causes: their numbers.
+-- Document 01, the table of causes, and those of document 02: their numbers.
 use Prim.Native.Nat.{ℕ}
 
 -- "file length outside 12 to 8,192"
@@ -68,3 +68,7 @@ used-handle-cause = 16
 -- "step: two values meet, neither a rule, nor waiting, nor 16"
 abbrev pub wrong-kind-cause : ℕ
 wrong-kind-cause = 17
+
+-- T-06: "It refuses a seed of zero with 18"
+abbrev pub seed-cause : ℕ
+seed-cause = 18

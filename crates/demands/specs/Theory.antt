@@ -6,3 +6,5 @@ pub mod First
 pub mod Second
 -- the third demand
 pub mod Third
+-- an image that a run comes to
+pub mod Reached

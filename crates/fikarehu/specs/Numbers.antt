@@ -1,7 +1,5 @@
 -- An outcome of a step and the ending of a run in numbers, as include/fikarehu.h has them.
-use mathlib.Core.Path.{_≡_}
-use Prim.Native.Nat.{_%_, _<_, ℕ}
-use Rattle.calculus.specs.Limits.{max-names}
+use Prim.Native.Nat.{_%_, ℕ}
 use Rattle.step_spec.specs.declared.Outcome.{Outcome}
 use Rattle.step_spec.specs.declared.Outcome.the-variants.{Rule, Done, Waiting, Refused}
 use Rattle.run_spec.specs.declared.Ending.{Ending}
@@ -28,10 +26,6 @@ step-numbers (Rule rule size) = record { outcome = rule-outcome; number = rule; 
 step-numbers Done = record { outcome = done-outcome; number = 0; length = 0 }
 step-numbers (Waiting name) = record { outcome = waiting-outcome; number = name; length = 0 }
 step-numbers (Refused number) = record { outcome = refused-outcome; number = number; length = 0 }
-
--- an awaited name is one of the names that an image may have
-pub record NameSmall (o : Outcome) : Type 0 where
-  pub small : (y : ℕ) → o ≡ Waiting y → y < max-names
 
 -- why a run stopped
 abbrev pub turns-stop : ℕ

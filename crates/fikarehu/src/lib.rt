@@ -8,8 +8,9 @@ ghost use lib.ListN.{length};
 ghost use Rattle.check_spec.specs.Verdict.{verdict-of};
 ghost use Rattle.load_spec.specs.Loading as load;
 ghost use Rattle.step_spec.specs.Stepping.{out-after-step, outcome-of};
+ghost use Rattle.step_spec.specs.Theory.Waiting.{NameSmall};
 ghost use Rattle.run_spec.specs.Ending.{Leaves, ran};
-ghost use Rattle.fikarehu.specs.Numbers.{NameSmall, run-numbers, step-numbers, stopped-numbers};
+ghost use Rattle.fikarehu.specs.Numbers.{run-numbers, step-numbers, stopped-numbers};
 
 // What a step came to, in numbers: done; the rule, with the new image's length; the awaited name; the refusal.
 #[repr(C)]

@@ -10,9 +10,12 @@ ghost use mathlib.Core.Bool.{true};
 ghost use Prim.Native.Nat.{_≤_};
 ghost use lib.ListN.{length};
 ghost use Rattle.calculus.specs.Limits.{max-names, max-nodes};
+ghost use Rattle.calculus.specs.Image.{nodes-all};
 ghost use Rattle.term_walk.specs.Frames.{max-waits};
 ghost use Rattle.image_layout.specs.Slice.{names};
 ghost use Rattle.image_layout.specs.Layout.{heads-stand};
+ghost use Rattle.image.specs.Configuration.{config-of};
+ghost use Rattle.image.specs.Stands.{image-stands};
 ghost use Rattle.image_check.specs.Parts.{all-part, component-part, HandlesCounted, expression-part, Named, pair-stands, pairs-stand, Tally};
 ghost use Rattle.image_check.specs.Answer.{checked};
 
@@ -161,4 +164,15 @@ pub fn check_image(image: &[u8]) -> Checked
         return Checked::Broken;
     }
     Checked::Nodes(nodes)
+}
+
+// The nodes of an image that stands.
+pub fn count_nodes(image: &[u8]) -> usize
+    requires { ⌜ image-stands (now image) ≡ true ⌝ }
+    ensures { λ r. ⌜ r ≡ nodes-all (config-of (now (image .entry))) ⌝ }
+{
+    let Checked::Nodes(nodes) = check_image(image) else {
+        return 0;
+    };
+    nodes
 }

@@ -4,3 +4,5 @@
 pub mod Image
 -- what is answered and left, from the first cause that fits
 pub mod Answers
+-- what a load into a buffer that is long enough says
+pub mod Told

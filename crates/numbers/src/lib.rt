@@ -1,9 +1,9 @@
-// Document 01's limits, kinds, rules and causes, and T-03's: each number has its name here and nowhere else. That they are the numbers of the definitions
+// Document 01's limits, kinds, rules and causes, and document 02's: each number has its name here and nowhere else. That they are the numbers of the definitions
 // is what the functions below say.
 ghost use mathlib.Core.Path.{_≡_};
 ghost use Rattle.calculus.specs.Limits.{byte-values};
 ghost use Rattle.calculus.specs.Kinds.{no-owner};
-ghost use Rattle.numbers.specs.Tables.{recipe-limits, image-limits, type-kinds, type-entries, image-kinds, rules, causes};
+ghost use Rattle.numbers.specs.Tables.{recipe-limits, image-limits, load-limits, type-kinds, type-entries, image-kinds, rules, causes};
 
 // A byte: how many values it has.
 pub struct Byte {}
@@ -69,6 +69,17 @@ impl Image {
 
     // The companion of a name that is no open handle.
     pub const NO_OWNER: u8 = 0;
+}
+
+// The input of a test load: the bytes of its seed, those in front of the recipe, and the most draws.
+pub struct TestLoad {}
+
+impl TestLoad {
+    pub const SEED_LENGTH: usize = 4;
+
+    pub const FRONT_LENGTH: usize = TestLoad::SEED_LENGTH + 2;
+
+    pub const MAX_DRAWS: usize = 10_000;
 }
 
 // A type entry: its kinds, and the numbers of the first three entries.
@@ -160,6 +171,8 @@ impl Cause {
     pub const USED_HANDLE: u8 = 16;
 
     pub const WRONG_KIND: u8 = 17;
+
+    pub const SEED: u8 = 18;
 }
 
 pub fn byte_values() -> usize
@@ -195,6 +208,16 @@ pub fn image_limits() -> [usize; 6]
         Image::HEAD_LENGTH,
         Image::MAX_NODE_LENGTH,
         Image::MAX_LENGTH,
+    ]
+}
+
+pub fn load_limits() -> [usize; 3]
+    ensures { λ r. ⌜ r ≡ load-limits ⌝ }
+{
+    [
+        TestLoad::SEED_LENGTH,
+        TestLoad::FRONT_LENGTH,
+        TestLoad::MAX_DRAWS,
     ]
 }
 
@@ -254,7 +277,7 @@ pub fn rules() -> [u8; 9]
     ]
 }
 
-pub fn causes() -> [u8; 17]
+pub fn causes() -> [u8; 18]
     ensures { λ r. ⌜ r ≡ causes ⌝ }
 {
     [
@@ -275,5 +298,6 @@ pub fn causes() -> [u8; 17]
         Cause::ROOM,
         Cause::USED_HANDLE,
         Cause::WRONG_KIND,
+        Cause::SEED,
     ]
 }

@@ -1,6 +1,6 @@
 -- What is proved of the text; nobody needs to read it in order to believe the definitions.
 
--- digits: byte after byte, and lengths
+-- hexadecimal: byte after byte, and lengths
 pub mod Digits
 -- the text by the verdict; an input that is longer than any recipe
 pub mod Lines

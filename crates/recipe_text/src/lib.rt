@@ -2,14 +2,14 @@
 use buffer::put_byte;
 use buffer::put_bytes;
 use numbers::Image;
-ghost use mathlib.Core.Path.{_≡_};
+use text::digit_of;
+use text::put_verdict_line;
 ghost use Prim.Native.Nat.{_+_, _*_, _<_, _≤_};
 ghost use lib.ListN.{length};
 ghost use Rattle.calculus.specs.Limits.{max-file-length};
 ghost use Rattle.buffer.specs.Written.{Wrote};
-ghost use Rattle.recipe_text.specs.Text.{PutsInput, decimal, digit, hexadecimal, hexadecimal-byte, image-line, text-left, text-within, verdict-line};
-
-const DIGITS: [u8; 16] = *b"0123456789ABCDEF";
+ghost use Rattle.text.specs.Put.{Puts, PutsInput};
+ghost use Rattle.recipe_text.specs.Text.{hexadecimal, hexadecimal-byte, image-line, max-text-length, text-of};
 
 // The two lines: the length of the first if there is a second, and the most of both.
 pub struct Text {}
@@ -20,14 +20,6 @@ impl Text {
     const IMAGE_LINE: usize = 7 + 2 * Image::MAX_LENGTH;
 
     pub const MAX_LENGTH: usize = Text::VERDICT_LINE + Text::IMAGE_LINE;
-}
-
-// The upper-case hexadecimal digit of a number below 16.
-fn digit_of(n: u8) -> u8
-    requires { ⌜ n < 16 ⌝ }
-    ensures { λ r. ⌜ r ≡ digit n ⌝ }
-{
-    DIGITS[n as usize]
 }
 
 // Writes a byte as two digits.
@@ -53,28 +45,6 @@ fn put_hexadecimal(text: &mut [u8], at: usize, bytes: &[u8]) -> usize
     next
 }
 
-// Writes a number in one or two decimal digits.
-fn put_decimal(text: &mut [u8], at: usize, n: u8) -> usize
-    requires { ⌜ (n < 100) × (at + 2 ≤ length (now text)) ⌝ }
-    ensures { λ r. ⌜ Wrote (now (text .entry)) at (decimal n) (now (text .exit)) r ⌝ }
-{
-    if n < 10 {
-        return put_byte(text, at, digit_of(n));
-    }
-    let next = put_byte(text, at, digit_of(n / 10));
-    put_byte(text, next, digit_of(n % 10))
-}
-
-// The line with the word verdict.
-fn put_verdict_line(text: &mut [u8], number: u8) -> usize
-    requires { ⌜ (number < 100) × (11 ≤ length (now text)) ⌝ }
-    ensures { λ r. ⌜ Wrote (now (text .entry)) 0 (verdict-line number) (now (text .exit)) r ⌝ }
-{
-    let after_word = put_bytes(text, 0, b"verdict ");
-    let after_number = put_decimal(text, after_word, number);
-    put_bytes(text, after_number, b"\n")
-}
-
 // The line with the word image.
 fn put_image_line(text: &mut [u8], at: usize, image: &[u8]) -> usize
     requires { ⌜ at + 7 + 2 * length (now image) ≤ length (now text) ⌝ }
@@ -87,8 +57,7 @@ fn put_image_line(text: &mut [u8], at: usize, image: &[u8]) -> usize
 
 // The text of a recipe: how many bytes were put at the front of the buffer. A buffer that is too short for the longest text is left as it was.
 pub fn put_text(recipe: &[u8], text: &mut [u8]) -> usize
-    ensures { λ r. ⌜ r ≡ length (text-within (now (recipe .entry)) (length (now (text .entry)))) ⌝ }
-    ensures { λ r. ⌜ now (text .exit) ≡ text-left (now (recipe .entry)) (now (text .entry)) ⌝ }
+    ensures { λ r. ⌜ Puts max-text-length (text-of (now (recipe .entry))) (now (text .entry)) r (now (text .exit)) ⌝ }
 {
     if text.len() < Text::MAX_LENGTH {
         return 0;
@@ -107,7 +76,7 @@ pub fn put_text(recipe: &[u8], text: &mut [u8]) -> usize
 // lost with the rest.
 pub fn put_text_of_input(buffer: &[u8], read: usize, text: &mut [u8]) -> usize
     requires { ⌜ (max-file-length < length (now buffer)) × (read ≤ length (now buffer)) ⌝ }
-    ensures { λ r. ⌜ PutsInput (now (buffer .entry)) read (now (text .entry)) r (now (text .exit)) ⌝ }
+    ensures { λ r. ⌜ PutsInput max-text-length text-of (now (buffer .entry)) read (now (text .entry)) r (now (text .exit)) ⌝ }
     ensures { λ r. ⌜ r ≤ length (now (text .exit)) ⌝ }
 {
     put_text(&buffer[..read], text)

@@ -21,7 +21,8 @@ use Rattle.step_look.specs.Looked.{Stands}
 use Rattle.run_spec.specs.declared.Ending.the-variants.{Turns, Refused}
 use Rattle.run_spec.specs.Course.{Course, Search, Stop, all-turns, found, idle, met, no-room, nobody, one-after, stopped-by, search-from, stopped, take-turns, turning}
 use Rattle.run_spec.specs.Ending.{ending-by, ending-of, ends-in-first}
-use Rattle.run_spec.specs.Theory.Reached.{grows, long-reply, reached-after, reached-names, reached-reads, reached-stands, stepping}
+use Rattle.demands.specs.Theory.Reached.{long-reply, reached-after, reached-names, reached-reads, reached-stands, stepping}
+use Rattle.run_spec.specs.Theory.ReachedLooks.{grows}
 use Rattle.run_spec.specs.Theory.Chain.{turn-goes}
 use Rattle.run_spec.specs.Theory.Fair.{goes-below}
 use Rattle.run_turn.specs.declared.At.{At}

@@ -29,7 +29,7 @@ use Rattle.run_spec.specs.declared.Ending.{Ending}
 use Rattle.run_spec.specs.declared.Ending.the-variants.{Refused}
 use Rattle.run_spec.specs.Course.{Course, course-of, take-turns}
 use Rattle.run_spec.specs.Ending.{Leaves, ending-of, ends-in-first, ran, run-refusal}
-use Rattle.run_spec.specs.Theory.Reached.{reached-reads, reached-stands, reached-start}
+use Rattle.demands.specs.Theory.Reached.{reached-reads, reached-stands, reached-start}
 use Rattle.run_spec.specs.Theory.Ends.{ran-course, ran-number, ran-refused, run-accepted, run-short, unless-unwritten, unless-written}
 use Rattle.run_recipe.specs.Running.{Holds, Starts}
 use Rattle.run_recipe.proofs.Underway.{held-inside}

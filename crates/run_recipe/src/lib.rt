@@ -1,16 +1,12 @@
 // The runner: checks and loads a recipe, then turn after turn between two lent buffers.
-use image_check::Checked;
 use numbers::Cause;
 use numbers::Image;
 use run_spec::Ending;
 use run_turn::At;
 use run_turn::Taken;
 ghost use mathlib.Core.Path.{_≡_};
-ghost use mathlib.Core.Bool.{cond, true};
+ghost use mathlib.Core.Bool.{cond};
 ghost use lib.ListN.{length, take};
-ghost use Rattle.calculus.specs.Image.{nodes-all};
-ghost use Rattle.image.specs.Configuration.{config-of};
-ghost use Rattle.image.specs.Stands.{image-stands};
 ghost use Rattle.run_turn.specs.Turning.{Took};
 ghost use Rattle.run_spec.specs.Course.{idle, no-room, take-turns};
 ghost use Rattle.run_spec.specs.Ending.{Leaves, ending-by, ending-of, ran};
@@ -65,17 +61,6 @@ fn run_turns(turns: u16, start: At, first: &mut [u8], second: &mut [u8]) -> Endi
     Ending::Turns(taken, at.length)
 }
 
-// The nodes of an image that stands.
-fn count_nodes(image: &[u8]) -> usize
-    requires { ⌜ image-stands (now image) ≡ true ⌝ }
-    ensures { λ r. ⌜ r ≡ nodes-all (config-of (now (image .entry))) ⌝ }
-{
-    let Checked::Nodes(nodes) = image_check::check_image(image) else {
-        return 0;
-    };
-    nodes
-}
-
 // Document 02, T-04: "The runner checks, loads and takes up to k turns .. between two lent buffers." 12 is tried first: of the second buffer here, of the first by the load.
 pub fn run(recipe: &[u8], turns: u16, first: &mut [u8], second: &mut [u8]) -> Ending
     ensures { λ r. ⌜ r ≡ ran (now (recipe .entry)) turns (length (now (first .entry))) (length (now (second .entry))) ⌝ }
@@ -90,7 +75,7 @@ pub fn run(recipe: &[u8], turns: u16, first: &mut [u8], second: &mut [u8]) -> En
         return Ending::Refused(refusal);
     }
     let length = loaded.length as usize;
-    let nodes = count_nodes(&first[..length]);
+    let nodes = image_check::count_nodes(&first[..length]);
     let start = At {
         next: 0,
         length,

@@ -18,7 +18,7 @@ use Rattle.check_spec.specs.Verdict.{verdict-of}
 use Rattle.image_layout.specs.Slice.{names}
 use Rattle.step_spec.specs.declared.Outcome.the-variants.{Rule, Refused}
 use Rattle.step_spec.specs.Stepping.{outcome-of}
-use Rattle.runs.specs.Run.{Call, Step, answer, left, steps, image-loaded, types-loaded}
+use Rattle.runs.specs.Run.{Call, Step, Follows, answer, left, steps-of, image-loaded, types-loaded}
 use Rattle.demands.specs.Demands.{RunDemand}
 use Rattle.run_spec.specs.declared.Ending.{Ending}
 use Rattle.run_spec.specs.declared.Ending.the-variants.{Turns, Idle, Room, Refused as RunRefused}
@@ -46,14 +46,9 @@ ComesRound t x = (i : ℕ) × (at (up-to (t .thread) (going-round (names (t .ima
 abbrev pub chain : Course → List (List ℕ)
 chain c = map (λ (t : Turn). t .image) (c .turns) ++ (c .last ∷ [])
 
--- calls of a run of document 01 that step the threads of the turns, into any buffers that are long enough
-pub record Follows (c : Course) (calls : List Call) : Type 0 where
-  pub threads : map (λ (call : Call). call .thread) calls ≡ map (λ (t : Turn). t .thread) (c .turns)
-  pub long : (i : ℕ) (call : Call) → at calls i ≡ some call → max-image-length ≤ length (call .out)
-
--- the steps of these calls, the first being handed the image that a load into `out` wrote
-abbrev pub steps-of : List ℕ → List ℕ → List Call → List Step
-steps-of file out calls = steps (type-at (type-table file)) (image-loaded file out) (types-loaded file) calls
+-- the threads of the turns
+abbrev pub stepped : Course → List ℕ
+stepped c = map (λ (t : Turn). t .thread) (c .turns)
 
 -- they are the turns: as many; each answers a rule, is handed the image of its place in the chain, and leaves the next one
 pub record IsChain (file out : List ℕ) (c : Course) (calls : List Call) : Type 0 where
@@ -86,9 +81,9 @@ pub record TurnsDemand (file : List ℕ) (k : ℕ) (c : Course) (e : Ending) : T
   -- "after k turns it looks no further"
   pub all-taken : (e ≡ Turns (length (c .turns)) (length (c .last))) ↔ (length (c .turns) ≡ k)
   -- "the turns are the steps of that chain of images"; there are calls that step them; the third demand holds along it
-  pub followed : (out : List ℕ) → max-image-length ≤ length out → (calls : List Call) × Follows c calls
-  pub chained : (out : List ℕ) → max-image-length ≤ length out → (calls : List Call) → Follows c calls → IsChain file out c calls
-  pub demanded : (out : List ℕ) → max-image-length ≤ length out → (calls : List Call) → Follows c calls →
+  pub followed : (out : List ℕ) → max-image-length ≤ length out → (calls : List Call) × Follows (stepped c) calls
+  pub chained : (out : List ℕ) → max-image-length ≤ length out → (calls : List Call) → Follows (stepped c) calls → IsChain file out c calls
+  pub demanded : (out : List ℕ) → max-image-length ≤ length out → (calls : List Call) → Follows (stepped c) calls →
       RunDemand (type-at (type-table file)) (image-loaded file out) (types-loaded file) calls
   -- "No thread that a rule moves, and that finds room when its number comes round, sees more than 255 steps of others before its own"
   pub fair : (x i n : ℕ) → Sees (c .turns) x i n → n < max-names

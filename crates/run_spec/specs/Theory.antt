@@ -4,8 +4,8 @@
 pub mod Searching
 -- what a look says of the answers of steps
 pub mod Looks
--- an image that a run comes to, and what a look finds there
-pub mod Reached
+-- what a look finds in an image that a run comes to
+pub mod ReachedLooks
 -- the course of a run, turn by turn, along reached states
 pub mod Chain
 -- when it stops, and what it says then

@@ -2,8 +2,8 @@
 -- `loaded-of` and `out-after-load`, what a step answers and leaves by `outcome-of` and `out-after-step`: the definitions that the contracts of load and step cite.
 use mathlib.Core.Path.{_≡_}
 use mathlib.Core.Option.{some}
-use mathlib.Core.List.{List, [], _∷_, _++_}
-use Prim.Native.Nat.{ℕ, _+_}
+use mathlib.Core.List.{List, [], _∷_, _++_, map}
+use Prim.Native.Nat.{ℕ, _+_, _≤_}
 use lib.ListN.{length, take}
 use Rattle.calculus.specs.Types.{LinType}
 use Rattle.calculus.specs.Syntax.{Exp, name, thread-of, open-for, at}
@@ -11,6 +11,8 @@ use Rattle.calculus.specs.Typing.{TypeNumbers}
 use Rattle.calculus.specs.Reduction.{HANDLE-BIND, number}
 use Rattle.calculus.specs.NewTypes.{function-at, new-types}
 use Rattle.calculus.specs.Causes.{room-cause}
+use Rattle.calculus.specs.Limits.{max-image-length}
+use Rattle.calculus.specs.Table.{type-at}
 use Rattle.calculus.specs.State.{ValuesTyped}
 use Rattle.calculus.specs.Recipe.{start}
 use Rattle.recipe_table.specs.Entries.{type-table}
@@ -88,3 +90,12 @@ image-loaded file out = take (loaded-of file (length out) .length) (out-after-lo
 -- the types of its names: "cell of num for a setting, the bay's type for its first thread"
 abbrev pub types-loaded : List ℕ → List LinType
 types-loaded file = start (type-table file) (bay-terms file) .names
+
+-- the steps of these calls, the first being handed the image that a load into `out` wrote
+abbrev pub steps-of : List ℕ → List ℕ → List Call → List Step
+steps-of file out calls = steps (type-at (type-table file)) (image-loaded file out) (types-loaded file) calls
+
+-- calls that step these threads, into any buffers that are long enough
+pub record Follows (xs : List ℕ) (calls : List Call) : Type 0 where
+  pub threads : map (λ (call : Call). call .thread) calls ≡ xs
+  pub long : (i : ℕ) (call : Call) → at calls i ≡ some call → max-image-length ≤ length (call .out)

@@ -4,3 +4,5 @@
 pub mod Exactly
 -- what a step replies to any slice, and how each answer of the calculus is told
 pub mod Replies
+-- an awaited name is a name of the image
+pub mod Waiting

@@ -117,10 +117,7 @@ fn images() -> Vec<(&'static str, Vec<u8>, u64)> {
         let loaded = Model.load(file, &mut out).unwrap_or_default();
         out[..loaded.length as usize].to_vec()
     };
-    let mut named = |name: &str| {
-        let example = examples::all().into_iter().find(|e| e.name == name);
-        example.map(|e| image(&e.file())).unwrap_or_default()
-    };
+    let mut named = |name: &str| image(&examples::file_of(name));
     let [recursion, mutex, queue] = ["recursion", "mutex", "queue"].map(&mut named);
     let largest = image(&recipes::largest(&mut Draw::new(2_006)).write());
     vec![

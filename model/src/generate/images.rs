@@ -2,7 +2,7 @@
 
 use crate::draw::Draw;
 use crate::generate::configurations::{configuration, configuration_at_limits, outcome_at_limit};
-use crate::image::write_image;
+use crate::image::{names_of_kind, write_image};
 use crate::kinds;
 use crate::limits;
 
@@ -87,20 +87,6 @@ fn lengthen(image: &mut Vec<u8>, draw: &mut Draw) {
         let new = old.wrapping_add(more as u16).to_le_bytes();
         image[last - 2..last].copy_from_slice(&new);
     }
-}
-
-/// The names that the heads of a slice give that kind, as far as there are heads.
-fn names_of_kind(image: &[u8], wanted: u8) -> Vec<u64> {
-    let count = image.get(..limits::FIRST_HEAD).unwrap_or(&[0, 0]);
-    let names = usize::from(u16::from_le_bytes([count[0], count[1]]));
-    let heads = image.get(limits::FIRST_HEAD..).unwrap_or(&[]);
-    let heads = heads.chunks_exact(limits::HEAD_LENGTH).take(names);
-    let found = heads.map(|head| head[0]);
-    (0..)
-        .zip(found)
-        .filter(|(_, kind)| *kind == wanted)
-        .map(|(name, _)| name)
-        .collect()
 }
 
 /// A number to step: mostly a thread's, sometimes of no thread, also a huge one.

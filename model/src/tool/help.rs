@@ -5,11 +5,12 @@ use std::ffi::OsString;
 use std::io::Write;
 
 const GENERAL: &str = "\
-recipe shows, writes, runs and compares recipes for bays.
+recipe shows, writes, runs and compares recipes for bays, and prints the draws of the test load.
 
   recipe show FILE              a recipe file as text; why and where it is refused
   recipe write FILE.txt [OUT]   a text as a recipe file
   recipe run FILE               the recipe, turn by turn
+  recipe draws FILE             the lines of the test load, one for each draw
   recipe compare A B            two shared libraries on the same recipes and turns
   recipe help [COMMAND]         this, or more about a command
   recipe --version              which tool this is, and whether the library is built in
@@ -76,6 +77,25 @@ The run stops when all turns are taken, or when no thread can go: each is done o
 one lacks room.
 ";
 
+const DRAWS: &str = "\
+recipe draws FILE --seed S --count N [--input]
+
+Checks and loads the recipe, draws threads and steps them, and prints the lines of the program
+test_load: for each draw the thread, then step and the rule, done and 0, waiting and the awaited name,
+or refused and the refusal's number. For a refused recipe it prints the verdict line alone, and so for
+a seed of zero (18), which is tried after the recipe; the exit status is then 1.
+
+  --seed S    the seed, 0 to 4294967295
+  --count N   so many draws, 0 to 65535; a number above 10000 counts as 10000
+  --input     writes what the program is given, seed, number of draws and recipe, and no line
+
+A draw replaces the seed by itself xor its left shift by 13, then xor its right shift by 17, then xor
+its left shift by 5, in 32 bits. Modulo the number of threads, done or not, it picks a thread, counted
+from 0. The program on the same input:
+
+  recipe draws FILE --seed S --count N --input | test_load
+";
+
 const COMPARE: &str = "\
 recipe compare A B [--seed S] [--count N] [--limit SECONDS] [--progress]
 
@@ -95,10 +115,11 @@ A shared library from a static one:
   gcc -shared -Wl,--whole-archive libfikarehu.a -Wl,--no-whole-archive -o libfikarehu.so
 ";
 
-const COMMANDS: [(&str, &str); 4] = [
+const COMMANDS: [(&str, &str); 5] = [
     ("show", SHOW),
     ("write", WRITE),
     ("run", RUN),
+    ("draws", DRAWS),
     ("compare", COMPARE),
 ];
 

@@ -37,6 +37,15 @@ impl Refusal {
     pub fn in_words(&self) -> String {
         format!("{}: {}", self.short(), refusals::in_words(self.number))
     }
+
+    /// The same with the place in the file and what was found there.
+    pub fn in_full(&self) -> String {
+        let place = match &self.fault {
+            Some(fault) => format!("; {}, byte {}: {}", fault.place, fault.offset, fault.found),
+            None => String::new(),
+        };
+        format!("{}{place}", self.in_words())
+    }
 }
 
 /// Why a file is refused, if it is.

@@ -1,7 +1,7 @@
-//! The refusals in document 01's words, and the rules by name.
+//! The refusals in the documents' words, and the rules by name.
 
 /// The cause of each number, 1 first.
-const CAUSES: [&str; 17] = [
+const CAUSES: [&str; 18] = [
     "file length outside 12 to 8,192",
     "first two bytes, edition, or n outside 2 to 17",
     "pairs break the layout; table length no multiple of 3, or outside 9 to 768",
@@ -19,6 +19,7 @@ const CAUSES: [&str; 17] = [
     "a rule applies, outcome above 256 names or 4,096 nodes",
     "used handle applied",
     "two values meet, neither a rule, nor waiting, nor 16",
+    "a seed of zero",
 ];
 
 /// The rules in Fig. 5's order, 1 first, and document 02's two.
@@ -36,7 +37,7 @@ const RULES: [&str; 9] = [
 
 /// The cause of that number in words.
 pub fn in_words(number: u32) -> &'static str {
-    named(&CAUSES, number).unwrap_or("a number that document 01 does not have")
+    named(&CAUSES, number).unwrap_or("a number that the documents do not have")
 }
 
 /// The name of that rule.

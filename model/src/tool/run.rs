@@ -87,13 +87,8 @@ fn load(path: &Path, recipe: &[u8]) -> Result<(usize, Vec<u8>), Problem> {
         image.truncate(loaded.length as usize);
         return Ok((loaded.bays as usize, image));
     }
-    let refusal = Refusal::of(loaded.refusal, recipe, &[]);
-    let place = match &refusal.fault {
-        Some(fault) => format!("; {}, byte {}: {}", fault.place, fault.offset, fault.found),
-        None => String::new(),
-    };
-    let (name, words) = (path.display(), refusal.in_words());
-    Err(message(format!("{name}: {words}{place}")))
+    let why = Refusal::of(loaded.refusal, recipe, &[]).in_full();
+    Err(message(format!("{}: {why}", path.display())))
 }
 
 /// The turns, printed one by one; then the end.

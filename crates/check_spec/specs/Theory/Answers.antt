@@ -1,14 +1,17 @@
 -- What a check answers, from the first cause that fits.
 use mathlib.Core.Path.{_≡_, refl, sym}
-use mathlib.Core.Bool.{Bool, cond, false, true}
+use mathlib.Core.Bool.{Bool, _||_, cond, false, true}
 use mathlib.Core.List.{List}
-use Prim.Native.Nat.{ℕ, _≤_}
+use Prim.Native.Nat.{ℕ, _<_, _≤_}
 use native.Mathlib.Omega.{arith}
-use lib.Dec.{eqb}
+use lib.Dec.{eqb, ltb}
+use lib.ListN.{length}
 use Rattle.calculus.specs.Lowest.{Lowest}
-use Rattle.calculus.specs.Causes.{bay-once-cause, buffer-cause}
+use Rattle.calculus.specs.Causes.{bay-once-cause, buffer-cause, file-length-cause}
+use Rattle.calculus.specs.Limits.{max-file-length, min-file-length}
 use Rattle.calculus.specs.Theory.Ascending.{ascending-lowest, first-cause-at-most}
-use Rattle.calculus.specs.Theory.Tests.{eqb-complete, eqb-differ, eqb-sound}
+use Rattle.calculus.specs.Theory.Tests.{eqb-complete, eqb-differ, eqb-sound, ltb-complete}
+use Rattle.recipe_file.specs.File.{cause-1, outside}
 use Rattle.check_spec.specs.Verdict.{accepted, check-causes, refusal, refused, verdict-of}
 
 module _ (s : List ℕ) where
@@ -44,3 +47,16 @@ refusal-small file =
 -- so none has the number 12
 pub not-12 : (file : List ℕ) → ¬ (refusal file ≡ buffer-cause)
 not-12 file e = omega (arith, refusal-small file)
+
+or-right : (a b : Bool) → b ≡ true → (a || b) ≡ true
+or-right true b e = refl
+or-right false b e = e
+
+-- document 01, cause 1, of a file that is too long
+is-cause-1 : (s : List ℕ) → max-file-length < length s → cause-1 s ≡ true
+unfolding cause-1 outside
+is-cause-1 s l = or-right (ltb (length s) min-file-length) (ltb max-file-length (length s)) (ltb-complete max-file-length (length s) l)
+
+pub long-refused : (s : List ℕ) → max-file-length < length s → refusal s ≡ file-length-cause
+unfolding refusal
+long-refused s l = rw (is-cause-1 s l) refl

@@ -1,8 +1,8 @@
 use mathlib.Core.Path.{_∙_, ap, subst⁻¹}
 use borrow.Author.Needs.{needs}
-use Rattle.fikarehu.specs.Numbers.{NameSmall, step-numbers}
+use Rattle.step_spec.specs.Theory.Waiting.{NameSmall, waiting-small}
+use Rattle.fikarehu.specs.Numbers.{step-numbers}
 use Rattle.fikarehu.proofs.fikarehu_step.Statement.{statement}
-use Rattle.fikarehu.proofs.Waiting.{waiting-small}
 use Rattle.fikarehu.proofs.fikarehu_step.Tie as tie
 
 step-numbers-requires : tie.Need-step-numbers-requires

@@ -21,7 +21,8 @@ use Rattle.image.specs.Configuration.{encode, image-of}
 use Rattle.check_spec.specs.Bays.{bay-term, bay-terms, cause-5, cause-6}
 use Rattle.check_spec.specs.Verdict.{refusal, verdict-of}
 use Rattle.load_spec.specs.Starting.{starting-image}
-use Rattle.recipe_text.specs.Text.{decimal, hexadecimal, hexadecimal-byte, image-line, text-of, verdict-line}
+use Rattle.text.specs.Ascii.{decimal, verdict-line}
+use Rattle.recipe_text.specs.Text.{hexadecimal, hexadecimal-byte, image-line, text-of}
 
 -- document 01, "Bay cases": the files of A, H and D
 abbrev file-A : List ℕ

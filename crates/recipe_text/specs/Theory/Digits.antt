@@ -1,15 +1,13 @@
--- Hexadecimal, byte after byte, and the lengths of numbers and lines.
+-- Hexadecimal, byte after byte, and the length of the line with the image.
 use mathlib.Core.Path.{_≡_, _∙_, ap, refl}
-use mathlib.Core.Bool.{Bool, cond, true, false}
 use mathlib.Core.List.{List, [], _∷_, _++_}
 use Prim.Native.Nat.{ℕ, _+_, _*_, _/_, _%_, _<_, _≤_}
 use native.Mathlib.Numerals.{add-one}
 use native.Mathlib.Omega.{arith}
-use lib.Dec.{ltb}
 use lib.ListN.{getD, length, length-append, take}
 use lib.Seq.{length-take-le, take-suc}
-use Rattle.calculus.specs.Theory.Tests.{ltb-complete, ltb-not}
-use Rattle.recipe_text.specs.Text.{decimal, digit, hexadecimal, hexadecimal-byte, image-line, verdict-line}
+use Rattle.text.specs.Ascii.{digit}
+use Rattle.recipe_text.specs.Text.{hexadecimal, hexadecimal-byte, image-line}
 
 -- what follows stands behind
 pub hexadecimal-append : (a b : List ℕ) → hexadecimal (a ++ b) ≡ hexadecimal a ++ hexadecimal b
@@ -34,31 +32,6 @@ pub hexadecimal-turn : (s : List ℕ) (i : ℕ) → i < length s → hexadecimal
 hexadecimal-turn s i h =
     ap hexadecimal (rw (add-one i) (take-suc s i 0 h)) ∙ hexadecimal-append (take i s) (getD s i 0 ∷ []) ∙ ap (λ (b : List ℕ). hexadecimal (take i s) ++ b) (hexadecimal-one (getD s i 0))
 
-pub decimal-one : (n : ℕ) → n < 10 → digit n ∷ [] ≡ decimal n
-unfolding decimal
-decimal-one n h = rw (ltb-complete n 10 h) refl
-
-pub decimal-two : (n : ℕ) → 10 ≤ n → digit (n / 10) ∷ digit (n % 10) ∷ [] ≡ decimal n
-unfolding decimal
-decimal-two n h = rw (ltb-not n 10 h) refl
-
-pub length-decimal : (n : ℕ) → length (decimal n) ≤ 2
-unfolding decimal
-length-decimal n = go (ltb n 10)
-  where
-    go : (b : Bool) → length (cond b (digit n ∷ []) (digit (n / 10) ∷ digit (n % 10) ∷ [])) ≤ 2
-    go true = omega arith
-    go false = omega arith
-
-pub length-verdict-line : (n : ℕ) → length (verdict-line n) ≤ 11
-unfolding verdict-line
-length-verdict-line n = simp length-append (omega (arith, length-decimal n))
-
 pub length-image-line : (s : List ℕ) → length (image-line s) ≡ 7 + 2 * length s
 unfolding image-line
 length-image-line s = simp length-append (omega (arith, length-hexadecimal s))
-
--- "0 for accepted"
-pub length-accepted : length (verdict-line 0) ≡ 10
-unfolding verdict-line decimal
-length-accepted = refl

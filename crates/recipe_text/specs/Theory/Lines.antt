@@ -1,21 +1,19 @@
 -- The text by the verdict, and the text of an input that is longer than any recipe.
 use mathlib.Core.Path.{_≡_, _∙_, ap, refl, sym}
-use mathlib.Core.Bool.{Bool, _||_, true, false}
 use mathlib.Core.List.{List, _++_, append-nil}
 use Prim.Native.Nat.{ℕ, _<_}
 use native.Mathlib.Omega.{arith}
 use native.Mathlib.Decide.{decLt}
-use lib.Dec.{ltb}
 use lib.ListN.{length, take}
 use lib.Seq.{length-take-le, take-all}
 use Rattle.calculus.specs.Causes.{file-length-cause}
-use Rattle.calculus.specs.Limits.{max-file-length, min-file-length}
-use Rattle.calculus.specs.Theory.Tests.{eqb-differ, ltb-complete}
-use Rattle.recipe_file.specs.File.{cause-1, outside}
+use Rattle.calculus.specs.Limits.{max-file-length}
+use Rattle.calculus.specs.Theory.Tests.{eqb-differ}
 use Rattle.check_spec.specs.Verdict.{refusal}
-use Rattle.check_spec.specs.Theory.Answers.{refusal-is}
+use Rattle.check_spec.specs.Theory.Answers.{long-refused, refusal-is}
 use Rattle.load_spec.specs.Starting.{starting-image}
-use Rattle.recipe_text.specs.Text.{image-line, text-of, verdict-line}
+use Rattle.text.specs.Ascii.{verdict-line}
+use Rattle.recipe_text.specs.Text.{image-line, text-of}
 
 module _ (s : List ℕ) where
   -- "if accepted"
@@ -26,19 +24,6 @@ module _ (s : List ℕ) where
   pub text-refused : ¬ (refusal s ≡ 0) → text-of s ≡ verdict-line (refusal s)
   unfolding text-of
   text-refused n = rw (refusal-is s, eqb-differ (refusal s) 0 n, append-nil) refl
-
-or-right : (a b : Bool) → b ≡ true → (a || b) ≡ true
-or-right true b e = refl
-or-right false b e = e
-
--- document 01, cause 1, of a file that is too long
-is-cause-1 : (s : List ℕ) → max-file-length < length s → cause-1 s ≡ true
-unfolding cause-1 outside
-is-cause-1 s l = or-right (ltb (length s) min-file-length) (ltb max-file-length (length s)) (ltb-complete max-file-length (length s) l)
-
-long-refused : (s : List ℕ) → max-file-length < length s → refusal s ≡ file-length-cause
-unfolding refusal
-long-refused s l = rw (is-cause-1 s l) refl
 
 -- one byte more than the longest file is enough to read: the text of a longer input is that of its first bytes
 pub text-of-longer : (s : List ℕ) (n : ℕ) → max-file-length < n → text-of (take n s) ≡ text-of s

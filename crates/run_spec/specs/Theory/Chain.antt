@@ -15,7 +15,8 @@ use Rattle.image_layout.specs.Slice.{names}
 use Rattle.image.specs.Configuration.{image-of}
 use Rattle.run_spec.specs.Course.{goes, look, going-round, Search, found, nobody, met, search-from, Turn, all-turns, idle, no-room, stopped-by, Course, stopped, after-turn, one-after, turning, take-turns}
 use Rattle.run_spec.specs.Theory.Searching.{First, Nobody, search-found, search-nobody}
-use Rattle.run_spec.specs.Theory.Reached.{Reached, reached-after, stepping, goes-on, never-met}
+use Rattle.demands.specs.Theory.Reached.{Reached, reached-after, stepping}
+use Rattle.run_spec.specs.Theory.ReachedLooks.{goes-on, never-met}
 
 -- what is found goes, and is the first that does
 pub turn-first : (image : List ℕ) (next : ℕ) {x : ℕ} {image′ : List ℕ} → search-from image next ≡ found x image′ → First image (going-round (names image) next) x image′

@@ -25,7 +25,7 @@ use Rattle.run_spec.specs.declared.Ending.{Ending}
 use Rattle.run_spec.specs.declared.Ending.the-variants.{Turns, Idle, Room, Refused}
 use Rattle.run_spec.specs.Course.{Stop, all-turns, idle, no-room, stopped-by, course-of}
 use Rattle.run_spec.specs.Ending.{Leaves, ending-by, ending-of, ends-in-first, ran, run-refusal, unless-refused}
-use Rattle.run_spec.specs.Theory.Reached.{reached-start}
+use Rattle.demands.specs.Theory.Reached.{reached-start}
 use Rattle.run_spec.specs.Theory.Chain.{Chain, chain-of, never-refused}
 
 -- the course of an accepted recipe's run goes along reached states

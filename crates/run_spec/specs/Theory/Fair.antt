@@ -21,7 +21,8 @@ use Rattle.run_spec.specs.Course.{goes, look, upward, going-round, Turn,
 use Rattle.run_spec.specs.HouseRunner.{up-to, ComesRound, CanStep, Sees}
 use Rattle.run_spec.specs.Theory.Searching.{In, up-to-upward, up-to-past, up-to-alone}
 use Rattle.run_spec.specs.Theory.Looks.{goes-iff}
-use Rattle.run_spec.specs.Theory.Reached.{Reached, reached-names, reached-rules, not-resting, grows}
+use Rattle.demands.specs.Theory.Reached.{Reached, reached-names, reached-rules}
+use Rattle.run_spec.specs.Theory.ReachedLooks.{not-resting, grows}
 use Rattle.run_spec.specs.Theory.Chain.{Chain, all-taken, nobody-left, one-turn, turn-in, first-turn}
 
 -- how many numbers come before x at most

@@ -14,11 +14,12 @@ use Rattle.calculus.specs.Theory.Tests.{clash}
 use Rattle.image.specs.Configuration.{image-of}
 use Rattle.step_spec.specs.declared.Outcome.the-variants.{Rule}
 use Rattle.step_spec.specs.Stepping.{outcome-of-reply}
-use Rattle.runs.specs.Run.{Call, Step, answer, left, types-left, steps}
+use Rattle.runs.specs.Run.{Call, Follows, Step, answer, left, types-left, steps}
 use Rattle.runs.specs.Theory.Steps.{call-of, answers, leaves-image, leaves-types}
 use Rattle.run_spec.specs.Course.{goes, look, Turn, Stop, Course, stopped, after-turn}
-use Rattle.run_spec.specs.HouseRunner.{chain, Follows}
-use Rattle.run_spec.specs.Theory.Reached.{Reached, reached-rules, reached-writable, stepping, long-reply, goes-by}
+use Rattle.run_spec.specs.HouseRunner.{chain, stepped}
+use Rattle.demands.specs.Theory.Reached.{Reached, reached-rules, reached-writable, stepping, long-reply}
+use Rattle.run_spec.specs.Theory.ReachedLooks.{goes-by}
 use Rattle.run_spec.specs.Theory.Chain.{Chain, all-taken, nobody-left, one-turn, turn-in}
 
 -- step number i of calls answers a rule, and goes from image to image of a chain
@@ -33,7 +34,7 @@ pub record AreSteps (τ : TypeNumbers) (s : State) (c : Course) (calls : List Ca
 
 module _ {τ : TypeNumbers} where
   -- no turn
-  no-steps : (s : State) (stop : Stop) (calls : List Call) → Follows (stopped (image-of (s .config)) stop) calls → AreSteps τ s (stopped (image-of (s .config)) stop) calls
+  no-steps : (s : State) (stop : Stop) (calls : List Call) → Follows (stepped (stopped (image-of (s .config)) stop)) calls → AreSteps τ s (stopped (image-of (s .config)) stop) calls
   unfolding steps
   no-steps s stop [] f = record { begins = refl; as-many = refl; each = λ i n h. absurd (clash (cc)) }
   no-steps s stop (c ∷ calls) f = let e = f .threads in absurd (clash (cc))
@@ -57,8 +58,8 @@ module _ {τ : TypeNumbers} where
 
   -- one turn more
   turn-more : {s : State} (r : Reached τ s) (next x : ℕ) {image′ : List ℕ} → look (image-of (s .config)) x ≡ goes image′ → (c : Course) →
-      ((calls : List Call) → Follows c calls → AreSteps τ (state-after τ s (stepping x)) c calls) → (calls : List Call) →
-      Follows (after-turn (turn-in s next x) c) calls → AreSteps τ s (after-turn (turn-in s next x) c) calls
+      ((calls : List Call) → Follows (stepped c) calls → AreSteps τ (state-after τ s (stepping x)) c calls) → (calls : List Call) →
+      Follows (stepped (after-turn (turn-in s next x) c)) calls → AreSteps τ s (after-turn (turn-in s next x) c) calls
   unfolding outcome-of-reply
   turn-more r next x g c ih [] f = let e = f .threads in absurd (clash (cc))
   turn-more {s} r next x {image′} g c ih (a ∷ calls) f =
@@ -75,23 +76,7 @@ module _ {τ : TypeNumbers} where
       (leaves-types τ s (reached-rules r) (reached-writable r) a ∙ ap (λ (s′ : State). s′ .names) after)
       (ih calls (record { threads = rest; long = λ i d h. f .long (suc i) d h }))
 
-pub are-steps : {τ : TypeNumbers} {k next : ℕ} {s : State} {c : Course} → Chain τ k next s c → (calls : List Call) → Follows c calls → AreSteps τ s c calls
+pub are-steps : {τ : TypeNumbers} {k next : ℕ} {s : State} {c : Course} → Chain τ k next s c → (calls : List Call) → Follows (stepped c) calls → AreSteps τ s c calls
 are-steps {s = s} (all-taken r) calls f = no-steps s _ calls f
 are-steps {s = s} (nobody-left r n) calls f = no-steps s _ calls f
 are-steps {next = next} (one-turn {c = c} {x = x} r (g, only) h) calls f = turn-more r next x g c (λ calls f. are-steps h calls f) calls f
-
--- and there are such calls: the threads of the turns, each into this buffer
-abbrev pub calls-into : List ℕ → List Turn → List Call
-calls-into out turns = map (λ (t : Turn). record { thread = t .thread; out = out }) turns
-
-pub follows-into : (out : List ℕ) → max-image-length ≤ length out → (c : Course) → Follows c (calls-into out (c .turns))
-follows-into out long c = record { threads = go (c .turns); long = λ i a h. all (c .turns) i a h }
-  where
-    go : (ts : List Turn) → map (λ (a : Call). a .thread) (calls-into out ts) ≡ map (λ (t : Turn). t .thread) ts
-    go [] = refl
-    go (t ∷ ts) = ap (λ (l : List ℕ). t .thread ∷ l) (go ts)
-
-    all : (ts : List Turn) (i : ℕ) (a : Call) → at (calls-into out ts) i ≡ some a → max-image-length ≤ length (a .out)
-    all [] i a h = absurd (clash (cc))
-    all (t ∷ ts) zero a h = let e : record { thread = t .thread; out = out } ≡ a = cc in rw (← e) long
-    all (t ∷ ts) (suc i) a h = all ts i a h

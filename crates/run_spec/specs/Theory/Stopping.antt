@@ -14,7 +14,8 @@ use Rattle.run_spec.specs.Course.{rests, look, going-round, all-turns, i
 use Rattle.run_spec.specs.HouseRunner.{CanStep, OutOfRoom}
 use Rattle.run_spec.specs.Theory.Searching.{In, Nobody, all-round}
 use Rattle.run_spec.specs.Theory.Looks.{goes-iff, lacks-iff}
-use Rattle.run_spec.specs.Theory.Reached.{Reached, reached-names, not-resting}
+use Rattle.demands.specs.Theory.Reached.{Reached, reached-names}
+use Rattle.run_spec.specs.Theory.ReachedLooks.{not-resting}
 use Rattle.run_spec.specs.Theory.Chain.{Chain, all-taken, nobody-left, one-turn}
 
 -- nobody goes, of all names

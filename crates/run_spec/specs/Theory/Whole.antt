@@ -11,16 +11,17 @@ use Rattle.calculus.specs.Limits.{max-image-length}
 use Rattle.check_spec.specs.Verdict.{refusal, verdict-of}
 use Rattle.check_spec.specs.Theory.Answers.{refusal-is}
 use Rattle.load_spec.specs.Starting.{starting-image}
-use Rattle.runs.specs.Run.{Call}
+use Rattle.runs.specs.Run.{Call, Follows}
+use Rattle.runs.specs.Theory.Steps.{follows-into}
 use Rattle.demands.specs.Theory.Third.{loaded-is, third-demand}
 use Rattle.run_spec.specs.Course.{Course, course-of}
 use Rattle.run_spec.specs.Ending.{ran}
-use Rattle.run_spec.specs.HouseRunner.{Follows, HouseRunner, IsChain, TurnsDemand}
+use Rattle.run_spec.specs.HouseRunner.{HouseRunner, IsChain, TurnsDemand, stepped}
 use Rattle.run_spec.specs.Theory.Looks.{goes-iff}
 use Rattle.run_spec.specs.Theory.Chain.{each-first, first-turn, later-turn}
 use Rattle.run_spec.specs.Theory.Stopping.{all-turns-iff, few-turns, stops-before}
 use Rattle.run_spec.specs.Theory.Fair.{fair-from}
-use Rattle.run_spec.specs.Theory.Steps.{are-steps, calls-into, follows-into}
+use Rattle.run_spec.specs.Theory.Steps.{are-steps}
 use Rattle.run_spec.specs.Theory.Ends.{ends-idle, ends-room, ends-turns, even-held, nothing-written, odd-held, ran-course, ran-number, recipe-chain, run-12-iff, run-long}
 
 -- one equivalence after the other
@@ -31,7 +32,7 @@ module _ (file : List ℕ) (b : Bytes file) (v : verdict-of file .refusal ≡ 0)
   accepted : refusal file ≡ 0
   accepted = sym (refusal-is file) ∙ v
 
-  is-chain : (out : List ℕ) → max-image-length ≤ length out → (calls : List Call) → Follows (course-of file k) calls → IsChain file out (course-of file k) calls
+  is-chain : (out : List ℕ) → max-image-length ≤ length out → (calls : List Call) → Follows (stepped (course-of file k)) calls → IsChain file out (course-of file k) calls
   unfolding starting-image
   is-chain out long calls f =
       let i = loaded-is file b accepted out long in
@@ -53,7 +54,7 @@ module _ (file : List ℕ) (b : Bytes file) (v : verdict-of file .refusal ≡ 0)
         lacked = λ l. rw e (both (ends-room (c .stop) (length (c .turns)) (length (c .last))) (stops-before h l .lacked));
         not-lacked = λ l. rw e (both (ends-idle (c .stop) (length (c .turns)) (length (c .last))) (stops-before h l .not-lacked));
         all-taken = rw e (both (ends-turns (c .stop) (length (c .turns)) (length (c .last))) (all-turns-iff h));
-        followed = λ out long. (calls-into out (c .turns), follows-into out long c);
+        followed = λ out long. follows-into out long (stepped c);
         chained = is-chain;
         demanded = λ out long calls f. third-demand file b v out long calls;
         fair = fair-from h (omega arith);

@@ -1,11 +1,13 @@
 -- A step on the image of a configuration is the calculus's step of that configuration.
 use mathlib.Core.Path.{_∙_, _≡_, ap, refl}
 use mathlib.Core.Logic.{_↔_}
-use mathlib.Core.List.{_++_}
-use Prim.Native.Nat.{ℕ}
+use mathlib.Core.Option.{some}
+use mathlib.Core.List.{List, [], _∷_, _++_, map}
+use Prim.Native.Nat.{ℕ, zero, suc, _≤_}
 use lib.ListN.{drop, length, take}
 use lib.Seq.{take-append-seam}
-use Rattle.calculus.specs.Syntax.{Config, EachAll}
+use Rattle.calculus.specs.Syntax.{Config, EachAll, at}
+use Rattle.calculus.specs.Limits.{max-image-length}
 use Rattle.calculus.specs.Typing.{TypeNumbers}
 use Rattle.calculus.specs.NewTypes.{new-types}
 use Rattle.calculus.specs.Image.{ImageRule, Writable}
@@ -19,7 +21,7 @@ use Rattle.image.specs.Configuration.{image-of, config-of}
 use Rattle.image.specs.Theory.Exactly.{read-again, image-written}
 use Rattle.step_spec.specs.declared.Outcome.the-variants.{Rule, Refused}
 use Rattle.step_spec.specs.Stepping.{step-reply, outcome-of-reply, out-after-reply, outcome-of, out-after-step}
-use Rattle.runs.specs.Run.{Call, Step, answer, left, types-left, Goes, renewed}
+use Rattle.runs.specs.Run.{Call, Follows, Step, answer, left, types-left, Goes, renewed}
 
 -- the calculus's call: a buffer's length is all that counts
 abbrev pub call-of : Call → calculus.ConfigCall
@@ -86,3 +88,19 @@ module _ (τ : TypeNumbers) (s : State) (keeps : ImageRule (s .config)) (writabl
       go (waits y) = refl
       go finished = refl
       go (refuses number) = refl
+
+-- there are calls that step these threads: each into this buffer
+abbrev calls-into : List ℕ → List ℕ → List Call
+calls-into out xs = map (λ (x : ℕ). record { thread = x; out = out }) xs
+
+pub follows-into : (out : List ℕ) → max-image-length ≤ length out → (xs : List ℕ) → (calls : List Call) × Follows xs calls
+follows-into out long xs = (calls-into out xs, record { threads = go xs; long = all xs })
+  where
+    go : (xs : List ℕ) → map (λ (c : Call). c .thread) (calls-into out xs) ≡ xs
+    go [] = refl
+    go (x ∷ xs) = ap (λ (l : List ℕ). x ∷ l) (go xs)
+
+    all : (xs : List ℕ) (i : ℕ) (c : Call) → at (calls-into out xs) i ≡ some c → max-image-length ≤ length (c .out)
+    all [] i c h = absurd (clash (cc))
+    all (x ∷ xs) zero c h = let e : record { thread = x; out = out } ≡ c = cc in rw (← e) long
+    all (x ∷ xs) (suc i) c h = all xs i c h

@@ -25,6 +25,11 @@ module _ (s : List ℕ) (x room : ℕ) where
   reply-short l = rw (ltb-complete room max-image-length l) refl
 
   module _ (long : max-image-length ≤ room) where
+    -- a buffer that is long enough changes nothing
+    pub reply-long : step-reply s x room ≡ step-reply s x max-image-length
+    unfolding step-reply
+    reply-long = rw (ltb-not room max-image-length long) refl
+
     pub reply-broken : image-stands s ≡ false → step-reply s x room ≡ refuses image-cause
     unfolding step-reply
     reply-broken e = rw (ltb-not room max-image-length long, e) refl

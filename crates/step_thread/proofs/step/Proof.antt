@@ -28,7 +28,8 @@ returns-3 c =
     let d = e .before .before .before .before .before in
     let a = d .before .before .before .before .args in
     let (stands, counted) = answered (a .image .now) _ (sym (e .before .before .before .nodes .given .1) ∙ d .check-image .ensures) in
-    checked (a .image .now) (a .thread) (a .out .now) (omega (arith, d .before .if1 .left)) stands (e .step-checked .ensures)
+    let (answer, (left, nodes)) = e .step-checked .ensures in
+    checked (a .image .now) (a .thread) (a .out .now) (omega (arith, d .before .if1 .left)) stands (answer, left)
 
 pub step-spec : {M : Type 1} → statement M
 step-spec =

@@ -44,13 +44,13 @@ returns c =
     let r = w .before .before in
     let g = r .before .before in
     let st = start (looked g) in
-    by-going (st .args .out .now) (goes-by g) (st .pre .1) _ _ _ (r .rule-of .ensures) (w .put-image-after .ensures)
+    by-going (st .args .out .now) (st .args .nodes) (goes-by g) (st .pre .1) _ _ _ (r .rule-of .ensures) (w .put-image-after .ensures)
 
 returns-2 : tie.Need-returns-2
 returns-2 c =
     let o = c .before in
     let l = o .before .before in
-    by-staying (start l .args .out .now) (looked-stays (subst (Looked _ _) (o .outcome .given .1) (l .look-at .ensures)))
+    by-staying (start l .args .out .now) (start l .args .nodes) (looked-stays (subst (Looked _ _) (o .outcome .given .1) (l .look-at .ensures)))
 
 pub step-checked-spec : {M : Type 1} → statement M
 step-checked-spec =

@@ -1,5 +1,6 @@
 //! What a run shows of an image: its threads, and the settings.
 
+use crate::image::names_of_kind;
 use crate::kinds::THREAD;
 use crate::limits::{FIRST_HEAD, HEAD_LENGTH};
 use crate::tags;
@@ -55,11 +56,7 @@ impl<'i> ImageView<'i> {
 
     /// The numbers of the threads.
     pub fn threads(self) -> Vec<u64> {
-        let is_thread = |name: &usize| self.kind(*name) == Some(THREAD);
-        (0..self.names())
-            .filter(is_thread)
-            .map(|name| name as u64)
-            .collect()
+        names_of_kind(self.0, THREAD)
     }
 
     /// The settings of the first names, one for each bay.

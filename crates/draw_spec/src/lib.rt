@@ -1,0 +1,1 @@
+// What a test load draws and prints. The definitions stand in specs/.

@@ -1,0 +1,2 @@
+-- What the functions of a test load are asked, and answer on the way.
+pub mod Lines

@@ -1,2 +1,0 @@
--- an awaited name is a name of the image
-pub mod Waiting

@@ -1,0 +1,71 @@
+-- An awaited name is a name of the image, and so has a small number.
+use mathlib.Core.Path.{_≡_, refl}
+use mathlib.Core.Bool.{Bool, cond, false, true}
+use mathlib.Core.List.{List}
+use Prim.Native.Nat.{_<_, _≤_, ℕ}
+use native.Mathlib.Omega.{arith}
+use lib.Dec.{ltb}
+use lib.ListN.{length}
+use Rattle.calculus.specs.Syntax.{Config}
+use Rattle.calculus.specs.Reduction.{number}
+use Rattle.calculus.specs.Step.{Answer, rule, waiting, done, no-thread, used-handle, wrong-kind, step-of, Unready, not-done, not-bound}
+use Rattle.calculus.specs.Limits.{max-image-length, max-names}
+use Rattle.calculus.specs.Image.{image-test, limits-test, within-limits}
+use Rattle.calculus.specs.Reply.{Reply, moved, waits, finished, refuses, reply-of}
+use Rattle.calculus.specs.Theory.Tests.{and-parts, clash}
+use Rattle.calculus.specs.Theory.Lists.{at-bound}
+use Rattle.calculus.specs.Theory.Step.{waiting-iff}
+use Rattle.calculus.specs.Theory.ImageTest.{image-test-iff}
+use Rattle.calculus.specs.Causes.{buffer-cause, image-cause, room-cause}
+use Rattle.image_layout.specs.Layout.{heads-stand}
+use Rattle.image.specs.Configuration.{config-of}
+use Rattle.image.specs.Stands.{image-stands, terms-stand}
+use Rattle.step_spec.specs.declared.Outcome.{Outcome}
+use Rattle.step_spec.specs.declared.Outcome.the-variants.{Waiting}
+use Rattle.step_spec.specs.Stepping.{outcome-of-reply, outcome-of, step-reply}
+
+-- an awaited name is one of the names that an image may have
+pub record NameSmall (o : Outcome) : Type 0 where
+  pub small : (y : ℕ) → o ≡ Waiting y → y < max-names
+
+unready-below : (C : Config) (y : ℕ) → Unready C y → y < length C
+unready-below C y (not-done e v h) = at-bound C y h
+unready-below C y (not-bound h) = at-bound C y h
+
+few-names : (s : List ℕ) → image-stands s ≡ true → length (config-of s) ≤ max-names
+unfolding image-stands
+few-names s t =
+    let (h, r) = and-parts (heads-stand s) _ t in
+    let (e, i) = and-parts (terms-stand s) (image-test (config-of s)) r in
+    image-test-iff (config-of s) .0 i .limits .few-names
+
+waits-for : (q : Reply) {y : ℕ} → outcome-of-reply q ≡ Waiting y → q ≡ waits y
+unfolding outcome-of-reply
+waits-for (moved r C) e = absurd (clash (cc))
+waits-for (waits y) e = cc
+waits-for finished e = absurd (clash (cc))
+waits-for (refuses n) e = absurd (clash (cc))
+
+replies-waiting : (a : Answer) {y : ℕ} → reply-of within-limits a ≡ waits y → a ≡ waiting y
+unfolding reply-of limits-test
+replies-waiting (rule r C) {y} e = absurd (go (limits-test C) (moved (number r) C) (λ p. clash (cc)) e)
+  where
+    go : (t : Bool) (q : Reply) → ¬ (q ≡ waits y) → cond t q (refuses room-cause) ≡ waits y → ⊥
+    go true q n e = n e
+    go false q n e = clash (cc)
+replies-waiting (waiting z) e = cc
+replies-waiting done e = absurd (clash (cc))
+replies-waiting no-thread e = absurd (clash (cc))
+replies-waiting used-handle e = absurd (clash (cc))
+replies-waiting wrong-kind e = absurd (clash (cc))
+
+pub waiting-small : (s : List ℕ) (x : ℕ) (out : List ℕ) → NameSmall (outcome-of s x out)
+unfolding outcome-of step-reply
+waiting-small s x out = record { small = λ y e. go (ltb (length out) max-image-length) (image-stands s) refl (waits-for (step-reply s x (length out)) e) }
+  where
+    go : {y : ℕ} (b t : Bool) → image-stands s ≡ t → cond b (refuses buffer-cause) (cond t (reply-of within-limits (step-of (config-of s) x)) (refuses image-cause)) ≡ waits y → y < max-names
+    go true t p e = absurd (clash (cc))
+    go false false p e = absurd (clash (cc))
+    go {y} false true p e =
+        let w = waiting-iff (config-of s) x y .0 (replies-waiting (step-of (config-of s) x) e) in
+        omega (arith, unready-below (config-of s) y (w .1), few-names s p)

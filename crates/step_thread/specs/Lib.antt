@@ -1,0 +1,2 @@
+-- What a step on an image that stands answers beside its outcome.
+pub mod Counted

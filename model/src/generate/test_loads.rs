@@ -1,0 +1,139 @@
+//! Inputs of the test load: short ones, cut ones and long ones; examples, houses and drawn recipes, each
+//! with a seed and a number of draws.
+
+use crate::draw::Draw;
+use crate::editions::{FIRST, SECOND};
+use crate::examples;
+use crate::format::write_parts;
+use crate::generate::{houses, recipes};
+use crate::houses::{all_names, crowd, fullest, house, nine_sorts, Bay, Makes};
+use crate::limits::{MAX_DRAWS, MAX_FILE};
+use crate::test_load::Input;
+
+/// How many recipes and houses are drawn.
+const RECIPES: usize = 200;
+const HOUSES: usize = 40;
+
+/// All of them, the same each time.
+pub fn inputs() -> Vec<Vec<u8>> {
+    [
+        short_and_cut(),
+        long(),
+        of_examples(),
+        with_many_draws(),
+        of_houses(),
+        drawn(),
+    ]
+    .concat()
+}
+
+/// What the program's held run is given: 10,000 draws over nine bays.
+pub fn held() -> Vec<u8> {
+    input(1, MAX_DRAWS, &nine_sorts().write())
+}
+
+fn input(seed: u32, count: u16, recipe: &[u8]) -> Vec<u8> {
+    let input = Input {
+        seed,
+        count,
+        recipe,
+    };
+    input.bytes()
+}
+
+/// Every length up to that of a whole input; its first six bytes are not 0.
+fn short_and_cut() -> Vec<Vec<u8>> {
+    let whole = input(0x0403_0201, 0x0203, &examples::file_of("one-vent"));
+    (0..=whole.len())
+        .map(|length| whole[..length].to_vec())
+        .collect()
+}
+
+/// Recipes of 8,192 bytes, one more, 9,000, and more than a pipe holds: all bytes 0, a recipe with bytes
+/// over, and one whose layout is kept.
+fn long() -> Vec<Vec<u8>> {
+    let accepted = examples::file_of("one-vent");
+    let of_length = |length: usize| {
+        let mut over = accepted.clone();
+        over.resize(length, 0);
+        let table = vec![0, 0, 0, 1, 0, 0, 2, 1, 0];
+        let term = vec![3; length - 12 - table.len()];
+        [
+            vec![0; length],
+            over,
+            write_parts(FIRST.number, &[table, term]),
+        ]
+    };
+    let lengths = [MAX_FILE, MAX_FILE + 1, 9_000, 70_000].into_iter();
+    with_each(lengths.flat_map(of_length), &[(7, 5)])
+}
+
+/// Each example with seeds and numbers of draws; zero is refused whatever the number.
+fn of_examples() -> Vec<Vec<u8>> {
+    let files = examples::all().into_iter().map(|example| example.file());
+    let told = [(0, 0), (0, 3), (1, 0), (1, 1), (7, 40), (u32::MAX, 120)];
+    with_each(files, &told)
+}
+
+/// Up to 10,000 draws, and above.
+fn with_many_draws() -> Vec<Vec<u8>> {
+    let files = ["nine-bays", "recursion", "waiting-for-ever"].map(examples::file_of);
+    let counts = [MAX_DRAWS - 1, MAX_DRAWS, MAX_DRAWS + 1, u16::MAX];
+    with_each(files, &counts.map(|count| (0x8000_0001, count)))
+}
+
+/// Each recipe with each seed and number of draws.
+fn with_each(recipes: impl IntoIterator<Item = Vec<u8>>, told: &[(u32, u16)]) -> Vec<Vec<u8>> {
+    let mut inputs = Vec::new();
+    for recipe in recipes {
+        inputs.extend(
+            told.iter()
+                .map(|(seed, count)| input(*seed, *count, &recipe)),
+        );
+    }
+    inputs
+}
+
+/// Houses that come to lack names or nodes, that wait, and that fill the image.
+fn of_houses() -> Vec<Vec<u8>> {
+    let loops = |makes| [Bay::Loops(makes), Bay::Loops(Makes::Nothing), Bay::Waits];
+    let house = |bays: &[Bay]| house(SECOND, bays);
+    [
+        (house(&loops(Makes::Cells)), 4_000),
+        (house(&loops(Makes::Threads)), 2_000),
+        (house(&loops(Makes::Handles)), 2_000),
+        (house(&[Bay::Doubles(11), Bay::Steps(9)]), 60),
+        (house(&[Bay::Pairs(11), Bay::Waits]), 60),
+        (house(&[Bay::Holds(8, 25), Bay::Doubles(9)]), 150),
+        (crowd(), 2_500),
+        (all_names(), 2_500),
+        (fullest(), 300),
+    ]
+    .into_iter()
+    .map(|(recipe, count)| input(2_006, count, &recipe.write()))
+    .collect()
+}
+
+/// Drawn recipes, accepted and refused, and drawn houses.
+fn drawn() -> Vec<Vec<u8>> {
+    let mut draw = Draw::new(6);
+    let mut inputs = Vec::new();
+    for number in 0..RECIPES + HOUSES {
+        let recipe = if number < RECIPES {
+            recipes::file(&mut draw)
+        } else {
+            houses::house(&mut draw).write()
+        };
+        let count = draw.pick(&[0, 1, 8, 30, 100]);
+        inputs.push(input(seed(&mut draw), count, &recipe));
+    }
+    inputs
+}
+
+/// Any seed, now and then zero.
+fn seed(draw: &mut Draw) -> u32 {
+    match draw.below(12) {
+        0 => 0,
+        _ => (draw.number() >> 32) as u32,
+    }
+}
