@@ -286,6 +286,21 @@ fn the_program_prints_the_lines_of_the_model() {
     }
 }
 
+/// The same on many more, of which the plain twin says what is right.
+#[test]
+#[ignore = "some minutes long"]
+fn the_program_prints_the_lines_of_the_plain_twin() {
+    let program = std::env::var_os("TEST_LOAD").expect("TEST_LOAD names the program");
+    let mut lines = 0;
+    for bytes in test_loads::many(20_261_117, 20_000) {
+        let found = program_common::written(&program, &bytes);
+        let expected = plain::printed(&Plain, &bytes);
+        assert!(found == expected, "input {}", hexadecimal(&bytes));
+        lines += found.lines().count();
+    }
+    println!("{lines} lines");
+}
+
 /// The plain twin prints the same.
 #[test]
 fn the_plain_twin_prints_the_lines_of_the_model() {

@@ -130,6 +130,28 @@ fn drawn() -> Vec<Vec<u8>> {
     inputs
 }
 
+/// So many drawn inputs: two recipes to a house, up to 600 draws or a number at the limit; now and then
+/// one is cut.
+pub fn many(seed: u64, inputs: usize) -> impl Iterator<Item = Vec<u8>> {
+    let mut draw = Draw::new(seed);
+    let next = move |_| {
+        let recipe = match draw.below(3) {
+            0 => houses::house(&mut draw).write(),
+            _ => recipes::file(&mut draw),
+        };
+        let count = match draw.below(12) {
+            0 => draw.pick(&[0, MAX_DRAWS, MAX_DRAWS + 1, u16::MAX]),
+            _ => draw.below(600) as u16,
+        };
+        let mut bytes = input(self::seed(&mut draw), count, &recipe);
+        if draw.below(30) == 0 {
+            bytes.truncate(draw.below(bytes.len()));
+        }
+        bytes
+    };
+    (0..inputs).map(next)
+}
+
 /// Any seed, now and then zero.
 fn seed(draw: &mut Draw) -> u32 {
     match draw.below(12) {
