@@ -53,30 +53,15 @@ fn the_first_draw_from_1() {
 
 #[test]
 fn draws_that_follow() {
-    let from_1 = [
-        270_369,
-        67_634_689,
-        2_647_435_461,
-        307_599_695,
-        2_398_689_233,
+    #[rustfmt::skip]
+    let followed = [
+        (1, [270_369, 67_634_689, 2_647_435_461, 307_599_695, 2_398_689_233]),
+        (7, [1_892_583, 470_389_255, 3_882_205_507, 3_069_989_445, 2_854_842_367]),
+        (u32::MAX, [253_983, 4_228_382_207, 1_958_451_267, 4_056_713_434, 2_049_502_865]),
     ];
-    assert_eq!(states(1, 5), from_1);
-    let from_7 = [
-        1_892_583,
-        470_389_255,
-        3_882_205_507,
-        3_069_989_445,
-        2_854_842_367,
-    ];
-    assert_eq!(states(7, 5), from_7);
-    let from_last = [
-        253_983,
-        4_228_382_207,
-        1_958_451_267,
-        4_056_713_434,
-        2_049_502_865,
-    ];
-    assert_eq!(states(u32::MAX, 5), from_last);
+    for (seed, expected) in followed {
+        assert_eq!(states(seed, 5), expected);
+    }
 }
 
 /// "bits beyond 32 dropped": of each shift, so that none comes back by the right shift. No other state

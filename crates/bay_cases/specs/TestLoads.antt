@@ -38,7 +38,7 @@ use Rattle.step_spec.specs.declared.Outcome.{Outcome}
 use Rattle.step_spec.specs.declared.Outcome.the-variants.{Rule, Done, Refused, Waiting}
 use Rattle.step_spec.specs.Stepping.{outcome-of-reply, step-reply}
 use Rattle.draw_spec.specs.State.{drawn}
-use Rattle.draw_spec.specs.Draws.{Draw, draws, image-after, is-thread, outcome, picked, thread, threads-below}
+use Rattle.draw_spec.specs.Draws.{Draw, draws, image-after, has-thread-kind, outcome, picked, thread, threads-below}
 use Rattle.draw_spec.specs.Lines.{draw-refusal, draws-in, line, lines, number-in, number-of, outcome-text, seed-in, text-of, word-of}
 use Rattle.bay_cases.specs.Cases.{T5, num-to-num, thread-many-many, identities, row-A, row-B, row-C, row-D}
 use Rattle.bay_cases.specs.Pairs.{reading-with-hour, own-rest}
@@ -238,7 +238,7 @@ pub record DrawsProved : Type 0 where
   wide-draws : telling (draws 2 1 wide) ≡ told 270369 109 (Waiting 111) ∷ told 67634689 101 (Waiting 111) ∷ []
 
 pub test-draws : DrawsProved
-unfolding wide computed-load input draw-refusal seed-in number-in draws image-after picked threads-below is-thread drawn outcome-of-reply type-number-in repeated identities verdict-of refusal bay-type-numbers bay-type-number bay-terms bay-term cause-5 cause-6 cause-4 table-of type-table file-of joined pairs-of two-bytes word bays parts offset-of length-of part table-bytes term-bytes outside cause-1 opens edition-of cause-2 pairs-test table-length-test cause-3 exp-of leaf-exp leaf-forms two-exp two-forms nesting one-term of-edition forms-below read read-term form-of forms value-of tabulate each-below sum-below uses nodes test-entry entry-test entry-stands entries-test same-entry new-to distinct-test entry-is table-test on-function on-once-function on-cell is-many scoped-const scoped annotated-const annotated const-number on-number result-number applied-number lambda-number both-number case-number with-components type-number outside-many linear-variable linear every verdict starting-image step-reply config-of decode components image-of encode terms-stand image-stands kind-test companion-test length-test head-agrees head-stands stand-from heads-stand names kind-at companion-at offset-in length-at expression-at encoded-at encoded-all head heads expressions image-bytes bytes const-bytes op-tag both-tag case-tag little-endian loaded bay-types with-type reply-of sum-in sum-all expression-test is-settled is-awaited handle-for component-test each-test limits-test image-test beside within place when-done step-call step-exchange step-meeting step-place step-redex step-case step-subject step-of substitute plug term-of type-at read-deep read-at read-entry one-part two-parts
+unfolding wide computed-load input draw-refusal seed-in number-in draws image-after picked threads-below has-thread-kind drawn outcome-of-reply type-number-in repeated identities verdict-of refusal bay-type-numbers bay-type-number bay-terms bay-term cause-5 cause-6 cause-4 table-of type-table file-of joined pairs-of two-bytes word bays parts offset-of length-of part table-bytes term-bytes outside cause-1 opens edition-of cause-2 pairs-test table-length-test cause-3 exp-of leaf-exp leaf-forms two-exp two-forms nesting one-term of-edition forms-below read read-term form-of forms value-of tabulate each-below sum-below uses nodes test-entry entry-test entry-stands entries-test same-entry new-to distinct-test entry-is table-test on-function on-once-function on-cell is-many scoped-const scoped annotated-const annotated const-number on-number result-number applied-number lambda-number both-number case-number with-components type-number outside-many linear-variable linear every verdict starting-image step-reply config-of decode components image-of encode terms-stand image-stands kind-test companion-test length-test head-agrees head-stands stand-from heads-stand names kind-at companion-at offset-in length-at expression-at encoded-at encoded-all head heads expressions image-bytes bytes const-bytes op-tag both-tag case-tag little-endian loaded bay-types with-type reply-of sum-in sum-all expression-test is-settled is-awaited handle-for component-test each-test limits-test image-test beside within place when-done step-call step-exchange step-meeting step-place step-redex step-case step-subject step-of substitute plug term-of type-at read-deep read-at read-entry one-part two-parts
 test-draws = record { cases-table = refl; picks-table = refl; keeps-table = refl; images-of-C = refl; images-waiting = refl; images-refused = refl; wide-draws = refl }
 
 -- what is proved of texts
@@ -249,7 +249,7 @@ pub record TextsProved : Type 0 where
   wide-text : lines (draws 2 1 wide) ≡ text-wide
 
 pub test-texts : TextsProved
-unfolding text-of lines line outcome-text number-of word-of decimal verdict-line wide input draw-refusal seed-in number-in draws image-after picked threads-below is-thread drawn outcome-of-reply type-number-in repeated identities verdict-of refusal bay-type-numbers bay-type-number bay-terms bay-term cause-5 cause-6 cause-4 table-of type-table file-of joined pairs-of two-bytes word bays parts offset-of length-of part table-bytes term-bytes outside cause-1 opens edition-of cause-2 pairs-test table-length-test cause-3 exp-of leaf-exp leaf-forms two-exp two-forms nesting one-term of-edition forms-below read read-term form-of forms value-of tabulate each-below sum-below uses nodes test-entry entry-test entry-stands entries-test same-entry new-to distinct-test entry-is table-test on-function on-once-function on-cell is-many scoped-const scoped annotated-const annotated const-number on-number result-number applied-number lambda-number both-number case-number with-components type-number outside-many linear-variable linear every verdict starting-image step-reply config-of decode components image-of encode terms-stand image-stands kind-test companion-test length-test head-agrees head-stands stand-from heads-stand names kind-at companion-at offset-in length-at expression-at encoded-at encoded-all head heads expressions image-bytes bytes const-bytes op-tag both-tag case-tag little-endian loaded bay-types with-type reply-of sum-in sum-all expression-test is-settled is-awaited handle-for component-test each-test limits-test image-test beside within place when-done step-call step-exchange step-meeting step-place step-redex step-case step-subject step-of substitute plug term-of type-at read-deep read-at read-entry one-part two-parts
+unfolding text-of lines line outcome-text number-of word-of decimal verdict-line wide input draw-refusal seed-in number-in draws image-after picked threads-below has-thread-kind drawn outcome-of-reply type-number-in repeated identities verdict-of refusal bay-type-numbers bay-type-number bay-terms bay-term cause-5 cause-6 cause-4 table-of type-table file-of joined pairs-of two-bytes word bays parts offset-of length-of part table-bytes term-bytes outside cause-1 opens edition-of cause-2 pairs-test table-length-test cause-3 exp-of leaf-exp leaf-forms two-exp two-forms nesting one-term of-edition forms-below read read-term form-of forms value-of tabulate each-below sum-below uses nodes test-entry entry-test entry-stands entries-test same-entry new-to distinct-test entry-is table-test on-function on-once-function on-cell is-many scoped-const scoped annotated-const annotated const-number on-number result-number applied-number lambda-number both-number case-number with-components type-number outside-many linear-variable linear every verdict starting-image step-reply config-of decode components image-of encode terms-stand image-stands kind-test companion-test length-test head-agrees head-stands stand-from heads-stand names kind-at companion-at offset-in length-at expression-at encoded-at encoded-all head heads expressions image-bytes bytes const-bytes op-tag both-tag case-tag little-endian loaded bay-types with-type reply-of sum-in sum-all expression-test is-settled is-awaited handle-for component-test each-test limits-test image-test beside within place when-done step-call step-exchange step-meeting step-place step-redex step-case step-subject step-of substitute plug term-of type-at read-deep read-at read-entry one-part two-parts
 test-texts = record { texts-table = refl; wide-text = refl }
 
 -- what is proved of states and of the input's front

@@ -14,13 +14,13 @@ use Rattle.step_spec.specs.Stepping.{outcome-of-reply, step-reply}
 use Rattle.draw_spec.specs.State.{drawn}
 
 -- document 01, "Kinds: 1 thread": one that is done is a thread too
-unfoldable pub is-thread : List ℕ → ℕ → Bool
-is-thread image x = eqb (kind-at image x) thread-kind
+unfoldable pub has-thread-kind : List ℕ → ℕ → Bool
+has-thread-kind image x = eqb (kind-at image x) thread-kind
 
 -- the threads among the first n names, "in ascending number"
 unfoldable pub threads-below : List ℕ → ℕ → List ℕ
 threads-below image zero = []
-threads-below image (suc n) = threads-below image n ++ cond (is-thread image n) (n ∷ []) []
+threads-below image (suc n) = threads-below image n ++ cond (has-thread-kind image n) (n ∷ []) []
 
 -- the threads of an image; there are "the present number of threads"
 abbrev pub threads : List ℕ → List ℕ

@@ -16,12 +16,13 @@ use Rattle.image.specs.Configuration.{config-of}
 use Rattle.step_spec.specs.declared.Outcome.{Outcome}
 use Rattle.step_spec.specs.declared.Outcome.the-variants.{Rule}
 use Rattle.step_spec.proofs.Outcome.{the-type}
+use Rattle.step_spec.specs.Theory.Replies.{long-outcome}
 use Rattle.step_spec.specs.Theory.Waiting.{NameSmall, waiting-small}
 use Rattle.draw_spec.specs.State.{drawn}
 use Rattle.draw_spec.specs.Draws.{Draw, image-after, outcome, reply, thread}
 use Rattle.draw_spec.specs.Lines.{line}
 use Rattle.draw_spec.specs.Theory.Alive.{Alive, alive-after, alive-few, picked-listed}
-use Rattle.draw_spec.specs.Theory.Steps.{answered, new-image, new-inside, same-image}
+use Rattle.draw_spec.specs.Theory.Steps.{new-image, new-inside, same-image}
 use Rattle.draw_thread.specs.declared.Drawn.{Drawn}
 use Rattle.draw_thread.specs.Drawing.{Drew, Ready}
 use Rattle.draw_text.specs.declared.At.{At}
@@ -40,7 +41,7 @@ module _ {image out out′ : List ℕ} {state : ℕ} {d : Drawn} (a : Alive imag
 
   -- its line
   pub line-is : line (d .thread) (d .outcome) ≡ line (thread this) (outcome this)
-  line-is = rw (w .answers, answered image (d .thread) out long, w .picks) refl
+  line-is = rw (w .answers, long-outcome image (d .thread) out long, w .picks) refl
 
   -- the nodes of the image that is left
   pub counts-is : nodes-all (config-of (image-after (reply this) image)) ≡ d .nodes

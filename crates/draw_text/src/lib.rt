@@ -115,7 +115,7 @@ fn put_draws(count: usize, start: At, first: &mut [u8], second: &mut [u8], text:
 }
 
 // A byte of the input: "absent bytes of these six count as 0".
-fn byte_at(input: &[u8], at: usize) -> u8
+fn front_byte(input: &[u8], at: usize) -> u8
     ensures { λ r. ⌜ r ≡ getD (now (input .entry)) at 0 ⌝ }
 {
     if at < input.len() {
@@ -125,19 +125,19 @@ fn byte_at(input: &[u8], at: usize) -> u8
 }
 
 // Two bytes of the input, "little-endian".
-fn word_at(input: &[u8], at: usize) -> usize
+fn front_word(input: &[u8], at: usize) -> usize
     requires { ⌜ at < front-length ⌝ }
     ensures { λ r. ⌜ (r ≡ word (now (input .entry)) at) × (r < two-byte-values) ⌝ }
 {
-    (byte_at(input, at) as usize) + Byte::VALUES * (byte_at(input, at + 1) as usize)
+    (front_byte(input, at) as usize) + Byte::VALUES * (front_byte(input, at + 1) as usize)
 }
 
 // "the seed in four bytes".
 fn seed_of(input: &[u8]) -> u32
     ensures { λ r. ⌜ r ≡ seed-in (now (input .entry)) ⌝ }
 {
-    let low = word_at(input, 0);
-    let high = word_at(input, 2);
+    let low = front_word(input, 0);
+    let high = front_word(input, 2);
     (low + Byte::VALUES * Byte::VALUES * high) as u32
 }
 
@@ -145,7 +145,7 @@ fn seed_of(input: &[u8]) -> u32
 fn number_of(input: &[u8]) -> usize
     ensures { λ r. ⌜ r ≡ number-in (now (input .entry)) ⌝ }
 {
-    let number = word_at(input, TestLoad::SEED_LENGTH);
+    let number = front_word(input, TestLoad::SEED_LENGTH);
     if TestLoad::MAX_DRAWS < number {
         return TestLoad::MAX_DRAWS;
     }

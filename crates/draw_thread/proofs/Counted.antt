@@ -10,7 +10,7 @@ use Rattle.image_layout.specs.Slice.{names}
 use Rattle.image_layout.specs.Layout.{heads-stand}
 use Rattle.image_layout.specs.Readable.{HasHead}
 use Rattle.image_layout.specs.Theory.Reading.{has-head}
-use Rattle.draw_spec.specs.Draws.{is-thread, threads, threads-below}
+use Rattle.draw_spec.specs.Draws.{has-thread-kind, threads, threads-below}
 use Rattle.draw_spec.specs.Theory.Threads.{counted, none-more, one-more}
 
 -- so many threads are among the first x names
@@ -22,7 +22,7 @@ pub record Counted (image : List ℕ) (x count : ℕ) : Type 0 where
 few : (image : List ℕ) (n : ℕ) → length (threads-below image n) ≤ n
 unfolding threads-below
 few image zero = omega arith
-few image (suc n) = go (is-thread image n) (few image n)
+few image (suc n) = go (has-thread-kind image n) (few image n)
   where
     go : (t : Bool) → length (threads-below image n) ≤ n → length (threads-below image n ++ cond t (n ∷ []) []) ≤ suc n
     go true l = rw length-append (omega arith)
@@ -41,10 +41,10 @@ module _ {image : List ℕ} where
     next-head stands l = has-head image stands x l
 
     -- a thread is one more, another name is none
-    pub counted-one : x < names image → is-thread image x ≡ true → Counted image (x + 1) (count + 1)
+    pub counted-one : x < names image → has-thread-kind image x ≡ true → Counted image (x + 1) (count + 1)
     counted-one l t = record { below = omega arith; is = rw (one-more image x t, length-append) (omega (arith, c .is)) }
 
-    pub counted-skip : x < names image → is-thread image x ≡ false → Counted image (x + 1) count
+    pub counted-skip : x < names image → has-thread-kind image x ≡ false → Counted image (x + 1) count
     counted-skip l t = record { below = omega arith; is = rw (none-more image x t) (c .is) }
 
     pub counted-all : ¬ (x < names image) → count ≡ length (threads image)
@@ -53,7 +53,7 @@ module _ {image : List ℕ} where
 -- a search for the thread with this index: it goes on, or has just passed it
 pub record Passed (image : List ℕ) (index x passed : ℕ) : Type 0 where
   pub counts : Counted image x passed
-  pub last : index < passed → (y : ℕ) × (x ≡ y + 1) × (y < names image) × (is-thread image y ≡ true) × (length (threads-below image y) ≡ index)
+  pub last : index < passed → (y : ℕ) × (x ≡ y + 1) × (y < names image) × (has-thread-kind image y ≡ true) × (length (threads-below image y) ≡ index)
 
 module _ {image : List ℕ} {index : ℕ} where
   pub passed-none : Passed image index 0 0
@@ -67,10 +67,10 @@ module _ {image : List ℕ} {index : ℕ} where
       | no h ↦ absurd (omega (arith, counted-all (p .counts) h))
     ]
 
-    pub passed-skip : passed ≤ index → x < names image → is-thread image x ≡ false → Passed image index (x + 1) passed
+    pub passed-skip : passed ≤ index → x < names image → has-thread-kind image x ≡ false → Passed image index (x + 1) passed
     passed-skip l h t = record { counts = counted-skip (p .counts) h t; last = λ m. absurd (omega arith) }
 
-    pub passed-one : passed ≤ index → x < names image → is-thread image x ≡ true → Passed image index (x + 1) (passed + 1)
+    pub passed-one : passed ≤ index → x < names image → has-thread-kind image x ≡ true → Passed image index (x + 1) (passed + 1)
     passed-one l h t = record {
       counts = counted-one (p .counts) h t;
       last = λ m. (x, refl, h, t, omega (arith, p .counts .is));

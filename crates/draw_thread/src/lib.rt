@@ -10,7 +10,7 @@ ghost use Rattle.calculus.specs.Limits.{max-image-length};
 ghost use Rattle.image_layout.specs.Layout.{heads-stand};
 ghost use Rattle.image_layout.specs.Readable.{HasHead};
 ghost use Rattle.draw_spec.specs.State.{drawn};
-ghost use Rattle.draw_spec.specs.Draws.{is-thread, picked, threads};
+ghost use Rattle.draw_spec.specs.Draws.{has-thread-kind, picked, threads};
 ghost use Rattle.draw_thread.specs.Drawing.{Drew, Present, Ready};
 
 // A draw: the thread that was picked, what came of its step, and the nodes of the image that is left.
@@ -30,9 +30,9 @@ pub fn next_state(state: u32) -> u32
 }
 
 // Whether name x is a thread, done or not.
-fn is_thread(image: &[u8], x: usize) -> bool
+fn has_thread_kind(image: &[u8], x: usize) -> bool
     requires { ⌜ HasHead (now image) x ⌝ }
-    ensures { λ r. ⌜ r ≡ is-thread (now (image .entry)) x ⌝ }
+    ensures { λ r. ⌜ r ≡ has-thread-kind (now (image .entry)) x ⌝ }
 {
     kind_at(image, x) == Image::THREAD
 }
@@ -46,7 +46,7 @@ fn count_threads(image: &[u8]) -> usize
     let mut count = 0;
     let mut x = 0;
     while x < names {
-        let thread = is_thread(image, x);
+        let thread = has_thread_kind(image, x);
         x += 1;
         if !thread {
             continue;
@@ -64,7 +64,7 @@ fn thread_at(image: &[u8], index: usize) -> usize
     let mut passed = 0;
     let mut x = 0;
     while passed <= index {
-        let thread = is_thread(image, x);
+        let thread = has_thread_kind(image, x);
         x += 1;
         if !thread {
             continue;

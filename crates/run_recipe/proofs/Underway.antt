@@ -51,7 +51,7 @@ module _ {A : Type 0} (a b : A) where
 -- ---- the present image
 
 -- a buffer that holds an image is as long
-pub held-inside : (n : ℕ) (l image : List ℕ) → take n l ≡ image → n ≡ length image → n ≤ length l
+held-inside : (n : ℕ) (l image : List ℕ) → take n l ≡ image → n ≡ length image → n ≤ length l
 held-inside n l image h e = elim (decLt (length l) n) [ yes p ↦ omega (arith, ap length (sym (take-all n l (omega arith)) ∙ h)) | no p ↦ omega arith ]
 
 module _ {at : At} {buffer : List ℕ} (p : Present at buffer) where

@@ -8,7 +8,6 @@ use native.Mathlib.Decide.{decLt}
 use native.Mathlib.Omega.{arith}
 use lib.Dec.{ltb}
 use lib.ListN.{drop, length, take, take-append-drop}
-use lib.Seq.{take-append-seam}
 use Rattle.calculus.specs.Bytes.{Bytes}
 use Rattle.calculus.specs.Causes.{buffer-cause}
 use Rattle.calculus.specs.Limits.{max-image-length}
@@ -24,7 +23,8 @@ use Rattle.image.specs.Stands.{image-stands}
 use Rattle.load_spec.specs.Starting.{starting-image}
 use Rattle.load_spec.specs.declared.Loaded.{Loaded}
 use Rattle.load_spec.specs.Loading.{load-refusal, loaded-of, out-after-load}
-use Rattle.load_spec.specs.Theory.Answers.{left-alone, left-loaded, load-refusal-is, loaded-is}
+use Rattle.load_spec.specs.Theory.Told.{image-told, length-inside, length-told}
+use Rattle.load_spec.specs.Theory.Answers.{left-alone, load-refusal-is}
 use Rattle.run_spec.specs.declared.Ending.{Ending}
 use Rattle.run_spec.specs.declared.Ending.the-variants.{Refused}
 use Rattle.run_spec.specs.Course.{Course, course-of, take-turns}
@@ -32,7 +32,6 @@ use Rattle.run_spec.specs.Ending.{Leaves, ending-of, ends-in-first, ran, run-re
 use Rattle.demands.specs.Theory.Reached.{reached-reads, reached-stands, reached-start}
 use Rattle.run_spec.specs.Theory.Ends.{ran-course, ran-number, ran-refused, run-accepted, run-short, unless-unwritten, unless-written}
 use Rattle.run_recipe.specs.Running.{Holds, Starts}
-use Rattle.run_recipe.proofs.Underway.{held-inside}
 
 -- what is answered, and what is left
 abbrev pub Answers : List ℕ → ℕ → List ℕ → List ℕ → Ending → List ℕ → List ℕ → Type 0
@@ -115,13 +114,13 @@ module _ {file first second : List ℕ} (k : ℕ) {l : Loaded} {first′ : List 
     ]
 
     loaded-length : l .length ≡ length (starting-image file)
-    loaded-length = ap (λ (x : Loaded). x .length) (d .answer ∙ loaded-is file (length first) (sym number-is ∙ z))
+    loaded-length = length-told file (d .answer) first-long z
 
     loaded-image : take (l .length) first′ ≡ starting-image file
-    loaded-image = rw (loaded-length, d .left, left-loaded file first (sym number-is ∙ z)) (take-append-seam (starting-image file) (drop (length (starting-image file)) first))
+    loaded-image = image-told file first (d .left) (d .answer) first-long z
 
     pub loaded-inside : l .length ≤ length first′
-    loaded-inside = held-inside (l .length) first′ (starting-image file) loaded-image loaded-length
+    loaded-inside = length-inside file first (d .left) (d .answer) first-long z
 
     pub loaded-stands : image-stands (take (l .length) first′) ≡ true
     unfolding starting-image

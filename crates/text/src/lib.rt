@@ -10,13 +10,6 @@ ghost use Rattle.text.specs.Ascii.{decimal, digit, max-verdict-line-leng
 
 const DIGITS: [u8; 16] = *b"0123456789ABCDEF";
 
-// The line with a verdict: the most bytes that it has.
-pub struct VerdictLine {}
-
-impl VerdictLine {
-    pub const MAX_LENGTH: usize = 12;
-}
-
 // The upper-case hexadecimal digit of a number below 16.
 pub fn digit_of(n: u8) -> u8
     requires { ⌜ n < 16 ⌝ }

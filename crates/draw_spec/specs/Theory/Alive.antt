@@ -35,7 +35,7 @@ use Rattle.load_spec.specs.Theory.Image.{says}
 use Rattle.step_spec.specs.Stepping.{step-reply}
 use Rattle.step_spec.specs.Theory.Exactly.{step-is}
 use Rattle.demands.specs.Theory.Reached.{Reached, long-reply, reached-after, reached-names, reached-reads, reached-rules, reached-stands, reached-start, reached-writable, stepping}
-use Rattle.draw_spec.specs.Draws.{image-after, is-thread, picked, threads}
+use Rattle.draw_spec.specs.Draws.{image-after, has-thread-kind, picked, threads}
 use Rattle.draw_spec.specs.Theory.Threads.{counted, is-counted, listed-thread, thread-listed}
 
 -- x is a thread
@@ -121,11 +121,11 @@ module _ {image : List ℕ} (a : Alive image) where
       rw (a .is) (omega (arith, counted (image-of (a .state .config)) (names (image-of (a .state .config))) x l is .1))
 
   -- "picks a thread"
-  pub picked-listed : (state : ℕ) → (picked image state < names image) × (is-thread image (picked image state) ≡ true)
+  pub picked-listed : (state : ℕ) → (picked image state < names image) × (has-thread-kind image (picked image state) ≡ true)
   unfolding picked
   picked-listed state = is-counted image (names image) (state % length (threads image)) (omega (arith, mod-lt state alive-some))
 
-  listed : (x : ℕ) → x < names image → is-thread image x ≡ true → ThreadOf (a .state .config) x
+  listed : (x : ℕ) → x < names image → has-thread-kind image x ≡ true → ThreadOf (a .state .config) x
   listed x l t = let (e, h) = listed-thread (a .state .config) x (rw (a .is) at l) (rw (a .is) at t) in is h
 
   pub picked-thread : (state : ℕ) → ThreadOf (a .state .config) (picked image state)

@@ -10,12 +10,13 @@ use Rattle.calculus.specs.Types.{LinType}
 use Rattle.calculus.specs.Typing.{TypeNumbers}
 use Rattle.calculus.specs.Theory.Tests.{clash}
 use Rattle.step_spec.specs.Stepping.{outcome-of-reply, step-reply}
+use Rattle.step_spec.specs.Theory.Replies.{long-outcome}
 use Rattle.runs.specs.Run.{Call, Follows, Step, left, steps, types-left}
 use Rattle.draw_spec.specs.State.{drawn}
 use Rattle.draw_spec.specs.Draws.{Draw, draws, image-after, reply, thread}
 use Rattle.draw_spec.specs.TestLoad.{IsStep}
 use Rattle.draw_spec.specs.Theory.Alive.{Alive, alive-after}
-use Rattle.draw_spec.specs.Theory.Steps.{answered, handed-on}
+use Rattle.draw_spec.specs.Theory.Steps.{handed-on}
 
 -- the first draw from this state and this image
 abbrev first-of : ℕ → List ℕ → Draw
@@ -49,7 +50,7 @@ module _ (τ : TypeNumbers) where
   first-step : (state : ℕ) (image : List ℕ) (types : List LinType) (c : Call) → c .thread ≡ thread (first-of state image) → max-image-length ≤ length (c .out) →
       let m : Step = record { image = image; types = types; call = c } in IsStep (first-of state image) m × (left m ≡ image-after (reply (first-of state image)) image)
   first-step state image types c e long = (
-    record { image-is = refl; thread-is = e; answer-is = answered image (c .thread) (c .out) long ∙ ap (λ (x : ℕ). outcome-of-reply (step-reply image x max-image-length)) e },
+    record { image-is = refl; thread-is = e; answer-is = long-outcome image (c .thread) (c .out) long ∙ ap (λ (x : ℕ). outcome-of-reply (step-reply image x max-image-length)) e },
     handed-on image (c .thread) (c .out) long ∙ ap (λ (x : ℕ). image-after (step-reply image x max-image-length) image) e,
   )
 

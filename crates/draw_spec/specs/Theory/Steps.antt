@@ -12,7 +12,7 @@ use Rattle.image.specs.Configuration.{image-of}
 use Rattle.step_spec.specs.declared.Outcome.{Outcome}
 use Rattle.step_spec.specs.declared.Outcome.the-variants.{Rule}
 use Rattle.step_spec.specs.Stepping.{out-after-reply, out-after-step, outcome-of, outcome-of-reply, step-reply}
-use Rattle.step_spec.specs.Theory.Replies.{reply-long}
+use Rattle.step_spec.specs.Theory.Replies.{long-outcome, reply-long}
 use Rattle.runs.specs.Run.{renewed}
 use Rattle.draw_spec.specs.Draws.{image-after}
 
@@ -27,10 +27,6 @@ kept-image (refuses k) image n = refl
 module _ (image : List ℕ) (x : ℕ) (out : List ℕ) (long : max-image-length ≤ length out) where
   same-reply : step-reply image x (length out) ≡ step-reply image x max-image-length
   same-reply = reply-long image x (length out) long
-
-  pub answered : outcome-of image x out ≡ outcome-of-reply (step-reply image x max-image-length)
-  unfolding outcome-of
-  answered = ap outcome-of-reply same-reply
 
   -- what a run of document 01 hands on: the new image where a rule was answered, else the same
   pub handed-on : renewed (outcome-of image x out) (λ size. take size (out-after-step image x out)) image ≡ image-after (step-reply image x max-image-length) image
@@ -62,4 +58,4 @@ module _ (image : List ℕ) (x : ℕ) (out : List ℕ) (long : max-image-length 
 
   -- another answer: the image is kept
   pub same-image : ((rule size : ℕ) → ¬ (outcome-of image x out ≡ Rule rule size)) → image ≡ image-after (step-reply image x max-image-length) image
-  same-image n = sym (kept-image (step-reply image x max-image-length) image (λ rule size e. n rule size (answered ∙ e)))
+  same-image n = sym (kept-image (step-reply image x max-image-length) image (λ rule size e. n rule size (long-outcome image x out long ∙ e)))

@@ -12,28 +12,23 @@ use lib.ListN.{List·getD-append, getD, length, length-append, length-map}
 use lib.Seq.{getD-append-seam}
 use Rattle.calculus.specs.Kinds.{thread-kind}
 use Rattle.calculus.specs.Syntax.{Component, thread-of, holds, open-for, used, awaited, Config, Exp, at}
-use Rattle.calculus.specs.Theory.Tests.{clash, eqb-complete, eqb-sound}
+use Rattle.calculus.specs.Theory.Tests.{eqb-complete, eqb-sound}
 use Rattle.calculus.specs.Theory.Lists.{append-right, at-below, at-bound}
+use Rattle.check_spec.specs.Theory.Accepted.{getD-at}
 use Rattle.image_layout.specs.Encoded.{Encoded}
 use Rattle.image_layout.specs.Slice.{encoded-at, kind-at, names}
 use Rattle.image_layout.specs.Theory.ReadBack.{component-read, names-read}
 use Rattle.image.specs.Configuration.{encode, image-of}
 use Rattle.image.specs.Theory.Maps.{at-map}
-use Rattle.draw_spec.specs.Draws.{is-thread, threads, threads-below}
-
--- what stands in a list, by index
-at-getD : (l : List ℕ) (i : ℕ) {x : ℕ} → at l i ≡ some x → getD l i 0 ≡ x
-at-getD [] i h = absurd (clash (cc))
-at-getD (y ∷ l) zero h = cc
-at-getD (y ∷ l) (suc i) h = at-getD l i h
+use Rattle.draw_spec.specs.Draws.{has-thread-kind, threads, threads-below}
 
 module _ (image : List ℕ) where
   -- one name more: a thread is counted, another name is not
-  pub one-more : (n : ℕ) → is-thread image n ≡ true → threads-below image (n + 1) ≡ threads-below image n ++ n ∷ []
+  pub one-more : (n : ℕ) → has-thread-kind image n ≡ true → threads-below image (n + 1) ≡ threads-below image n ++ n ∷ []
   unfolding threads-below
   one-more n e = ap (threads-below image) (add-one n) ∙ rw e refl
 
-  pub none-more : (n : ℕ) → is-thread image n ≡ false → threads-below image (n + 1) ≡ threads-below image n
+  pub none-more : (n : ℕ) → has-thread-kind image n ≡ false → threads-below image (n + 1) ≡ threads-below image n
   unfolding threads-below
   none-more n e = ap (threads-below image) (add-one n) ∙ rw (e, append-nil) refl
 
@@ -49,14 +44,14 @@ module _ (image : List ℕ) where
           (more : List ℕ) × (threads-below image (suc n) ≡ threads-below image x ++ more)
       go (yes h) earlier =
           let (more, e) = earlier (omega arith) in
-          let last = cond (is-thread image n) (n ∷ []) [] in
+          let last = cond (has-thread-kind image n) (n ∷ []) [] in
           (more ++ last, rw e (append-assoc (threads-below image x) more last))
       go (no h) earlier =
           let e : x ≡ suc n = omega arith in
           ([], rw e (sym (append-nil (threads-below image (suc n)))))
 
   -- a thread is counted after those below it
-  pub counted : (n x : ℕ) → x < n → is-thread image x ≡ true →
+  pub counted : (n x : ℕ) → x < n → has-thread-kind image x ≡ true →
       (getD (threads-below image n) (length (threads-below image x)) 0 ≡ x) × (length (threads-below image x) < length (threads-below image n))
   counted n x l t =
       let (more, e) = begins-with n (x + 1) (omega arith) in
@@ -64,14 +59,14 @@ module _ (image : List ℕ) where
       (rw whole (getD-append-seam (threads-below image x) x more 0), rw (whole, length-append) (omega arith))
 
   -- and nothing else is
-  pub is-counted : (n i : ℕ) → i < length (threads-below image n) → (getD (threads-below image n) i 0 < n) × (is-thread image (getD (threads-below image n) i 0) ≡ true)
+  pub is-counted : (n i : ℕ) → i < length (threads-below image n) → (getD (threads-below image n) i 0 < n) × (has-thread-kind image (getD (threads-below image n) i 0) ≡ true)
   unfolding threads-below
   is-counted zero i l = absurd (omega arith)
-  is-counted (suc n) i l = go (is-thread image n) refl (decLt i (length (threads-below image n))) l (is-counted n i)
+  is-counted (suc n) i l = go (has-thread-kind image n) refl (decLt i (length (threads-below image n))) l (is-counted n i)
     where
-      go : (t : Bool) → is-thread image n ≡ t → Dec (i < length (threads-below image n)) → i < length (threads-below image n ++ cond t (n ∷ []) []) →
-          (i < length (threads-below image n) → (getD (threads-below image n) i 0 < n) × (is-thread image (getD (threads-below image n) i 0) ≡ true)) →
-          (getD (threads-below image n ++ cond t (n ∷ []) []) i 0 < suc n) × (is-thread image (getD (threads-below image n ++ cond t (n ∷ []) []) i 0) ≡ true)
+      go : (t : Bool) → has-thread-kind image n ≡ t → Dec (i < length (threads-below image n)) → i < length (threads-below image n ++ cond t (n ∷ []) []) →
+          (i < length (threads-below image n) → (getD (threads-below image n) i 0 < n) × (has-thread-kind image (getD (threads-below image n) i 0) ≡ true)) →
+          (getD (threads-below image n ++ cond t (n ∷ []) []) i 0 < suc n) × (has-thread-kind image (getD (threads-below image n ++ cond t (n ∷ []) []) i 0) ≡ true)
       go t e (yes h) l earlier = let (below, is) = earlier h in rw (List·getD-append (threads-below image n) (cond t (n ∷ []) []) 0 i h) (omega arith, is)
       go true e (no h) l earlier =
           let place : i ≡ length (threads-below image n) = omega (arith, length-append (threads-below image n) (n ∷ [])) in
@@ -83,7 +78,7 @@ module _ (image : List ℕ) where
   pub so-many-below : (n i : ℕ) → i < length (threads-below image n) → length (threads-below image (getD (threads-below image n) i 0)) ≡ i
   unfolding threads-below
   so-many-below zero i l = absurd (omega arith)
-  so-many-below (suc n) i l = go (is-thread image n) (decLt i (length (threads-below image n))) l (so-many-below n i)
+  so-many-below (suc n) i l = go (has-thread-kind image n) (decLt i (length (threads-below image n))) l (so-many-below n i)
     where
       go : (t : Bool) → Dec (i < length (threads-below image n)) → i < length (threads-below image n ++ cond t (n ∷ []) []) →
           (i < length (threads-below image n) → length (threads-below image (getD (threads-below image n) i 0)) ≡ i) →
@@ -96,21 +91,21 @@ module _ (image : List ℕ) where
       go false (no h) l earlier = absurd (h (rw append-nil at l))
 
   -- the list has the names of kind 1 and no other, in ascending number
-  listed-at : (n x : ℕ) → x < n → is-thread image x ≡ true → (i : ℕ) × (at (threads-below image n) i ≡ some x)
+  listed-at : (n x : ℕ) → x < n → has-thread-kind image x ≡ true → (i : ℕ) × (at (threads-below image n) i ≡ some x)
   listed-at n x l t =
       let (more, e) = begins-with n (x + 1) (omega arith) in
       let whole : threads-below image n ≡ threads-below image x ++ x ∷ more =
       e ∙ ap (λ (s : List ℕ). s ++ more) (one-more x t) ∙ append-assoc (threads-below image x) (x ∷ []) more in
       (length (threads-below image x) + 0, rw whole (append-right (threads-below image x) (x ∷ more) 0))
 
-  only-listed : (n i : ℕ) {x : ℕ} → at (threads-below image n) i ≡ some x → (x < n) × (is-thread image x ≡ true)
+  only-listed : (n i : ℕ) {x : ℕ} → at (threads-below image n) i ≡ some x → (x < n) × (has-thread-kind image x ≡ true)
   only-listed n i {x} h =
       let (below, is) = is-counted n i (at-bound (threads-below image n) i h) in
-      let e : getD (threads-below image n) i 0 ≡ x = at-getD (threads-below image n) i h in
-      (omega (arith, below, e), ap (is-thread image) (sym e) ∙ is)
+      let e : getD (threads-below image n) i 0 ≡ x = getD-at (threads-below image n) i h in
+      (omega (arith, below, e), ap (has-thread-kind image) (sym e) ∙ is)
 
   pub kind-1-iff : (x : ℕ) → ((i : ℕ) × (at (threads image) i ≡ some x)) ↔ ((x < names image) × (kind-at image x ≡ thread-kind))
-  unfolding is-thread
+  unfolding has-thread-kind
   kind-1-iff x = (
     λ (i, h). let (l, t) = only-listed (names image) i h in (l, eqb-sound (kind-at image x) thread-kind t),
     λ (l, k). listed-at (names image) x l (eqb-complete (kind-at image x) thread-kind k),
@@ -118,8 +113,8 @@ module _ (image : List ℕ) where
 
   pub in-order : (n i j : ℕ) {x y : ℕ} → at (threads-below image n) i ≡ some x → at (threads-below image n) j ≡ some y → i < j → x < y
   in-order n i j {x} {y} h g l =
-      let p : length (threads-below image x) ≡ i = rw (at-getD (threads-below image n) i h) at (so-many-below n i (at-bound (threads-below image n) i h)) in
-      let q : length (threads-below image y) ≡ j = rw (at-getD (threads-below image n) j g) at (so-many-below n j (at-bound (threads-below image n) j g)) in
+      let p : length (threads-below image x) ≡ i = rw (getD-at (threads-below image n) i h) at (so-many-below n i (at-bound (threads-below image n) i h)) in
+      let q : length (threads-below image y) ≡ j = rw (getD-at (threads-below image n) j g) at (so-many-below n j (at-bound (threads-below image n) j g)) in
       elim (decLt x y) [
         | yes r ↦ r
         | no r ↦ let (more, e) = begins-with x y (omega arith) in absurd (omega (arith, ap length e ∙ length-append (threads-below image y) more))
@@ -135,12 +130,12 @@ module _ (C : Config) where
   unfolding image-of encoded-at
   kind-is x {c} h = ap (λ (e : Encoded). e .kind) (component-read (map encode C) x (encode c) (at-map encode C x h))
 
-  pub thread-listed : (x : ℕ) {e : Exp} → at C x ≡ some (thread-of e) → (x < names (image-of C)) × (is-thread (image-of C) x ≡ true)
-  unfolding is-thread encode
+  pub thread-listed : (x : ℕ) {e : Exp} → at C x ≡ some (thread-of e) → (x < names (image-of C)) × (has-thread-kind (image-of C) x ≡ true)
+  unfolding has-thread-kind encode
   thread-listed x h = (omega (arith, names-are, at-bound C x h), rw (kind-is x h) refl)
 
-  pub listed-thread : (x : ℕ) → x < names (image-of C) → is-thread (image-of C) x ≡ true → (e : Exp) × (at C x ≡ some (thread-of e))
-  unfolding is-thread encode
+  pub listed-thread : (x : ℕ) → x < names (image-of C) → has-thread-kind (image-of C) x ≡ true → (e : Exp) × (at C x ≡ some (thread-of e))
+  unfolding has-thread-kind encode
   listed-thread x l t =
       let (c, h) = at-below C x (omega (arith, names-are)) in
       go c h (sym (kind-is x h) ∙ eqb-sound (kind-at (image-of C) x) thread-kind t)

@@ -7,11 +7,11 @@ use Rattle.draw_text.proofs.number_of.Tie as tie
 
 returns : tie.Need-returns
 unfolding number-in
-returns c = omega (arith, c .before .word-at .ensures .0, c .if1 .taken)
+returns c = omega (arith, c .before .front-word .ensures .0, c .if1 .taken)
 
 returns-2 : tie.Need-returns-2
 unfolding number-in
-returns-2 c = omega (arith, c .before .word-at .ensures .0, c .if1 .left)
+returns-2 c = omega (arith, c .before .front-word .ensures .0, c .if1 .left)
 
 pub number-of-spec : {M : Type 1} → statement M
 number-of-spec =

@@ -7,7 +7,7 @@ use Rattle.draw_text.proofs.seed_of.Tie as tie
 
 returns : tie.Need-returns
 unfolding seed-in
-returns c = omega (arith, c .word-at2 .ensures .0, c .before .word-at .ensures .0)
+returns c = omega (arith, c .front-word2 .ensures .0, c .before .front-word .ensures .0)
 
 pub seed-of-spec : {M : Type 1} → statement M
 seed-of-spec =

@@ -19,15 +19,15 @@ abbrev μ-loop : tie.MeasureT-loop
 names-of-requires : tie.Need-names-of-requires Inv-loop μ-loop
 names-of-requires c κs = has-names _ (c .before .pre)
 
-is-thread-requires : tie.Need-is-thread-requires Inv-loop μ-loop
-is-thread-requires c κs =
+has-thread-kind-requires : tie.Need-has-thread-kind-requires Inv-loop μ-loop
+has-thread-kind-requires c κs =
     let n = c .before .before .names-of .ensures .0 in
     next-head (c .before .loop .inv) (c .before .before .before .before .pre) (omega (arith, n, c .loop-test .taken))
 
 loop-again : tie.Need-loop-again Inv-loop μ-loop
 loop-again c =
     let t = c .before .before in
-    counted-skip (t .before .loop .inv) (omega (arith, t .before .before .names-of .ensures .0, t .loop-test .taken)) (sym (c .before .is-thread .ensures) ∙ not-true _ (c .if1 .taken))
+    counted-skip (t .before .loop .inv) (omega (arith, t .before .before .names-of .ensures .0, t .loop-test .taken)) (sym (c .before .has-thread-kind .ensures) ∙ not-true _ (c .if1 .taken))
 
 add-count : tie.Need-add-count Inv-loop μ-loop
 add-count c =
@@ -37,7 +37,7 @@ add-count c =
 loop-again-2 : tie.Need-loop-again-2 Inv-loop μ-loop
 loop-again-2 c =
     let t = c .before .before in
-    counted-one (t .before .loop .inv) (omega (arith, t .before .before .names-of .ensures .0, t .loop-test .taken)) (sym (c .before .is-thread .ensures) ∙ not-false _ (c .if1 .left))
+    counted-one (t .before .loop .inv) (omega (arith, t .before .before .names-of .ensures .0, t .loop-test .taken)) (sym (c .before .has-thread-kind .ensures) ∙ not-false _ (c .if1 .left))
 
 returns : tie.Need-returns Inv-loop μ-loop
 returns c = counted-all (c .before .loop .inv) (λ l. omega (arith, c .before .before .names-of .ensures .0, c .loop-test .left))
@@ -50,7 +50,7 @@ count-threads-spec =
     μ-loop
     names-of-requires
     (λ c. counted-none)
-    is-thread-requires
+    has-thread-kind-requires
     (λ c. search needs)
     (λ c. omega arith)
     loop-again

@@ -19,8 +19,8 @@ abbrev μ-loop : tie.MeasureT-loop
 inside : (c : tie.In-loop Inv-loop μ-loop) → c .before .loop .x < names (c .before .before .before .args .image .now)
 inside c = passed-inside (c .before .loop .inv) (c .before .before .before .pre .1) (c .loop-test .taken)
 
-is-thread-requires : tie.Need-is-thread-requires Inv-loop μ-loop
-is-thread-requires c κs = next-head (c .before .loop .inv .counts) (c .before .before .before .pre .0) (inside c)
+has-thread-kind-requires : tie.Need-has-thread-kind-requires Inv-loop μ-loop
+has-thread-kind-requires c κs = next-head (c .before .loop .inv .counts) (c .before .before .before .pre .0) (inside c)
 
 add-x : tie.Need-add-x Inv-loop μ-loop
 add-x c =
@@ -33,7 +33,7 @@ loop-less c = omega (arith, inside (c .before .before))
 loop-again : tie.Need-loop-again Inv-loop μ-loop
 loop-again c =
     let l = c .before .before in
-    passed-skip (l .before .loop .inv) (l .loop-test .taken) (inside l) (sym (c .before .is-thread .ensures) ∙ not-true _ (c .if1 .taken))
+    passed-skip (l .before .loop .inv) (l .loop-test .taken) (inside l) (sym (c .before .has-thread-kind .ensures) ∙ not-true _ (c .if1 .taken))
 
 add-passed : tie.Need-add-passed Inv-loop μ-loop
 add-passed c =
@@ -46,7 +46,7 @@ loop-less-2 c = omega (arith, inside (c .before .before))
 loop-again-2 : tie.Need-loop-again-2 Inv-loop μ-loop
 loop-again-2 c =
     let l = c .before .before in
-    passed-one (l .before .loop .inv) (l .loop-test .taken) (inside l) (sym (c .before .is-thread .ensures) ∙ not-false _ (c .if1 .left))
+    passed-one (l .before .loop .inv) (l .loop-test .taken) (inside l) (sym (c .before .has-thread-kind .ensures) ∙ not-false _ (c .if1 .left))
 
 sub-result : tie.Need-sub-result Inv-loop μ-loop
 sub-result c = passed-some (c .before .loop .inv) (omega (arith, c .loop-test .left))
@@ -61,7 +61,7 @@ thread-at-spec =
     Inv-loop
     μ-loop
     (λ c. passed-none)
-    is-thread-requires
+    has-thread-kind-requires
     add-x
     loop-less
     loop-again

@@ -11,9 +11,10 @@ use Rattle.calculus.specs.Syntax.{Config}
 use Rattle.calculus.specs.Limits.{max-image-length}
 use Rattle.calculus.specs.Causes.{no-thread-cause, room-cause}
 use Rattle.calculus.specs.Reply.{Reply, moved, waits, finished, refuses}
-use Rattle.calculus.specs.Theory.Tests.{clash, eqb-sound, ltb-not}
+use Rattle.calculus.specs.Theory.Tests.{clash, eqb-sound}
 use Rattle.image.specs.Configuration.{image-of}
 use Rattle.step_spec.specs.Stepping.{step-reply, outcome-of-reply, outcome-of}
+use Rattle.step_spec.specs.Theory.Replies.{long-outcome}
 use Rattle.runs.specs.Theory.Steps.{answered-refused, answered-rule}
 use Rattle.run_spec.specs.Course.{goes, lacks-room, rests, passes-on, look-of, look}
 use Rattle.run_spec.specs.HouseRunner.{CanStep, OutOfRoom}
@@ -57,14 +58,9 @@ is-long : max-image-length ≤ length long-out
 is-long = omega (arith, length-replicate {A = ℕ} max-image-length 0)
 
 module _ (s : List ℕ) (x : ℕ) where
-  -- what is answered does not depend on the buffer, if it is long enough
-  pub long-outcome : (out : List ℕ) → max-image-length ≤ length out → outcome-of s x out ≡ outcome-of-reply (step-reply s x max-image-length)
-  unfolding outcome-of step-reply
-  long-outcome out l = rw (ltb-not (length out) max-image-length l) refl
-
   -- such a buffer's answer
   answered : outcome-of-reply (step-reply s x max-image-length) ≡ outcome-of s x long-out
-  answered = sym (long-outcome long-out is-long)
+  answered = sym (long-outcome s x long-out is-long)
 
   -- "that a rule moves and that has room"
   pub goes-iff : GoesAt s x ↔ CanStep s x
@@ -72,7 +68,7 @@ module _ (s : List ℕ) (x : ℕ) where
   goes-iff = (there, back)
     where
       there : GoesAt s x → CanStep s x
-      there (image′, g) = let (k, C′, e, i) = look-goes (step-reply s x max-image-length) g in (k, length (image-of C′), λ out l. long-outcome out l ∙ ap outcome-of-reply e)
+      there (image′, g) = let (k, C′, e, i) = look-goes (step-reply s x max-image-length) g in (k, length (image-of C′), λ out l. long-outcome s x out l ∙ ap outcome-of-reply e)
 
       back : CanStep s x → GoesAt s x
       back (rule, size, f) =
@@ -85,7 +81,7 @@ module _ (s : List ℕ) (x : ℕ) where
   lacks-iff = (there, back)
     where
       there : look s x ≡ lacks-room → OutOfRoom s x
-      there g = let e = look-lacks (step-reply s x max-image-length) g in λ out l. long-outcome out l ∙ ap outcome-of-reply e
+      there g = let e = look-lacks (step-reply s x max-image-length) g in λ out l. long-outcome s x out l ∙ ap outcome-of-reply e
 
       back : OutOfRoom s x → look s x ≡ lacks-room
       back f =

@@ -1,5 +1,5 @@
 -- What a step replies to any slice, and what is answered and left for each answer of the calculus.
-use mathlib.Core.Path.{_≡_, refl}
+use mathlib.Core.Path.{_≡_, ap, refl}
 use mathlib.Core.Bool.{Bool, cond, false, true}
 use mathlib.Core.List.{List}
 use Prim.Native.Nat.{_<_, _≤_, ℕ}
@@ -16,7 +16,7 @@ use Rattle.image.specs.Configuration.{image-of, config-of}
 use Rattle.image.specs.Stands.{image-stands}
 use Rattle.step_spec.specs.declared.Outcome.{Outcome}
 use Rattle.step_spec.specs.declared.Outcome.the-variants.{Rule, Done, Waiting, Refused}
-use Rattle.step_spec.specs.Stepping.{step-reply, outcome-of-reply}
+use Rattle.step_spec.specs.Stepping.{outcome-of, outcome-of-reply, step-reply}
 
 -- 12, then 13, then the calculus
 module _ (s : List ℕ) (x room : ℕ) where
@@ -37,6 +37,11 @@ module _ (s : List ℕ) (x room : ℕ) where
     pub reply-stands : image-stands s ≡ true → step-reply s x room ≡ reply-of within-limits (step-of (config-of s) x)
     unfolding step-reply
     reply-stands e = rw (ltb-not room max-image-length long, e) refl
+
+-- what is answered does not depend on the buffer, if it is long enough
+pub long-outcome : (s : List ℕ) (x : ℕ) (out : List ℕ) → max-image-length ≤ length out → outcome-of s x out ≡ outcome-of-reply (step-reply s x max-image-length)
+unfolding outcome-of
+long-outcome s x out long = ap outcome-of-reply (reply-long s x (length out) long)
 
 -- the outcome that each answer of the calculus is told as
 pub data Told : Answer → Outcome → Type 0 where

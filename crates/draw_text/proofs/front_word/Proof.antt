@@ -1,16 +1,16 @@
--- `draw_text::word_at` meets its contract.
+-- `draw_text::front_word` meets its contract.
 use native.Mathlib.Omega.{arith}
 use borrow.Author.Needs.{needs}
 use Rattle.calculus.specs.Bytes.{word}
-use Rattle.draw_text.proofs.word_at.Statement.{statement}
-use Rattle.draw_text.proofs.word_at.Tie as tie
+use Rattle.draw_text.proofs.front_word.Statement.{statement}
+use Rattle.draw_text.proofs.front_word.Tie as tie
 
 returns : tie.Need-returns
 unfolding word
-returns c = (omega (arith, c .byte-at2 .ensures, c .before .byte-at .ensures), omega arith)
+returns c = (omega (arith, c .front-byte2 .ensures, c .before .front-byte .ensures), omega arith)
 
-pub word-at-spec : {M : Type 1} → statement M
-word-at-spec =
+pub front-word-spec : {M : Type 1} → statement M
+front-word-spec =
     tie.close
     (tie.spec
     (λ c κs. search needs)
