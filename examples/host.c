@@ -1,6 +1,7 @@
 /*
  * A host in C: loads a recipe and takes turns between two buffers, and prints every bay's vent opening when no thread can go any more, or
- * after the turns that were asked for. The runner takes the turns; with --steps, a loop of steps takes the same ones.
+ * after the turns that were asked for. The runner takes the turns; with --steps, a loop of steps takes the same ones. With --open, a bay's
+ * vent is set by hand before the first turn: its starting num in the recipe's bytes.
  *
  *   make library && cc -std=c11 -Iinclude examples/host.c target/staticlib/libfikarehu.a -o host && ./host examples/nine-bays.recipe 1000
  */
@@ -110,19 +111,37 @@ static struct course by_steps(const uint8_t *recipe, size_t size, uint16_t turns
 enum { TURNS = 1000, MOST_TURNS = 65535 };
 
 static int usage(const char *program) {
-    fprintf(stderr, "use: %s [--steps] RECIPE [TURNS, 0 to %d]\n", program, MOST_TURNS);
+    fprintf(stderr, "use: %s [--steps] [--open BAY=NUM].. RECIPE [TURNS, 0 to %d]\n", program, MOST_TURNS);
     return 1;
+}
+
+/* Sets a vent by hand, as BAY=NUM says. */
+static int set_by_hand(uint8_t *recipe, size_t size, const char *word) {
+    unsigned bay, opening;
+    char more;
+    return sscanf(word, "%u=%u%c", &bay, &opening, &more) == 2 && opening <= UINT16_MAX &&
+           write_opening(recipe, size, bay, (uint16_t)opening);
 }
 
 int main(int count, char **words) {
     static uint8_t recipe[FIKAREHU_MAX_FILE + 1];
-    int steps = count > 1 && strcmp(words[1], "--steps") == 0;
-    if (count - steps < 2 || count - steps > 3) {
+    const char *openings[FIKAREHU_MAX_BAYS];
+    int steps = 0, set = 0, at = 1;
+    for (; at < count && strncmp(words[at], "--", 2) == 0; at++) {
+        if (strcmp(words[at], "--steps") == 0) {
+            steps = 1;
+        } else if (strcmp(words[at], "--open") == 0 && at + 1 < count && set < FIKAREHU_MAX_BAYS) {
+            openings[set++] = words[++at];
+        } else {
+            return usage(words[0]);
+        }
+    }
+    if (count - at < 1 || count - at > 2) {
         return usage(words[0]);
     }
-    const char *name = words[1 + steps];
+    const char *name = words[at];
     char *end = "";
-    unsigned long turns = count - steps < 3 ? TURNS : strtoul(words[2 + steps], &end, 10);
+    unsigned long turns = count - at < 2 ? TURNS : strtoul(words[at + 1], &end, 10);
     if (*end != '\0' || turns > MOST_TURNS) {
         return usage(words[0]);
     }
@@ -138,6 +157,12 @@ int main(int count, char **words) {
     }
     fclose(file);
 
+    for (int i = 0; i < set; i++) {
+        if (!set_by_hand(recipe, size, openings[i])) {
+            fprintf(stderr, "%s: no starting num can be set by %s\n", name, openings[i]);
+            return 1;
+        }
+    }
     struct course course = (steps ? by_steps : by_runner)(recipe, size, (uint16_t)turns);
     if (course.ran.refusal != 0) {
         fprintf(stderr, "%s: refused %u\n", name, course.ran.refusal);

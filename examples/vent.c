@@ -1,6 +1,7 @@
 /*
- * Reading a vent: a bay's setting in an image, its names followed to a num. The image is one that a load or a step has written; its bytes are
- * not checked here. This file is included where a vent is read, and not compiled by itself.
+ * Reading a vent: a bay's setting in an image, its names followed to a num. The image is one that a load or a step has written; its bytes
+ * are not checked here. And setting a vent by hand: a bay's first opening in a recipe. This file is included where a vent is read or set,
+ * and not compiled by itself.
  */
 #include "fikarehu.h"
 
@@ -69,4 +70,23 @@ static struct vent read_vent(const uint8_t *image, unsigned bay) {
         vent.state = VENT_AWAITS_THREAD;
     }
     return vent;
+}
+
+enum {
+    VENT_EDITION = 2,         /* the byte of a recipe that has its edition */
+    VENT_STARTING_PART = 8,   /* where in an edition 3 recipe the starting part's pair stands */
+    VENT_EDITION_3 = 3
+};
+
+/* Sets a bay's first opening, its starting num, in a recipe. Answers 0 and writes nothing unless the recipe is an accepted one of edition 3
+ * and has this bay. */
+static inline int write_opening(uint8_t *recipe, size_t size, unsigned bay, uint16_t opening) {
+    const struct fikarehu_verdict verdict = fikarehu_check(recipe, size);
+    if (verdict.refusal != 0 || recipe[VENT_EDITION] != VENT_EDITION_3 || bay >= verdict.bays) {
+        return 0;
+    }
+    uint8_t *starting_num = recipe + vent_two_bytes(recipe + VENT_STARTING_PART) + 2 * bay;
+    starting_num[0] = (uint8_t)opening;
+    starting_num[1] = (uint8_t)(opening >> 8);
+    return 1;
 }

@@ -23,7 +23,7 @@
  * bytes beyond the last image hold is left free.
  *
  * Refusals. The lowest number that fits is answered, each cause tried over the
- * whole file.
+ * whole file; but FIKAREHU_REFUSED_BUFFER comes before all others.
  */
 #ifndef FIKAREHU_H
 #define FIKAREHU_H
@@ -36,17 +36,17 @@ extern "C" {
 #endif
 
 /* This header's version. */
-#define FIKAREHU_VERSION "0.6.0"
+#define FIKAREHU_VERSION "0.7.0"
 #define FIKAREHU_VERSION_MAJOR 0
-#define FIKAREHU_VERSION_MINOR 6
+#define FIKAREHU_VERSION_MINOR 7
 #define FIKAREHU_VERSION_PATCH 0
 
 /* The limits of a recipe. */
 enum {
     FIKAREHU_MIN_FILE = 12,            /* bytes of a file */
     FIKAREHU_MAX_FILE = 8192,
-    FIKAREHU_MIN_PARTS = 2,            /* parts: the type table, and a term for each bay */
-    FIKAREHU_MAX_PARTS = 17,
+    FIKAREHU_MIN_PARTS = 2,            /* parts: the type table, and a term for each bay; in edition 3 the */
+    FIKAREHU_MAX_PARTS = 17,           /* starting part is one more, so 3 to 18 there */
     FIKAREHU_MAX_BAYS = 16,
     FIKAREHU_MIN_ENTRIES = 3,          /* entries of the type table */
     FIKAREHU_MAX_ENTRIES = 256,
@@ -86,7 +86,7 @@ enum {
     FIKAREHU_TYPE_CELL = 2,
     FIKAREHU_TYPE_ONCE = 3,  /* a function usable once */
     FIKAREHU_TYPE_MANY = 4,  /* a function usable many times */
-    /* edition 2 */
+    /* from edition 2 on */
     FIKAREHU_TYPE_ONCE_PAIR = 5,
     FIKAREHU_TYPE_MANY_PAIR = 6,
     FIKAREHU_TYPE_ONCE_LIST = 7,
@@ -112,19 +112,21 @@ enum {
     FIKAREHU_TAG_THREAD = 7,
     FIKAREHU_TAG_HANDLE = 8,
     FIKAREHU_TAG_NAME = 9,
-    /* edition 2, and any image */
+    /* from edition 2 on, and in any image */
     FIKAREHU_TAG_PAIR = 10,
     FIKAREHU_TAG_LIST = 11,      /* the front of a list, and the rest */
     FIKAREHU_TAG_CASE_PAIR = 12, /* takes a pair apart */
     FIKAREHU_TAG_CASE_LIST = 13  /* takes a list apart */
 };
 
-/* The refusals: 1 to 11 by a check, a load or a run, 12 by a load, a step or a run, 13 to 17 by a
- * step. A run passes on what arises, 12 first; 15 never does, for lack of room only passes a thread
- * over. 18 is the program test_load's. */
+/* The refusals: 1 to 11 and 19 by a check, a load or a run, 12 by a load, a step or a run, 13 to 17 by
+ * a step. The order: a check tries 1 to 11, then 19; a load and a run try 12, then 1 to 11, then 19. A
+ * run passes on what arises; 15 never does, for lack of room only passes a thread over. 18 is the
+ * program test_load's, tried after 19. */
 enum {
     FIKAREHU_REFUSED_FILE_LENGTH = 1,  /* file length outside 12 to 8,192 */
-    FIKAREHU_REFUSED_OPENING = 2,      /* first two bytes, edition, or n outside 2 to 17 */
+    FIKAREHU_REFUSED_OPENING = 2,      /* first two bytes, edition, or n outside 2 to 17, in edition 3
+                                          outside 3 to 18 */
     FIKAREHU_REFUSED_LAYOUT = 3,       /* pairs break the layout; table length no multiple of 3, or outside 9 to 768 */
     FIKAREHU_REFUSED_TYPE_ENTRY = 4,   /* a type entry breaks its rule */
     FIKAREHU_REFUSED_NO_TERM = 5,      /* a part is not exactly one term: unknown tag, cut, bytes over */
@@ -143,7 +145,9 @@ enum {
     FIKAREHU_REFUSED_USED_HANDLE = 16, /* used handle applied */
     FIKAREHU_REFUSED_WRONG_KIND = 17,  /* two values meet, neither a rule, nor waiting, nor 16; a case of
                                           another kind of value */
-    FIKAREHU_REFUSED_SEED = 18         /* a seed of zero; no function here answers it */
+    FIKAREHU_REFUSED_SEED = 18,        /* a seed of zero; no function here answers it */
+    FIKAREHU_REFUSED_STARTING = 19     /* edition 3: a starting part whose length is not twice the number of
+                                          bays */
 };
 
 /* The rules: Fig. 5's in its order, and the two that take a pair or a list apart. */
@@ -161,14 +165,14 @@ enum {
 
 /* The answer of a check. */
 struct fikarehu_verdict {
-    uint32_t refusal;                  /* 0 for accepted, else 1 to 11, and every other field is 0 */
+    uint32_t refusal;                  /* 0 for accepted, else 1 to 11 or 19, and every other field is 0 */
     uint32_t bays;                     /* b, the number of bays, at least 1 */
     uint8_t types[FIKAREHU_MAX_BAYS];  /* each bay's type number; 0 beyond the bays */
 };
 
 /* The answer of a load. */
 struct fikarehu_loaded {
-    uint32_t refusal;                  /* 0 for loaded, else 12 or 1 to 11, and every other field is 0 */
+    uint32_t refusal;                  /* 0 for loaded, else 12, 1 to 11 or 19, and every other field is 0 */
     uint32_t bays;                     /* b, the number of bays, at least 1 */
     uint8_t types[FIKAREHU_MAX_BAYS];  /* each bay's type number; 0 beyond the bays */
     uint64_t length;                   /* the length of the image that was written */
@@ -198,7 +202,7 @@ enum {
 
 /* The answer of a run. */
 struct fikarehu_ran {
-    uint32_t refusal;  /* 0 for run, else the refusal, 12 or 1 to 11, and every other field is 0 */
+    uint32_t refusal;  /* 0 for run, else the refusal, 12, 1 to 11 or 19, and every other field is 0 */
     uint32_t stop;     /* FIKAREHU_TURNS, _IDLE or _ROOM */
     uint32_t turns;    /* the turns taken */
     uint32_t buffer;   /* the last image's: 0 for the first, 1 for the second */
@@ -208,7 +212,8 @@ struct fikarehu_ran {
 /* The verdict on the recipe of recipe_len bytes. */
 struct fikarehu_verdict fikarehu_check(const uint8_t *recipe, size_t recipe_len);
 
-/* Checks the recipe and writes its starting image to out. */
+/* Checks the recipe and writes its starting image to out. Bay k's setting holds its starting num, the
+ * two bytes from 2k on of the starting part; in editions 1 and 2 it holds 0. */
 struct fikarehu_loaded fikarehu_load(const uint8_t *recipe, size_t recipe_len, uint8_t *out, size_t out_len);
 
 /* Steps one thread of the image, the whole slice of image_len bytes, and writes the new image to

@@ -12,36 +12,55 @@ static const uint8_t table_a[] = {0, 0, 0, 1, 0, 0, 2, 1, 0};
 static const uint8_t table_unit[] = {0, 0, 0, 1, 0, 0, 2, 1, 0, 4, 0, 0};
 
 /* Byte 2 of a file. */
-enum { EDITION_1 = 1, EDITION_2 = 2 };
+enum { EDITION_1 = 1, EDITION_2 = 2, EDITION_3 = 3 };
 
 struct file {
     uint8_t bytes[16 * FIKAREHU_MAX_FILE];
     size_t length;
 };
 
-static void put_pair(struct file *file, size_t part, size_t offset, size_t length) {
+/* The opening bytes, and room for that many pairs. */
+static void open_file(struct file *file, uint8_t edition, size_t parts) {
+    memcpy(file->bytes, (const uint8_t[]){0x4C, 0x46, edition, (uint8_t)parts}, 4);
+    file->length = 4 + 4 * parts;
+}
+
+/* The next part, at the end of the file, and its pair. */
+static void put_part(struct file *file, size_t part, const uint8_t *bytes, size_t length) {
     uint8_t *pair = file->bytes + 4 + 4 * part;
-    pair[0] = (uint8_t)offset;
-    pair[1] = (uint8_t)(offset >> 8);
+    must(file->length + length <= sizeof file->bytes, "the file is too long");
+    pair[0] = (uint8_t)file->length;
+    pair[1] = (uint8_t)(file->length >> 8);
     pair[2] = (uint8_t)length;
     pair[3] = (uint8_t)(length >> 8);
+    if (length > 0) {
+        memcpy(file->bytes + file->length, bytes, length);
+    }
+    file->length += length;
 }
 
 /* A file whose every bay has the same term. */
 static void make(struct file *file, const uint8_t *table, size_t table_len, const uint8_t *term, size_t term_len,
                  size_t bays) {
-    size_t at = 4 + 4 * (bays + 1);
-    must(at + table_len + bays * term_len <= sizeof file->bytes, "the file is too long");
-    memcpy(file->bytes, (const uint8_t[]){0x4C, 0x46, EDITION_1, (uint8_t)(bays + 1)}, 4);
-    put_pair(file, 0, at, table_len);
-    memcpy(file->bytes + at, table, table_len);
-    at += table_len;
+    open_file(file, EDITION_1, bays + 1);
+    put_part(file, 0, table, table_len);
     for (size_t bay = 0; bay < bays; bay++) {
-        put_pair(file, 1 + bay, at, term_len);
-        memcpy(file->bytes + at, term, term_len);
-        at += term_len;
+        put_part(file, 1 + bay, term, term_len);
     }
-    file->length = at;
+}
+
+/* The twin of a file of edition 1 or 2: edition 3, its parts, and that starting part behind the type table. */
+static inline void make_twin(struct file *twin, const struct file *file, const uint8_t *starting, size_t starting_len) {
+    size_t parts = file->bytes[3];
+    open_file(twin, EDITION_3, parts + 1);
+    for (size_t part = 0; part < parts; part++) {
+        const uint8_t *pair = file->bytes + 4 + 4 * part;
+        size_t offset = pair[0] + 256u * pair[1], length = pair[2] + 256u * pair[3];
+        put_part(twin, part == 0 ? 0 : part + 1, file->bytes + offset, length);
+        if (part == 0) {
+            put_part(twin, 1, starting, starting_len);
+        }
+    }
 }
 
 /* The deepest lambdas, in as many bays as the nodes allow and with all entries. */
@@ -74,6 +93,17 @@ static inline void make_2(struct file *file, const uint8_t *table, size_t table_
     make(file, table, table_len, term, term_len, bays);
     file->bytes[2] = EDITION_2;
 }
+
+/* A file as `make` makes it, of edition 3 with that starting part. */
+static inline void make_3(struct file *file, const uint8_t *table, size_t table_len, const uint8_t *starting,
+                          size_t starting_len, const uint8_t *term, size_t term_len, size_t bays) {
+    static struct file twin;
+    make_2(&twin, table, table_len, term, term_len, bays);
+    make_twin(file, &twin, starting, starting_len);
+}
+
+/* Zeros, for the starting parts of twins. */
+static const uint8_t zeros[FIKAREHU_MAX_FILE];
 
 /* Case A's table, and with it a many pair of unit and unit: type 3. */
 static const uint8_t table_pair[] = {0, 0, 0, 1, 0, 0, 2, 1, 0, FIKAREHU_TYPE_MANY_PAIR, 0, 0};

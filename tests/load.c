@@ -15,8 +15,7 @@ static const uint8_t case_a[] = {0x4C, 0x46, 1, 2, 0x0C, 0, 9, 0, 0x15, 0, 1, 0,
 static const uint8_t image_a[] = {2, 0, 2, 0, 0x0E, 0, 3, 0, 1, 0, 0x11, 0, 1, 0, 4, 0, 0, 3};
 
 static int others_are_zero(const struct fikarehu_loaded *loaded) {
-    static const uint8_t zeros[FIKAREHU_MAX_BAYS];
-    return loaded->bays == 0 && memcmp(loaded->types, zeros, sizeof zeros) == 0 && loaded->length == 0;
+    return loaded->bays == 0 && memcmp(loaded->types, zeros, sizeof loaded->types) == 0 && loaded->length == 0;
 }
 
 /* The end of an out buffer against a page that traps. */
@@ -123,12 +122,108 @@ static void edition_2(void) {
                    FIKAREHU_REFUSED_TYPE_ENTRY);
 }
 
+#define BYTES(...) ((const uint8_t[]){__VA_ARGS__}), sizeof((const uint8_t[]){__VA_ARGS__})
+
+/* The load of a file comes to that image, and leaves the bytes beyond it. */
+static void expect_image(const char *what, const struct file *file, uint32_t bays, const uint8_t *image,
+                         size_t length) {
+    uint8_t *out = out_end() - FIKAREHU_MAX_IMAGE;
+    fill(out, FIKAREHU_MAX_IMAGE);
+    struct fikarehu_loaded loaded = fikarehu_load(file->bytes, file->length, out, FIKAREHU_MAX_IMAGE);
+    CHECK(loaded.refusal == 0 && loaded.bays == bays, "%s: refusal %u, %u bays", what, loaded.refusal, loaded.bays);
+    CHECK(loaded.length == length, "%s: length %llu, expected %zu", what, (unsigned long long)loaded.length, length);
+    CHECK(memcmp(out, image, length) == 0, "%s: another image", what);
+    CHECK(kept(out, length, FIKAREHU_MAX_IMAGE), "%s: written beyond the image", what);
+}
+
+/* T5 of document 01. */
+static const uint8_t table_5[] = {0, 0, 0, 1, 0, 0, 2, 1, 0, 4, 1, 1, 4, 2, 3};
+
+/* Settings start with the nums of the starting part, low byte first. */
+static void starting_nums(void) {
+    static struct file file;
+    make_3(&file, table_a, sizeof table_a, BYTES(0, 0), BYTES(3), 1);
+    expect_image("case A from 0", &file, 1, image_a, sizeof image_a);
+    make_3(&file, table_a, sizeof table_a, BYTES(0xFA, 0), BYTES(3), 1);
+    expect_image("case A from 250", &file, 1, BYTES(2, 0, 2, 0, 14, 0, 3, 0, 1, 0, 17, 0, 1, 0, 4, 0xFA, 0, 3));
+    make_3(&file, table_5, sizeof table_5, BYTES(0xFA, 0), BYTES(2, 2, 6, 4, 9, 0, 4, 0xFA, 0), 1);
+    expect_image("case B from 250", &file, 1,
+                 BYTES(2, 0, 2, 0, 14, 0, 3, 0, 1, 0, 17, 0, 9, 0, 4, 0xFA, 0, 2, 2, 6, 4, 9, 0, 4, 0xFA, 0));
+    make_3(&file, table_a, sizeof table_a, BYTES(0xFF, 0xFF, 0, 1), BYTES(3), 2);
+    expect_image("two bays from 65,535 and 256", &file, 2,
+                 BYTES(4, 0, 2, 0, 26, 0, 3, 0, 2, 0, 29, 0, 3, 0, 1, 0, 32, 0, 1, 0, 1, 0, 33, 0, 1, 0, 4, 0xFF, 0xFF, 4, 0,
+                       1, 3, 3));
+}
+
+/* Sixteen bays, each from another num: the settings lie behind the heads, three bytes each. */
+static void sixteen_starting_nums(void) {
+    static struct file file;
+    uint8_t starting[2 * FIKAREHU_MAX_BAYS];
+    for (size_t at = 0; at < sizeof starting; at++) {
+        starting[at] = (uint8_t)(0x11 + 7 * at);
+    }
+    make_3(&file, table_a, sizeof table_a, starting, sizeof starting, BYTES(3), FIKAREHU_MAX_BAYS);
+    uint8_t *out = out_end() - FIKAREHU_MAX_IMAGE;
+    struct fikarehu_loaded loaded = fikarehu_load(file.bytes, file.length, out, FIKAREHU_MAX_IMAGE);
+    CHECK(loaded.refusal == 0 && loaded.bays == FIKAREHU_MAX_BAYS, "sixteen bays: refusal %u", loaded.refusal);
+    const uint8_t *setting = out + FIKAREHU_FIRST_HEAD + 2 * FIKAREHU_MAX_BAYS * FIKAREHU_HEAD_LENGTH;
+    for (size_t bay = 0; bay < FIKAREHU_MAX_BAYS; bay++, setting += 3) {
+        CHECK(setting[0] == FIKAREHU_TAG_NUM && memcmp(setting + 1, starting + 2 * bay, 2) == 0,
+              "bay %zu: num %u", bay, setting[1] + 256u * setting[2]);
+    }
+}
+
+/* "an edition 3 file of zeros loads the same image as its edition 2 twin" */
+static void expect_twins(const char *what, const struct file *file, size_t bays) {
+    static struct file twin;
+    static uint8_t image[FIKAREHU_MAX_IMAGE];
+    make_twin(&twin, file, zeros, 2 * bays);
+    CHECK(twin.length == file->length + 4 + 2 * bays, "%s: the twin has %zu bytes", what, twin.length);
+    struct fikarehu_loaded loaded = fikarehu_load(file->bytes, file->length, image, sizeof image);
+    expect_image(what, &twin, loaded.bays, image, loaded.length);
+}
+
+static void twins(void) {
+    static struct file file;
+    make_2(&file, table_a, sizeof table_a, BYTES(3), 1);
+    expect_twins("case A", &file, 1);
+    make_2(&file, table_5, sizeof table_5, BYTES(2, 2, 6, 4, 9, 0, 4, 0xFA, 0), 9);
+    expect_twins("case B in nine bays", &file, 9);
+    make_2(&file, table_a, sizeof table_a, BYTES(9, 15), FIKAREHU_MAX_BAYS);
+    expect_twins("sixteen bays", &file, FIKAREHU_MAX_BAYS);
+    make_lambdas(&file);
+    expect_twins("lambdas", &file, LAMBDA_BAYS);
+    make_cases(&file);
+    expect_twins("cases", &file, CASE_BAYS);
+}
+
+/* A starting part of another length, after all other causes; 12 comes before it. */
+static void starting_parts_of_other_lengths(void) {
+    static struct file file;
+    make_3(&file, table_a, sizeof table_a, BYTES(0xFA), BYTES(3), 1);
+    expect_refusal("a byte short", file.bytes, file.length, FIKAREHU_MAX_IMAGE, FIKAREHU_REFUSED_STARTING);
+    expect_refusal("a byte short", file.bytes, file.length, FIKAREHU_MAX_IMAGE - 1, FIKAREHU_REFUSED_BUFFER);
+    expect_refusal("a byte short", file.bytes, file.length, 0, FIKAREHU_REFUSED_BUFFER);
+    make_3(&file, table_a, sizeof table_a, BYTES(0xFA, 0, 0), BYTES(3), 1);
+    expect_refusal("a byte over", file.bytes, file.length, FIKAREHU_MAX_IMAGE, FIKAREHU_REFUSED_STARTING);
+    make_3(&file, table_a, sizeof table_a, BYTES(0xFA, 0, 1), BYTES(3), 2);
+    expect_refusal("three bytes for two bays", file.bytes, file.length, FIKAREHU_MAX_IMAGE, FIKAREHU_REFUSED_STARTING);
+    make_3(&file, table_a, sizeof table_a, NULL, 0, BYTES(3), 1);
+    expect_refusal("no byte", file.bytes, file.length, FIKAREHU_MAX_IMAGE, FIKAREHU_REFUSED_LAYOUT);
+    make_3(&file, table_a, sizeof table_a, BYTES(0xFA), BYTES(2, 3, 3), 1);
+    expect_refusal("a byte short and unit applied", file.bytes, file.length, FIKAREHU_MAX_IMAGE, FIKAREHU_REFUSED_TYPE);
+}
+
 static void *on_a_thread(void *nothing) {
     case_a_into(FIKAREHU_MAX_IMAGE);
     case_a_into(FIKAREHU_MAX_IMAGE + 1);
     case_a_into(ROOM);
     refused_recipes();
     edition_2();
+    starting_nums();
+    sixteen_starting_nums();
+    twins();
+    starting_parts_of_other_lengths();
     worst_recipes();
     return nothing;
 }

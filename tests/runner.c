@@ -161,17 +161,11 @@ static struct file scratch;
 
 /* A file with these terms. */
 static void make_bays(struct file *file, const struct term *terms, size_t bays) {
-    size_t at = 4 + 4 * (bays + 1);
-    memcpy(file->bytes, (const uint8_t[]){0x4C, 0x46, EDITION_1, (uint8_t)(bays + 1)}, 4);
-    put_pair(file, 0, at, sizeof table);
-    memcpy(file->bytes + at, table, sizeof table);
-    at += sizeof table;
+    open_file(file, EDITION_1, bays + 1);
+    put_part(file, 0, table, sizeof table);
     for (size_t bay = 0; bay < bays; bay++) {
-        put_pair(file, 1 + bay, at, terms[bay].length);
-        memcpy(file->bytes + at, terms[bay].bytes, terms[bay].length);
-        at += terms[bay].length;
+        put_part(file, 1 + bay, terms[bay].bytes, terms[bay].length);
     }
-    file->length = at;
 }
 
 #define BAYS(...) ((const struct term[]){__VA_ARGS__}), sizeof((const struct term[]){__VA_ARGS__}) / sizeof(struct term)
@@ -246,6 +240,59 @@ static void refusals_1_to_11(void) {
     expect_refusal("a bay usable once", &scratch, FIKAREHU_REFUSED_BAY_ONCE);
 }
 
+/* T5 of document 01, and case B's term. */
+static const uint8_t table_5[] = {0, 0, 0, 1, 0, 0, 2, 1, 0, 4, 1, 1, 4, 2, 3};
+static const uint8_t case_b[] = {2, 2, 6, 4, 9, 0, 4, 0xFA, 0};
+
+/* The run ends with that image. */
+static void expect_last(const char *what, uint16_t turns, uint32_t stop, uint32_t taken, const uint8_t *image,
+                        size_t length) {
+    expect_run(what, &scratch, turns, stop, taken);
+    struct fikarehu_ran ran =
+        run_into(scratch.bytes, scratch.length, turns, FIKAREHU_MAX_IMAGE, FIKAREHU_MAX_IMAGE);
+    const uint8_t *last = buffer_end(ran.buffer == 1) - FIKAREHU_MAX_IMAGE;
+    CHECK(ran.length == length && memcmp(last, image, length) == 0, "%s, %u turns: another image", what, turns);
+}
+
+#define BYTES(...) ((const uint8_t[]){__VA_ARGS__}), sizeof((const uint8_t[]){__VA_ARGS__})
+
+/* Edition 3: settings start with their nums, and exch hands the starting num on. */
+static void starting_nums(void) {
+    make_3(&scratch, table_a, sizeof table_a, BYTES(0, 0), BYTES(3), 1);
+    expect_last("case A from 0", 5, FIKAREHU_IDLE, 0, BYTES(2, 0, 2, 0, 14, 0, 3, 0, 1, 0, 17, 0, 1, 0, 4, 0, 0, 3));
+    make_3(&scratch, table_a, sizeof table_a, BYTES(0xFA, 0), BYTES(3), 1);
+    expect_last("case A from 250", 5, FIKAREHU_IDLE, 0, BYTES(2, 0, 2, 0, 14, 0, 3, 0, 1, 0, 17, 0, 1, 0, 4, 0xFA, 0, 3));
+    make_3(&scratch, table_5, sizeof table_5, BYTES(0x64, 0), case_b, sizeof case_b, 1);
+    expect_last("case B from 100", 0, FIKAREHU_TURNS, 0,
+                BYTES(2, 0, 2, 0, 14, 0, 3, 0, 1, 0, 17, 0, 9, 0, 4, 0x64, 0, 2, 2, 6, 4, 9, 0, 4, 0xFA, 0));
+    expect_last("case B from 100", 1, FIKAREHU_TURNS, 1,
+                BYTES(2, 0, 2, 0, 14, 0, 3, 0, 1, 0, 17, 0, 3, 0, 4, 0xFA, 0, 4, 0x64, 0));
+    expect_last("case B from 100", 2, FIKAREHU_IDLE, 1,
+                BYTES(2, 0, 2, 0, 14, 0, 3, 0, 1, 0, 17, 0, 3, 0, 4, 0xFA, 0, 4, 0x64, 0));
+    /* both bays set the vent of bay 0: the second one has the first one's 250 back, and bay 1 keeps 256 */
+    make_3(&scratch, table_5, sizeof table_5, BYTES(0xFF, 0xFF, 0, 1), case_b, sizeof case_b, 2);
+    expect_last("two bays from 65,535 and 256", 9, FIKAREHU_IDLE, 2,
+                BYTES(4, 0, 2, 0, 26, 0, 3, 0, 2, 0, 29, 0, 3, 0, 1, 0, 32, 0, 3, 0, 1, 0, 35, 0, 3, 0, 4, 0xFA, 0, 4, 0, 1,
+                      4, 0xFF, 0xFF, 4, 0xFA, 0));
+}
+
+/* 19, after all other causes and after 12. */
+static void starting_parts_of_other_lengths(void) {
+    make_3(&scratch, table_a, sizeof table_a, BYTES(0xFA), BYTES(3), 1);
+    expect_refusal("a byte short", &scratch, FIKAREHU_REFUSED_STARTING);
+    expect_refusal_into("a byte short", &scratch, 1, FIKAREHU_MAX_IMAGE - 1, FIKAREHU_MAX_IMAGE,
+                        FIKAREHU_REFUSED_BUFFER);
+    expect_refusal_into("a byte short", &scratch, 0, FIKAREHU_MAX_IMAGE, 0, FIKAREHU_REFUSED_BUFFER);
+    make_3(&scratch, table_a, sizeof table_a, BYTES(0xFA, 0, 0), BYTES(3), 1);
+    expect_refusal("a byte over", &scratch, FIKAREHU_REFUSED_STARTING);
+    make_3(&scratch, table_a, sizeof table_a, BYTES(0xFA, 0, 0), BYTES(3), 2);
+    expect_refusal("three bytes for two bays", &scratch, FIKAREHU_REFUSED_STARTING);
+    make_3(&scratch, table_a, sizeof table_a, NULL, 0, BYTES(3), 1);
+    expect_refusal("no byte", &scratch, FIKAREHU_REFUSED_LAYOUT);
+    make_3(&scratch, table_a, sizeof table_a, BYTES(0xFA), BYTES(2, 3, 3), 1);
+    expect_refusal("a byte short and unit applied", &scratch, FIKAREHU_REFUSED_TYPE);
+}
+
 /* 12 comes first: for either buffer, whatever the turns and whatever the recipe. */
 static void short_buffers(void) {
     static const size_t lengths[] = {0, 1, 17, FIKAREHU_MAX_FILE, FIKAREHU_MAX_IMAGE - 1};
@@ -284,6 +331,9 @@ static void worst_recipes(void) {
     expect_run("99 lambdas in ten bays", &scratch, 100, FIKAREHU_IDLE, 0);
     make_cases(&scratch);
     expect_run("98 cases in two bays", &scratch, 1000, FIKAREHU_IDLE, CASES * CASE_BAYS);
+    static struct file twin;
+    make_twin(&twin, &scratch, zeros, 2 * CASE_BAYS);
+    expect_run("their twin", &twin, 1000, FIKAREHU_IDLE, CASES * CASE_BAYS);
     make_full(&scratch, FIKAREHU_TAG_APPLICATION, FIKAREHU_TAG_APPLICATION);
     expect_refusal("applications and nothing else", &scratch, FIKAREHU_REFUSED_NO_TERM);
 }
@@ -293,6 +343,8 @@ static void *everything(void *nothing) {
     takes_all_turns();
     stops_for_room();
     refusals_1_to_11();
+    starting_nums();
+    starting_parts_of_other_lengths();
     short_buffers();
     worst_recipes();
     return nothing;

@@ -69,6 +69,15 @@ static void case_b(void) {
                 FIKAREHU_CELL_EXCH, BYTES(2, 0, 2, 0, 14, 0, 3, 0, 1, 0, 17, 0, 3, 0, 4, 0xFA, 0, 4, 0, 0));
 }
 
+/* Case B from starting nums: the thread is then the former num. */
+static void case_b_from_starting_nums(void) {
+    expect_rule("case B from 100", BYTES(2, 0, 2, 0, 14, 0, 3, 0, 1, 0, 17, 0, 9, 0, 4, 0x64, 0, 2, 2, 6, 4, 9, 0, 4, 0xFA, 0),
+                1, FIKAREHU_CELL_EXCH, BYTES(2, 0, 2, 0, 14, 0, 3, 0, 1, 0, 17, 0, 3, 0, 4, 0xFA, 0, 4, 0x64, 0));
+    expect_rule("case B from 65,535",
+                BYTES(2, 0, 2, 0, 14, 0, 3, 0, 1, 0, 17, 0, 9, 0, 4, 0xFF, 0xFF, 2, 2, 6, 4, 9, 0, 4, 0xFA, 0), 1,
+                FIKAREHU_CELL_EXCH, BYTES(2, 0, 2, 0, 14, 0, 3, 0, 1, 0, 17, 0, 3, 0, 4, 0xFA, 0, 4, 0xFF, 0xFF));
+}
+
 /* Each rule on its own, in Fig. 5's order. */
 static void every_rule(void) {
     expect_rule("rule 1", BYTES(1, 0, 1, 0, 8, 0, 6, 0, 2, 1, 9, 0, 0, 3), 0, FIKAREHU_BETA, BYTES(1, 0, 1, 0, 8, 0,
@@ -271,6 +280,7 @@ static void too_large(void) {
 
 static void *everything(void *nothing) {
     every_rule();
+    case_b_from_starting_nums();
     taking_apart();
     other_subjects();
     other_answers();

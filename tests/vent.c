@@ -22,20 +22,18 @@ struct run {
     uint64_t length;
 };
 
-static void load_edition(struct run *run, uint8_t edition, const uint8_t *table, size_t table_len, const uint8_t *term,
-                         size_t term_len) {
-    static struct file file;
-    make(&file, table, table_len, term, term_len, 1);
-    file.bytes[2] = edition;
+static void load_file(struct run *run, const struct file *file) {
     run->image = run->buffers[0];
     run->other = run->buffers[1];
-    struct fikarehu_loaded loaded = fikarehu_load(file.bytes, file.length, run->image, FIKAREHU_MAX_IMAGE);
+    struct fikarehu_loaded loaded = fikarehu_load(file->bytes, file->length, run->image, FIKAREHU_MAX_IMAGE);
     CHECK(loaded.refusal == 0, "refused %u", loaded.refusal);
     run->length = loaded.length;
 }
 
 static void load(struct run *run, const uint8_t *table, size_t table_len, const uint8_t *term, size_t term_len) {
-    load_edition(run, EDITION_1, table, table_len, term, term_len);
+    static struct file file;
+    make(&file, table, table_len, term, term_len, 1);
+    load_file(run, &file);
 }
 
 /* A step by that rule, and the vent after it. */
@@ -96,12 +94,44 @@ static void a_future(void) {
 static void a_case(void) {
     static const uint8_t table[] = {0, 0, 0, 1, 0, 0, 2, 1, 0, 4, 1, 1, 4, 2, 3, 4, 3, 1, 6, 1, 1};
     static const uint8_t term[] = {2, 2, 6, 4, 9, 0, 2, 7, 5, 1, 3, 12, 10, 6, 4, 0xAE, 1, 0, 0, 0, 1};
+    static struct file file;
     static struct run run;
-    load_edition(&run, EDITION_2, table, sizeof table, term, sizeof term);
+    make_2(&file, table, sizeof table, term, sizeof term, 1);
+    load_file(&run, &file);
     step(&run, 1, FIKAREHU_THREAD_NEW, VENT_OPENING, 0);
     step(&run, 1, FIKAREHU_CELL_EXCH, VENT_AWAITS_THREAD, 2);
     step(&run, 2, FIKAREHU_BETA, VENT_AWAITS_THREAD, 2);
     step(&run, 2, FIKAREHU_CASE_PAIR, VENT_OPENING, 430);
+}
+
+/* A vent set by hand: it is open from the start, and what opens it further has the former opening. */
+static void a_starting_num(void) {
+    static const uint8_t term[] = {2, 2, 6, 4, 9, 0, 4, 0xAE, 1};
+    static struct file file;
+    static struct run run;
+    make_3(&file, table_threads, sizeof table_threads, (const uint8_t[]){0xFA, 0}, 2, term, sizeof term, 1);
+    load_file(&run, &file);
+    expect_vent("loaded", run.image, 0, VENT_OPENING, 250);
+    step(&run, 1, FIKAREHU_CELL_EXCH, VENT_OPENING, 430);
+}
+
+/* First openings written into a recipe: of bays that it has, and in edition 3 only. */
+static void written_openings(void) {
+    static struct file file, before;
+    static struct run run;
+    make_3(&file, table_a, sizeof table_a, zeros, 4, (const uint8_t[]){3}, 1, 2);
+    CHECK(write_opening(file.bytes, file.length, 0, 250) && write_opening(file.bytes, file.length, 1, 65535), "not written");
+    before = file;
+    CHECK(!write_opening(file.bytes, file.length, 2, 1), "an opening of bay 2 of two bays");
+    CHECK(!write_opening(file.bytes, file.length - 1, 0, 1), "an opening of a file that is cut");
+    CHECK(memcmp(&file, &before, sizeof file) == 0, "written where it should not be");
+    load_file(&run, &file);
+    expect_vent("bay 0", run.image, 0, VENT_OPENING, 250);
+    expect_vent("bay 1", run.image, 1, VENT_OPENING, 65535);
+    make_2(&file, table_a, sizeof table_a, (const uint8_t[]){3}, 1, 2);
+    before = file;
+    CHECK(!write_opening(file.bytes, file.length, 0, 1), "an opening in edition 2");
+    CHECK(memcmp(&file, &before, sizeof file) == 0, "written in edition 2");
 }
 
 /* The vent of bay 0 in an image from outside, which must keep the rules of images. */
@@ -155,6 +185,8 @@ int main(void) {
     a_chain();
     a_future();
     a_case();
+    a_starting_num();
+    written_openings();
     images();
     longest(0);
     longest(1);

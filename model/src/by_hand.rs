@@ -58,11 +58,11 @@ impl Types {
     }
 
     pub fn recipe(self, terms: Vec<Term>) -> Recipe {
-        let edition = self.0.edition().number;
-        let entries = self.0.into_entries();
+        let edition = self.0.edition();
         Recipe {
-            edition,
-            entries,
+            edition: edition.number,
+            entries: self.0.into_entries(),
+            starts: edition.zeros(terms.len()),
             terms,
         }
     }

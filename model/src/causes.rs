@@ -36,3 +36,5 @@ pub const USED_HANDLE: u32 = 16;
 pub const WRONG_KIND: u32 = 17;
 /// A seed of zero, of the test load (document 02, T-06).
 pub const SEED: u32 = 18;
+/// A starting part whose length is not twice the number of bays (document 02, T-07).
+pub const STARTING: u32 = 19;

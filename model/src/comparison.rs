@@ -30,13 +30,13 @@ const RUN_STEPS: usize = 40;
 /// How often each answer came.
 #[derive(Debug, Clone, Default, PartialEq, Eq)]
 pub struct Counts {
-    pub verdicts: [u64; 12],
-    pub loads: [u64; 13],
+    pub verdicts: [u64; 20],
+    pub loads: [u64; 20],
     pub rules: [u64; 10],
     pub done: u64,
     pub waiting: u64,
     pub step_refusals: [u64; 18],
-    pub runs: [u64; 18],
+    pub runs: [u64; 20],
     /// Of the runs that were not refused, by their stops.
     pub stops: [u64; 3],
     pub turns: u64,
@@ -61,7 +61,7 @@ impl Counts {
 
     /// The same of a run.
     pub fn note_run(&mut self, answer: &RanAnswer) {
-        self.runs[(answer.refusal as usize).min(17)] += 1;
+        self.runs[(answer.refusal as usize).min(19)] += 1;
         if answer.refusal == 0 {
             self.stops[(answer.stop as usize).min(2)] += 1;
             self.turns += u64::from(answer.turns);
@@ -279,15 +279,16 @@ fn pattern<'p>(bytes: &'p [u8], draw: &mut Draw, length: usize) -> &'p [u8] {
 }
 
 /// Accepted exactly when every term has a derivation by Figs. 9 and 10 with a type of multiplicity
-/// many.
+/// many, and every bay a starting num.
 fn derivations_agree(file: &[u8], answer: &VerdictAnswer) -> Result<(), Difference> {
-    let (table, terms) = match read_recipe(file) {
-        Some(found) => found,
-        None => return Ok(()),
+    let recipe = match read_recipe(file) {
+        Ok(recipe) => recipe,
+        Err(_) => return Ok(()),
     };
-    let derived = derived_types(&table, &terms);
+    let derived = derived_types(&recipe.table, &recipe.terms);
+    let derived = derived.filter(|_| recipe.starts.is_some());
     let numbers: Option<Vec<u8>> =
-        derived.and_then(|types| types.iter().map(|t| table.number_of(t)).collect());
+        derived.and_then(|types| types.iter().map(|t| recipe.table.number_of(t)).collect());
     let accepted = answer.types[..answer.bays as usize].to_vec();
     let agree = match numbers {
         Some(numbers) => answer.refusal == 0 && numbers == accepted,

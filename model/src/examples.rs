@@ -48,6 +48,7 @@ pub fn all() -> Vec<Example> {
         one_vent(),
         nine_bays(),
         dosing(),
+        planting(),
         mutex(),
         kept_handle(),
         reading_with_hour(),
@@ -103,6 +104,25 @@ fn dosing() -> Example {
     let exch = setting_exch(&mut types);
     let terms = vec![set(exch, 0, 1_200), set(exch, 1, 250)];
     example("dosing", text, types.recipe(terms))
+}
+
+fn planting() -> Example {
+    let text = "Vents set by hand at planting time, document 02's T-07: bay 0 starts at 10.0 percent, \
+                each next bay 5.0 percent further open. Bays 0 to 2 stay so. Bays 3 to 5 open to 60.0, \
+                65.0 and 70.0 percent, and are done with where they were. Bays 6 to 8 are aired: they \
+                open to 90.0 percent and go back to where they were.";
+    let mut types = Types::of(editions::THIRD);
+    let exch = setting_exch(&mut types);
+    let opened = |bay: u8| set(exch, bay, 450 + 50 * u16::from(bay));
+    let aired = |bay| set_to(exch, bay, set(exch, bay, 900));
+    let terms = (0..9).map(|bay| match bay {
+        0..=2 => unit(),
+        3..=5 => opened(bay),
+        _ => aired(bay),
+    });
+    let mut recipe = types.recipe(terms.collect());
+    recipe.starts = (0..9).map(|bay| 100 + 50 * bay).collect();
+    example("planting", text, recipe)
 }
 
 fn mutex() -> Example {
@@ -374,7 +394,7 @@ fn bound_to_itself() -> Example {
     example("bound-to-itself", text, types.recipe(vec![term]))
 }
 
-/// One recipe for each refusal from 4 to 11.
+/// One recipe for each refusal from 4 to 11, and one for 19.
 fn refused() -> Vec<Example> {
     vec![
         refused_4(),
@@ -385,6 +405,7 @@ fn refused() -> Vec<Example> {
         refused_9(),
         refused_10(),
         refused_11(),
+        refused_19(),
     ]
 }
 
@@ -457,6 +478,15 @@ fn refused_11() -> Example {
     let mut types = Types::new();
     let once = types.once(NUM, UNIT);
     example("refused-11", text, types.recipe(vec![lambda(once, unit())]))
+}
+
+fn refused_19() -> Example {
+    let text =
+        "Refused 19: a starting part whose length is not twice the number of bays. There are two \
+                bays, and the starting num of one.";
+    let mut recipe = Types::of(editions::THIRD).recipe(vec![unit(), unit()]);
+    recipe.starts = vec![250];
+    example("refused-19", text, recipe)
 }
 
 /// How many turns the text of an example follows.

@@ -6,11 +6,11 @@ use crate::nodes::{write_term, Node};
 use crate::table::Entry;
 
 /// The edition that byte 2 says, or `None` for cause 2: the first two bytes, a known edition, and n
-/// from 2 to 17.
+/// as that edition has it.
 pub fn edition_of(file: &[u8]) -> Option<Edition> {
     let edition = Edition::of(file[2])?;
     let n = usize::from(file[3]);
-    (file[..2] == limits::OPENING && limits::PARTS.contains(&n)).then_some(edition)
+    (file[..2] == limits::OPENING && edition.parts().contains(&n)).then_some(edition)
 }
 
 /// A pair: the offset and the length of a part.
@@ -37,9 +37,9 @@ pub fn pairs(file: &[u8]) -> Option<Vec<Pair>> {
     Some(bytes.chunks_exact(4).map(pair).collect())
 }
 
-/// The parts, or `None` when the pairs break the layout: "The first part begins at 4 + 4n, each
+/// All parts, or `None` when the pairs break the layout: "The first part begins at 4 + 4n, each
 /// next one where the former ends, the last ends with the file. No length is zero."
-fn parts(file: &[u8]) -> Option<Vec<&[u8]>> {
+fn all_parts(file: &[u8]) -> Option<Vec<&[u8]>> {
     let pairs = pairs(file)?;
     let mut expected = first_offset(pairs.len());
     let mut parts = Vec::new();
@@ -53,13 +53,42 @@ fn parts(file: &[u8]) -> Option<Vec<&[u8]>> {
     (expected == file.len()).then_some(parts)
 }
 
-/// The type table's bytes and the terms' bytes, or `None` for cause 3.
-pub fn table_and_terms(file: &[u8]) -> Option<(&[u8], Vec<&[u8]>)> {
-    let parts = parts(file)?;
-    let (table, terms) = parts.split_first()?;
+/// The bytes of the parts of a file.
+#[derive(Debug, Clone, Default, PartialEq, Eq)]
+pub struct Parts<'f> {
+    pub table: &'f [u8],
+    /// Where the edition has one.
+    pub starting: Option<&'f [u8]>,
+    pub terms: Vec<&'f [u8]>,
+}
+
+/// The parts of a file of that edition, or `None` for cause 3.
+pub fn parts(edition: Edition, file: &[u8]) -> Option<Parts<'_>> {
+    let all = all_parts(file)?;
+    let terms = all.get(edition.terms()..)?;
+    let table = all[0];
     let entries = table.len() / limits::ENTRY_LENGTH;
     let whole = table.len() % limits::ENTRY_LENGTH == 0;
-    (whole && limits::ENTRIES.contains(&entries)).then(|| (*table, terms.to_vec()))
+    (whole && limits::ENTRIES.contains(&entries)).then(|| Parts {
+        table,
+        starting: edition.starting.then(|| all[1]),
+        terms: terms.to_vec(),
+    })
+}
+
+impl Parts<'_> {
+    /// The starting num of each bay, or `None` for cause 19: "a starting part whose length is not twice
+    /// the number of bays". "Editions 1 and 2 keep the unwritten 0".
+    pub fn starting_nums(&self) -> Option<Vec<u16>> {
+        let part = match self.starting {
+            Some(part) => part,
+            None => return Some(vec![0; self.terms.len()]),
+        };
+        let num = |b: &[u8]| u16::from_le_bytes([b[0], b[1]]);
+        let nums = part.chunks_exact(limits::STARTING_NUM_LENGTH).map(num);
+        let whole = part.len() == limits::STARTING_NUM_LENGTH * self.terms.len();
+        whole.then(|| nums.collect())
+    }
 }
 
 /// A file with that edition byte and these parts, whatever they hold, laid out as document 01 says.
@@ -79,11 +108,13 @@ pub fn write_parts(edition: u8, parts: &[Vec<u8>]) -> Vec<u8> {
     file
 }
 
-/// A recipe before it is bytes: its edition, its type entries and one term for each bay.
+/// A recipe before it is bytes: its edition, its type entries, and for each bay a term and, where the
+/// edition has them, a starting num.
 #[derive(Debug, Clone, PartialEq, Eq)]
 pub struct Recipe {
     pub edition: u8,
     pub entries: Vec<Entry>,
+    pub starts: Vec<u16>,
     pub terms: Vec<Vec<Node>>,
 }
 
@@ -91,6 +122,9 @@ impl Recipe {
     pub fn parts(&self) -> Vec<Vec<u8>> {
         let table = self.entries.iter().flat_map(|e| e.bytes()).collect();
         let mut parts: Vec<Vec<u8>> = vec![table];
+        if Edition::of(self.edition).map_or(false, |edition| edition.starting) {
+            parts.push(starting_part(&self.starts));
+        }
         parts.extend(self.terms.iter().map(|term| write_term(term)));
         parts
     }
@@ -103,6 +137,11 @@ impl Recipe {
     pub fn nodes(&self) -> usize {
         self.terms.iter().map(Vec::len).sum()
     }
+}
+
+/// "two bytes for each bay, its starting num"
+pub fn starting_part(starts: &[u16]) -> Vec<u8> {
+    starts.iter().flat_map(|num| num.to_le_bytes()).collect()
 }
 
 /// Two upper-case hexadecimal digits for each byte.

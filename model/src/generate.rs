@@ -8,6 +8,7 @@ pub mod images;
 pub mod instances;
 pub mod mutants;
 pub mod recipes;
+pub mod starts;
 pub mod tables;
 pub mod terms;
 pub mod test_loads;

@@ -8,10 +8,9 @@ pub const OPENING: [u8; 2] = [0x4C, 0x46];
 pub const MIN_FILE: usize = 12;
 pub const MAX_FILE: usize = 8_192;
 pub const FILE_BYTES: RangeInclusive<usize> = MIN_FILE..=MAX_FILE;
-/// "2 to 17 parts"
+/// "2 to 17 parts": the type table, and a term for each bay.
 pub const MIN_PARTS: usize = 2;
 pub const MAX_PARTS: usize = 17;
-pub const PARTS: RangeInclusive<usize> = MIN_PARTS..=MAX_PARTS;
 /// The most bays: every part but the type table.
 pub const MAX_BAYS: usize = MAX_PARTS - 1;
 /// "3 to 256 type entries"
@@ -20,6 +19,8 @@ pub const MAX_ENTRIES: usize = 256;
 pub const ENTRIES: RangeInclusive<usize> = MIN_ENTRIES..=MAX_ENTRIES;
 /// The bytes of one type entry: kind, p, q.
 pub const ENTRY_LENGTH: usize = 3;
+/// "two bytes for each bay, its starting num" (document 02, T-07)
+pub const STARTING_NUM_LENGTH: usize = 2;
 /// "nesting 100, the root being 1"
 pub const MAX_NESTING: usize = 100;
 /// "1,024 nodes over all terms"

@@ -16,11 +16,12 @@ pub enum Loaded {
     Refused(u32),
 }
 
-/// "names 0 to b − 1 to the settings and b to 2b − 1 to the bays' threads"; a setting starts at 0.
-pub fn starting_configuration(terms: &[Vec<Node>]) -> Configuration {
-    let setting = |_: &Vec<Node>| Component::Cell(Rc::new(Expression::Num(0)));
+/// "names 0 to b − 1 to the settings and b to 2b − 1 to the bays' threads"; a setting holds its bay's
+/// starting num.
+pub fn starting_configuration(starts: &[u16], terms: &[Vec<Node>]) -> Configuration {
+    let setting = |num: &u16| Component::Cell(Rc::new(Expression::Num(*num)));
     let thread = |term: &Vec<Node>| Component::Thread(Rc::new(Expression::of_nodes(term)));
-    let settings = terms.iter().map(setting);
+    let settings = starts.iter().map(setting);
     let threads = terms.iter().map(thread);
     Configuration {
         components: settings.chain(threads).collect(),
@@ -29,8 +30,9 @@ pub fn starting_configuration(terms: &[Vec<Node>]) -> Configuration {
 
 /// The starting image of an accepted file.
 pub fn starting_image(file: &[u8]) -> Option<Vec<u8>> {
-    let (_, terms) = read_recipe(file)?;
-    Some(write_image(&starting_configuration(&terms)))
+    let recipe = read_recipe(file).ok()?;
+    let starts = recipe.starts?;
+    Some(write_image(&starting_configuration(&starts, &recipe.terms)))
 }
 
 /// Loading: 12 first, then the verdict, then the image.

@@ -33,7 +33,7 @@ impl Run {
             Loaded::Accepted(bay_types, length) => (bay_types, length),
             _ => return None,
         };
-        let (table, _) = read_recipe(file)?;
+        let table = read_recipe(file).ok()?.table;
         let mut types = vec![setting_type(); bay_types.len()];
         types.extend(
             bay_types

@@ -1,9 +1,10 @@
-//! Document 01's causes 1 to 11, each tried over the whole file; the lowest number wins.
+//! Document 01's causes 1 to 11, each tried over the whole file; the lowest number wins. After them
+//! cause 19 of document 02, T-07.
 
 use crate::causes;
 use crate::editions::Edition;
 use crate::expression::{Case, Expression, Variable};
-use crate::format::{edition_of, table_and_terms};
+use crate::format::{self, edition_of};
 use crate::limits;
 use crate::nodes::{read_term, standings, Node};
 use crate::table::{entries_of, Table};
@@ -36,18 +37,16 @@ pub fn verdict(file: &[u8]) -> Verdict {
     }
 }
 
-/// The causes that ask about bytes, in their order; then those that ask about terms.
+/// The causes that ask about bytes, in their order; then those that ask about terms; then that of the
+/// starting part: "tried after 11 and before 18".
 fn examine(file: &[u8]) -> Result<Vec<u8>, u32> {
-    refuse_if(
-        !limits::FILE_BYTES.contains(&file.len()),
-        causes::FILE_LENGTH,
-    )?;
-    let edition = edition_of(file).ok_or(causes::OPENING)?;
-    let (table, terms) = table_and_terms(file).ok_or(causes::LAYOUT)?;
-    let table = Table::read(edition, &entries_of(table)).ok_or(causes::TYPE_ENTRY)?;
-    let terms = read_terms(edition, &terms).ok_or(causes::NO_TERM)?;
-    refuse_if(above_the_limits(&terms), causes::TERM_SIZE)?;
+    let ReadRecipe {
+        table,
+        starts,
+        terms,
+    } = read_recipe(file)?;
     refuse_if_any_unfit(&table, &terms)?;
+    refuse_if(starts.is_none(), causes::STARTING)?;
     let numbers = terms.iter().map(|term| {
         let found = type_of(&table, &Expression::of_nodes(term));
         found.and_then(|found| table.number_of(&found))
@@ -65,14 +64,31 @@ fn refuse_if(fits: bool, number: u32) -> Result<(), u32> {
     }
 }
 
-/// The table and the terms of a file that causes 1 to 6 do not refuse.
-pub fn read_recipe(file: &[u8]) -> Option<(Table, Vec<Vec<Node>>)> {
-    let sound = limits::FILE_BYTES.contains(&file.len());
-    let edition = sound.then(|| edition_of(file))??;
-    let (table, terms) = table_and_terms(file)?;
-    let table = Table::read(edition, &entries_of(table))?;
-    let terms = read_terms(edition, &terms)?;
-    (!above_the_limits(&terms)).then_some((table, terms))
+/// A recipe that causes 1 to 6 do not refuse.
+#[derive(Debug, Clone)]
+pub struct ReadRecipe {
+    pub table: Table,
+    /// The starting num of each bay, or `None` for cause 19.
+    pub starts: Option<Vec<u16>>,
+    pub terms: Vec<Vec<Node>>,
+}
+
+/// The recipe of a file, or the lowest of causes 1 to 6.
+pub fn read_recipe(file: &[u8]) -> Result<ReadRecipe, u32> {
+    refuse_if(
+        !limits::FILE_BYTES.contains(&file.len()),
+        causes::FILE_LENGTH,
+    )?;
+    let edition = edition_of(file).ok_or(causes::OPENING)?;
+    let parts = format::parts(edition, file).ok_or(causes::LAYOUT)?;
+    let table = Table::read(edition, &entries_of(parts.table)).ok_or(causes::TYPE_ENTRY)?;
+    let terms = read_terms(edition, &parts.terms).ok_or(causes::NO_TERM)?;
+    refuse_if(above_the_limits(&terms), causes::TERM_SIZE)?;
+    Ok(ReadRecipe {
+        table,
+        starts: parts.starting_nums(),
+        terms,
+    })
 }
 
 /// Cause 5: "a part is not exactly one term".

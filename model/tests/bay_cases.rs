@@ -33,6 +33,31 @@ fn case_b() {
     );
 }
 
+/// Cases A and B with a starting num (document 02, T-07).
+#[test]
+fn cases_a_and_b_in_edition_3() {
+    let loaded = |starting: &str| starting_image(&recipe_3(A, starting, &["03"])).unwrap();
+    assert_eq!(
+        hexadecimal(&loaded("0000")),
+        "020002000E00030001001100010004000003"
+    );
+    assert_eq!(
+        hexadecimal(&loaded("FA00")),
+        "020002000E00030001001100010004FA0003"
+    );
+    for (starting, before) in [("0000", "040000"), ("E803", "04E803"), ("FA00", "04FA00")] {
+        let file = recipe_3(T5, starting, &["02 02 06 04 09 00 04 FA 00"]);
+        assert_eq!(verdict(&file), Verdict::Accepted(vec![1]));
+        let (answers, image) = run(&file, &[1]);
+        assert_eq!(answers, [7]);
+        // the setting is 250, and the thread is what it was
+        assert_eq!(
+            hexadecimal(&image),
+            format!("020002000E00030001001100030004FA00{before}")
+        );
+    }
+}
+
 #[test]
 fn case_c() {
     let file = recipe(T7, "02 08 06 01 05 01 04 02 00 00 00 01");

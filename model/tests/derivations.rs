@@ -27,8 +27,8 @@ fn on_the_corpus() {
             1 => careless(&mut draw).write(),
             _ => mutants::of_recipe(&mut draw, well_typed),
         };
-        if let Some((table, terms)) = read_recipe(&made) {
-            agree(&table, &terms);
+        if let Ok(recipe) = read_recipe(&made) {
+            agree(&recipe.table, &recipe.terms);
         }
     }
 }

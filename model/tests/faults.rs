@@ -1,20 +1,22 @@
 //! The place of a refusal: its number is the verdict's, and it is told for every file.
 
+use model::causes;
 use model::command::on_deep_stack;
 use model::draw::Draw;
 use model::examples;
 use model::format::bytes_of_hexadecimal;
 use model::generate::recipes;
-use model::tool::faults::{fault, Fault, Place};
+use model::tool::faults::{fault, Fault, Part, Place};
 use model::tool::show::shown;
 use model::tool::text::spelling::UNICODE;
 use model::verdict::verdict;
+use std::collections::BTreeSet;
 
 #[test]
 fn the_number_is_the_verdicts() {
     on_deep_stack(|| {
         let mut draw = Draw::new(44);
-        let mut came = [0; 12];
+        let mut came = BTreeSet::new();
         for _ in 0..20_000 {
             let file = recipes::file(&mut draw);
             let number = verdict(&file).number();
@@ -22,9 +24,10 @@ fn the_number_is_the_verdicts() {
             assert_eq!(found.as_ref().map_or(0, |fault| fault.number), number);
             let inside = found.map_or(true, |fault| fault.offset <= file.len());
             assert!(inside, "a place outside the file");
-            came[number as usize] += 1;
+            came.insert(number);
         }
-        assert!(came.iter().all(|count| *count > 0), "{came:?}");
+        let all = (0..=causes::BAY_ONCE).chain([causes::STARTING]);
+        assert!(came.iter().copied().eq(all), "{came:?}");
     });
 }
 
@@ -59,6 +62,7 @@ fn places_of_the_examples() {
         ("refused-9", "bay 0, function", 22),
         ("refused-10", "bay 0, body.body.function", 35),
         ("refused-11", "bay 0, root", 24),
+        ("refused-19", "the starting part", 29),
     ];
     for (name, text, offset) in expected {
         assert_eq!(place(name), (text.to_owned(), offset), "{name}");
@@ -79,17 +83,17 @@ fn places_in_the_bytes() {
     let (number, place, offset, found) = told("4C46");
     assert_eq!((number, place, offset), (1, Place::File, 0));
     assert_eq!(found, "the file has 2 bytes");
-    let (number, place, offset, found) = told(&whole.replace("4C4601", "4C4603"));
+    let (number, place, offset, found) = told(&whole.replace("4C4601", "4C4604"));
     assert_eq!((number, place, offset), (2, Place::Opening, 2));
-    assert_eq!(found, "the edition is 03, not 01 or 02");
+    assert_eq!(found, "the edition is 04, not 01, 02 or 03");
     let (number, place, offset, found) = told(&whole.replace("15000100", "16000100"));
-    assert_eq!((number, place, offset), (3, Place::Pair(1), 8));
+    assert_eq!((number, place, offset), (3, Place::Pair(Part::Bay(0)), 8));
     assert_eq!(
         found,
         "the part's offset is 22, but the bytes before it end at 21"
     );
     let (number, place, offset, found) = told(&format!("{whole} 03"));
-    assert_eq!((number, place, offset), (3, Place::Pair(1), 22));
+    assert_eq!((number, place, offset), (3, Place::Pair(Part::Bay(0)), 22));
     assert_eq!(
         found,
         "the last part ends at byte 22, and 1 more bytes follow"
@@ -99,4 +103,59 @@ fn places_in_the_bytes() {
     let path = "argument.function".to_owned();
     assert_eq!((number, place, offset), (5, Place::Node(0, 3, path), 24));
     assert_eq!(found, "the part ends where a node should begin");
+}
+
+#[test]
+fn places_in_the_bytes_of_edition_3() {
+    let whole = format!("4C460303 10000900 19000200 1B000100 {TABLE} FA00 03");
+    assert_eq!(fault(&bytes_of_hexadecimal(&whole)), None);
+    let (number, place, offset, found) = told(&whole.replace("4C460303", "4C460302"));
+    assert_eq!((number, place, offset), (2, Place::Opening, 3));
+    assert_eq!(
+        found,
+        "n, the number of parts, is 2; in edition 3 it is 3 to 18"
+    );
+    let (number, place, offset, found) = told(&whole.replace("4C460303", "4C460212"));
+    assert_eq!((number, place, offset), (2, Place::Opening, 3));
+    assert_eq!(
+        found,
+        "n, the number of parts, is 18; in edition 2 it is 2 to 17"
+    );
+    let none = format!("4C460303 10000900 19000000 19000100 {TABLE} 03");
+    let (number, place, offset, found) = told(&none);
+    assert_eq!(place.to_string(), "the pair of the starting part");
+    assert_eq!(
+        (number, place, offset),
+        (3, Place::Pair(Part::Starting), 10)
+    );
+    assert_eq!(found, "the part's length is 0");
+    let (number, place, offset, _) = told(&whole.replace("1B000100", "1C000100"));
+    assert_eq!(place.to_string(), "the pair of bay 0");
+    assert_eq!((number, place, offset), (3, Place::Pair(Part::Bay(0)), 12));
+    let (number, place, offset, _) = told(&whole.replace("FA00 03", "FA00 0E"));
+    let path = "root".to_owned();
+    assert_eq!((number, place, offset), (5, Place::Node(0, 0, path), 27));
+    let short = format!("4C460303 10000900 19000100 1A000100 {TABLE} FA 03");
+    let (number, place, offset, found) = told(&short);
+    assert_eq!((number, place, offset), (19, Place::Starting, 25));
+    assert_eq!(found, "the part's length is 1; b is 1, so it should be 2");
+}
+
+/// A part of another length is shown with what is known of it, and so are the pairs of a file whose
+/// parts cannot be told.
+#[test]
+fn a_starting_part_is_shown() {
+    let text = shown("a file", &examples::file_of("refused-19"), &UNICODE);
+    assert!(text.contains("\nstarting [250, 0]\n"), "{text}");
+    assert!(!text.contains("start "), "{text}");
+    let none = format!("4C460303 10000900 19000000 19000100 {TABLE} 03");
+    let text = shown("a file", &bytes_of_hexadecimal(&none), &UNICODE);
+    let pairs = "# the type table: offset 16, length 9\n# the starting part: offset 25, length 0\n\
+                 # bay 0: offset 25, length 1\n";
+    assert!(text.contains(pairs), "{text}");
+    let cut = format!("4C460303 10000900 19000200 1B000100 {TABLE} FA00 02");
+    let text = shown("a file", &bytes_of_hexadecimal(&cut), &UNICODE);
+    let remains =
+        "# bay 0 is no term; 1 of its nodes can be read\n#   start 250\n#   application\n";
+    assert!(text.contains(remains), "{text}");
 }

@@ -25,22 +25,24 @@ use std::collections::BTreeMap;
 fn well_typed_recipes_are_accepted() {
     let mut draw = Draw::new(1);
     let accepted = (0..2_000).filter(|_| verdict(&well_typed(&mut draw).write()).number() == 0);
-    assert!(accepted.count() >= 1_990);
+    assert_eq!(accepted.count(), 2_000);
 }
 
 #[test]
 fn every_verdict_comes_and_half_are_accepted() {
     let mut draw = Draw::new(2);
-    let mut counts = [0; 12];
+    let mut counts: BTreeMap<u32, usize> = BTreeMap::new();
     for _ in 0..6_000 {
         let made = file(&mut draw);
         let answer = Model.check(&made);
         assert_eq!(answer, Plain.check(&made), "{}", hexadecimal(&made));
-        counts[answer.refusal as usize] += 1;
+        *counts.entry(answer.refusal).or_default() += 1;
     }
-    println!("verdicts 0 to 11: {counts:?}");
-    assert!(counts.iter().all(|count| *count > 0), "{counts:?}");
-    assert!(counts[0] >= 3_000, "{counts:?}");
+    println!("verdicts: {counts:?}");
+    let all = (0..=causes::BAY_ONCE).chain([causes::STARTING]);
+    assert!(counts.keys().copied().eq(all), "{counts:?}");
+    assert!(counts[&0] >= 3_000, "{counts:?}");
+    assert!(counts[&causes::STARTING] >= 60, "{counts:?}");
 }
 
 #[test]

@@ -6,7 +6,7 @@ mod impostor;
 use impostor::*;
 use model::answers::{SteppedAnswer, VerdictAnswer, DONE, REFUSED, RULE, WAITING};
 use model::causes;
-use model::format::{table_and_terms, write_parts};
+use model::format::{edition_of, parts, write_parts};
 use model::image::read_image;
 use model::nodes::{read_term, write_term, Node, FORMS};
 use model::table::ONCE;
@@ -137,9 +137,10 @@ fn a_stepper_that_tells_another_length() {
 
 /// The recipe with `change` made of each num in it; `None` where a part is no term.
 fn with_nums(recipe: &[u8], change: fn(u16) -> u16) -> Option<Vec<u8>> {
-    let (table, terms) = table_and_terms(recipe)?;
-    let mut parts = vec![table.to_vec()];
-    for term in terms {
+    let found = parts(edition_of(recipe)?, recipe)?;
+    let mut parts = vec![found.table.to_vec()];
+    parts.extend(found.starting.map(<[u8]>::to_vec));
+    for term in found.terms {
         let nodes = read_term(&FORMS, term)?.into_iter().map(|node| match node {
             Node::Num(value) => Node::Num(change(value)),
             other => other,
@@ -190,11 +191,9 @@ fn a_stepper_that_refuses_an_image_with_num_65535() {
 /// Whether the recipe has this constant at contents of multiplicity once: of cell, what it is
 /// applied to; of exch, what its cell holds.
 fn has_once_contents(recipe: &[u8], wanted: Constant) -> bool {
-    let (table, terms) = match table_and_terms(recipe) {
-        Some(parts) => parts,
-        None => return false,
-    };
-    let entries: Vec<&[u8]> = table.chunks(3).collect();
+    let found = edition_of(recipe).and_then(|edition| parts(edition, recipe));
+    let found = found.unwrap_or_default();
+    let entries: Vec<&[u8]> = found.table.chunks(3).collect();
     let entry = |number: u8| entries.get(usize::from(number)).copied().unwrap_or(&[0; 3]);
     let contents = |whole: u8| match wanted {
         Constant::Cell => entry(whole)[1],
@@ -204,7 +203,8 @@ fn has_once_contents(recipe: &[u8], wanted: Constant) -> bool {
         Node::Constant(c, whole) => *c == wanted && entry(contents(*whole))[0] == ONCE,
         _ => false,
     };
-    let nodes = terms.into_iter().filter_map(|term| read_term(&FORMS, term));
+    let nodes = found.terms.into_iter();
+    let nodes = nodes.filter_map(|term| read_term(&FORMS, term));
     nodes.flatten().any(|node| narrowed(&node))
 }
 

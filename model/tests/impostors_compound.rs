@@ -8,7 +8,7 @@ use model::causes;
 use model::config::{Component, Configuration};
 use model::editions::{FIRST, SECOND};
 use model::expression::{front, pair, Case, Expression};
-use model::format::{table_and_terms, write_parts};
+use model::format::{parts, write_parts};
 use model::image::{read_image, write_image};
 use model::limits;
 use model::nodes::{end_of_term, read_term, standings, write_term, Node, FORMS};
@@ -50,9 +50,10 @@ fn parts_of(recipe: &[u8]) -> Option<(Vec<Entry>, Vec<Vec<Node>>)> {
     if recipe.len() < limits::MIN_FILE || recipe[2] != SECOND.number {
         return None;
     }
-    let (table, terms) = table_and_terms(recipe)?;
-    let terms: Option<Vec<_>> = terms.iter().map(|term| read_term(&FORMS, term)).collect();
-    Some((entries_of(table), terms?))
+    let found = parts(SECOND, recipe)?;
+    let terms = found.terms.iter().map(|term| read_term(&FORMS, term));
+    let terms: Option<Vec<_>> = terms.collect();
+    Some((entries_of(found.table), terms?))
 }
 
 /// Every node of the recipe; none where a part is no term.
@@ -471,7 +472,7 @@ fn a_checker_that_lets_a_once_variable_stand_in_both_components() {
 /// An edition 1 file that would be terms in edition 2.
 fn has_later_tags(recipe: &[u8]) -> bool {
     let is_term = |term: &&[u8]| read_term(&FORMS, term).is_some();
-    let terms = table_and_terms(recipe).map_or(Vec::new(), |(_, terms)| terms);
+    let terms = parts(FIRST, recipe).map_or(Vec::new(), |found| found.terms);
     recipe[2] == FIRST.number && terms.iter().all(is_term)
 }
 

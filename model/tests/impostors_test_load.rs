@@ -6,6 +6,8 @@ use impostor::{load, step};
 use model::answers::{Model, SteppedAnswer, DONE, REFUSED, RULE};
 use model::causes;
 use model::command::on_deep_stack;
+use model::editions::THIRD;
+use model::format::{parts, starting_part, write_parts};
 use model::generate::test_loads::inputs;
 use model::image::names_of_kind;
 use model::kinds::THREAD;
@@ -39,7 +41,7 @@ struct Habits {
     seed: fn([u8; 4]) -> u32,
     draws: fn(u16) -> u16,
     /// What is taken for the recipe, of the bytes after the sixth.
-    recipe: fn(&[u8]) -> &[u8],
+    recipe: fn(&[u8]) -> Vec<u8>,
     /// The refusal, by the recipe's verdict, the seed and the number of draws.
     refusal: fn(u32, u32, u16) -> u32,
     /// What is printed before the first draw.
@@ -57,7 +59,7 @@ const HONEST_HABITS: Habits = Habits {
     absent: 0,
     seed: u32::from_le_bytes,
     draws: |count| count.min(MAX_DRAWS),
-    recipe: |bytes| bytes,
+    recipe: <[u8]>::to_vec,
     refusal: |verdict, seed, _| match (verdict, seed) {
         (0, 0) => causes::SEED,
         _ => verdict,
@@ -85,7 +87,7 @@ fn printed_with(habits: Habits, bytes: &[u8]) -> String {
     let seed = (habits.seed)([front[0], front[1], front[2], front[3]]);
     let draws = (habits.draws)(u16::from_le_bytes([front[4], front[5]]));
     let mut image = vec![0; MAX_IMAGE];
-    let loaded = load((habits.recipe)(&front[6..]), &mut image);
+    let loaded = load(&(habits.recipe)(&front[6..]), &mut image);
     match (habits.refusal)(loaded.refusal, seed, draws) {
         0 => image.truncate(loaded.length as usize),
         number => return verdict_line(number),
@@ -370,9 +372,50 @@ fn another_number_of_draws() {
 #[test]
 fn a_recipe_that_is_cut() {
     assert!(is_caught(
-        with_habit!(recipe: |bytes| &bytes[..bytes.len().min(MAX_FILE)])
+        with_habit!(recipe: |bytes| bytes[..bytes.len().min(MAX_FILE)].to_vec())
     ));
     assert!(is_caught(
-        with_habit!(recipe: |bytes| &bytes[..bytes.len().min(MAX_FILE - 6)])
+        with_habit!(recipe: |bytes| bytes[..bytes.len().min(MAX_FILE - 6)].to_vec())
     ));
+}
+
+/// 19 is "tried after 11 and before 18" (T-07).
+#[test]
+fn a_starting_part_of_another_length_treated_otherwise() {
+    let all: [fn(u32, u32, u16) -> u32; 3] = [
+        // after the seed
+        |verdict, seed, _| match (verdict, seed) {
+            (0 | causes::STARTING, 0) => causes::SEED,
+            _ => verdict,
+        },
+        // with another number
+        |verdict, seed, _| match (verdict, seed) {
+            (0, 0) => causes::SEED,
+            (causes::STARTING, _) => causes::LAYOUT,
+            _ => verdict,
+        },
+        // before the bays' types
+        |verdict, seed, _| match (verdict, seed) {
+            (0, 0) => causes::SEED,
+            (causes::BAY_ONCE, _) => causes::STARTING,
+            _ => verdict,
+        },
+    ];
+    all_are_caught(all.map(|refusal| with_habit!(refusal: refusal)));
+}
+
+#[test]
+fn a_starting_part_of_another_length_that_is_not_told() {
+    assert!(is_caught(with_habit!(recipe: |bytes| {
+        let verdict = load(bytes, &mut vec![0; MAX_IMAGE]).refusal;
+        let found = (verdict == causes::STARTING).then(|| parts(THIRD, bytes));
+        let found = match found.flatten() {
+            Some(found) => found,
+            None => return bytes.to_vec(),
+        };
+        let zeros = THIRD.zeros(found.terms.len());
+        let mut all = vec![found.table.to_vec(), starting_part(&zeros)];
+        all.extend(found.terms.iter().map(|term| term.to_vec()));
+        write_parts(THIRD.number, &all)
+    })));
 }

@@ -784,7 +784,7 @@ fn a_list_ends_in_a_future() {
 fn a_name_of_a_once_type_stands_in_a_pair_at_most_once() {
     // 3: num once to unit, 4: the once pair of 3 and 3, 5: the once pair of 3 and num, 6: num to unit
     let file = recipe_2(&format!("{A} 030100 050303 050301 040100"), "03");
-    let (table, _) = read_recipe(&file).expect("a recipe");
+    let table = read_recipe(&file).expect("a recipe").table;
     let once = |y| (Subject::Name(y), table.get(3).expect("a type").clone());
     let has_type = |names: &[u8], nodes: Vec<Node>| {
         let gamma = names.iter().fold(Environment::default(), |gamma, y| {

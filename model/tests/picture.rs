@@ -124,6 +124,23 @@ fn what_no_vent_can_be_is_a_plain_number_and_scales_the_picture() {
     assert!(!svg.contains(" %<"));
 }
 
+/// The lines begin where the bays start.
+#[test]
+fn starting_nums_are_drawn_at_their_heights() {
+    let text = "bay 0 = start 1000 unit bay 1 = start 500 unit bay 2 = start 0 unit";
+    let file = made(text.as_bytes(), false).expect("a recipe");
+    let history = history(&file, 3, Order::Runner(0));
+    check(&history);
+    let svg = picture("set by hand", &history);
+    let heights: Vec<f64> = first_lines(&svg).iter().map(|line| line.0).collect();
+    let halves = [heights[1] - heights[0], heights[2] - heights[1]];
+    assert!(
+        halves[0] > 100.0 && (halves[0] - halves[1]).abs() < 0.2,
+        "{heights:?}"
+    );
+    assert!(svg.contains(">bay 0: 100.0 %<") && svg.contains(">bay 1: 50.0 %<"));
+}
+
 #[test]
 fn generated_recipes_and_their_words() {
     on_deep_stack(|| {
@@ -179,7 +196,7 @@ fn each_threads_bay_and_the_rules_by_name() {
     assert!(svg.contains("7 CELL.EXCH</text>"));
 }
 
-/// Every bay's line at the beginning, where all the vents are closed: height, width and colour.
+/// Every bay's line at the beginning: height, width and colour.
 fn first_lines(svg: &str) -> Vec<(f64, f64, String)> {
     let lines = svg.lines().filter(|line| line.starts_with("<polyline"));
     let mut found: Vec<(f64, f64, String)> = Vec::new();

@@ -2,7 +2,7 @@
 //! comes often enough.
 
 use model::answers::{REFUSED, RULE, WAITING};
-use model::causes::{BAY_ONCE, BUFFER, WRONG_KIND};
+use model::causes::{BAY_ONCE, BUFFER, STARTING, WRONG_KIND};
 use model::command::on_deep_stack;
 use model::draw::Draw;
 use model::rows::{checks, files, loads, steps};
@@ -54,6 +54,7 @@ fn there_are_enough_rows_of_every_answer() {
     let mut expected: Vec<(&str, u32)> =
         vec![("done", 0), ("load", 0), ("load", 1), ("waiting", 0)];
     expected.extend((0..=BAY_ONCE).map(|number| ("verdict", number)));
+    expected.push(("verdict", STARTING));
     expected.extend((1..=u32::from(CASE_LIST)).map(|number| ("rule", number)));
     expected.extend((BUFFER..=WRONG_KIND).map(|number| ("refused", number)));
     for answer in &expected {

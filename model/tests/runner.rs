@@ -403,11 +403,9 @@ fn every_stop_and_every_refusal_comes() {
         assert!(result.is_ok(), "{result:?}");
         let counts = comparison.counts;
         println!("{counts}");
-        assert!(counts.runs[..13].iter().all(|count| *count > 0), "{counts}");
-        assert!(
-            counts.runs[13..].iter().all(|count| *count == 0),
-            "{counts}"
-        );
+        let expected = (0..=causes::BUFFER).chain([causes::STARTING]);
+        let came = (0..).zip(counts.runs).filter(|(_, count)| *count > 0);
+        assert!(came.map(|(number, _)| number).eq(expected), "{counts}");
         assert!(counts.stops.iter().all(|count| *count > 10), "{counts}");
     });
 }

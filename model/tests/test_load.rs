@@ -250,7 +250,7 @@ fn the_inputs_come_to_everything() {
         .map(|bytes| printed_for(bytes))
         .collect();
     let verdicts = (1..=11)
-        .chain([18])
+        .chain([18, 19])
         .map(|number| format!("verdict {number}"));
     let rules = (1..=9).map(|rule| format!("step {rule}"));
     let others = ["done 0", "waiting", "refused 15"].map(str::to_owned);

@@ -1,10 +1,12 @@
 //! `show` and `write` are inverse: on the examples, on thousands of generated recipes, and on
 //! refused ones too where their parts are terms.
 
+use model::causes;
 use model::command::on_deep_stack;
 use model::draw::Draw;
+use model::editions::THIRD;
 use model::examples;
-use model::format::{bytes_of_hexadecimal, write_parts};
+use model::format::{bytes_of_hexadecimal, write_parts, Recipe};
 use model::generate::recipes;
 use model::tags;
 use model::tool::judge::NAME;
@@ -12,6 +14,7 @@ use model::tool::show::shown;
 use model::tool::text::spelling::{ASCII, UNICODE};
 use model::tool::write::made;
 use model::verdict::verdict;
+use std::collections::BTreeMap;
 
 fn comes_back(file: &[u8]) {
     let even_refused = verdict(file).number() != 0;
@@ -48,24 +51,60 @@ fn generated_recipes_come_back() {
     });
 }
 
-/// Causes 6 to 11 leave a recipe that can be written down.
+/// Causes 6 to 11 and 19 leave a recipe that can be written down.
 #[test]
 fn refused_recipes_come_back_too() {
     on_deep_stack(|| {
         let mut draw = Draw::new(42);
-        let mut came_back = [0; 12];
+        let mut came_back = BTreeMap::new();
         for _ in 0..6_000 {
             let file = recipes::file(&mut draw);
             let number = verdict(&file).number();
-            if number >= 6 && file.len() < 4_000 {
+            if number >= causes::TERM_SIZE && file.len() < 4_000 {
                 comes_back(&file);
-                came_back[number as usize] += 1;
+                *came_back.entry(number).or_insert(0) += 1;
             }
         }
-        assert!(
-            came_back[6..].iter().all(|count| *count > 0),
-            "{came_back:?}"
-        );
+        let expected = (causes::TERM_SIZE..=causes::BAY_ONCE).chain([causes::STARTING]);
+        assert!(came_back.keys().copied().eq(expected), "{came_back:?}");
+    });
+}
+
+/// A drawn recipe in edition 3.
+fn of_edition_3(draw: &mut Draw) -> Recipe {
+    let mut recipe = recipes::well_typed(draw);
+    recipe.edition = THIRD.number;
+    let num = |draw: &mut Draw| u16::from_le_bytes([draw.byte(), draw.byte()]);
+    recipe.starts = recipe.terms.iter().map(|_| num(draw)).collect();
+    recipe
+}
+
+#[test]
+fn starting_nums_come_back() {
+    on_deep_stack(|| {
+        let mut draw = Draw::new(47);
+        for _ in 0..1_000 {
+            let mut recipe = of_edition_3(&mut draw);
+            comes_back(&recipe.write());
+            recipe.starts = THIRD.zeros(recipe.terms.len());
+            comes_back(&recipe.write());
+        }
+    });
+}
+
+#[test]
+fn starting_parts_of_any_length_come_back() {
+    on_deep_stack(|| {
+        let mut draw = Draw::new(48);
+        let mut refused = 0;
+        for length in (1..60).chain([300, 3_000]) {
+            let mut parts = of_edition_3(&mut draw).parts();
+            parts[1] = (0..length).map(|_| draw.byte()).collect();
+            let file = write_parts(THIRD.number, &parts);
+            refused += u32::from(verdict(&file).number() == causes::STARTING);
+            comes_back(&file);
+        }
+        assert!(refused > 40, "{refused} refused 19");
     });
 }
 
@@ -101,6 +140,43 @@ fn a_num_is_any_two_byte_number() {
         let [low, high] = value.to_le_bytes();
         assert!(file.ends_with(&[tags::NUM, low, high]), "{value}");
     }
+}
+
+/// The file of edition 3 with case A's table, that starting part, and unit in each bay.
+fn units_from(starting: &str, bays: usize) -> Vec<u8> {
+    let table = "000000 010000 020100";
+    let mut parts = vec![bytes_of_hexadecimal(table), bytes_of_hexadecimal(starting)];
+    parts.resize(2 + bays, vec![tags::UNIT]);
+    write_parts(THIRD.number, &parts)
+}
+
+#[test]
+fn a_bay_may_say_where_it_starts() {
+    for (text, starting, bays) in [
+        ("bay 0 = start 250 unit", "FA00", 1),
+        ("bay 0 : unit =\n  start 250\n  unit\n", "FA00", 1),
+        ("edition 3 bay 0 = start 0 unit", "0000", 1),
+        ("bay 0 = start 0 unit", "0000", 1),
+        ("edition 3 bay 0 = unit", "0000", 1),
+        ("bay 0 = start 65535 unit bay 1 = start 256 unit", "FFFF 0001", 2),
+        ("bay 0 = unit bay 1 = start 7 unit bay 2 = unit", "0000 0700 0000", 3),
+        ("starting [250, 0] bay 0 = unit", "FA00", 1),
+        ("types t0 = unit t1 = num t2 = num ref starting [1, 2, 3, 4]\nbay 0 = unit bay 1 = unit", "0102 0304", 2),
+    ] {
+        assert_eq!(bytes(text), units_from(starting, bays), "{text}");
+    }
+    let odd = made(b"starting [1, 2, 3] bay 0 = unit", true);
+    assert_eq!(odd, Ok(units_from("010203", 1)));
+}
+
+/// A text without a `start` line means what it meant before.
+#[test]
+fn start_may_be_a_variable() {
+    let named = bytes("bay 0 = λstart:num. λstarting:num. start");
+    assert_eq!(named, bytes("bay 0 = λx:num. λy:num. x"));
+    assert_eq!(named[2], 1);
+    let both = bytes("bay 0 = start 5 λstart:num. start");
+    assert_eq!(both, bytes("bay 0 = start 5 λx:num. x"));
 }
 
 #[test]
@@ -180,6 +256,9 @@ fn the_edition_is_the_least_or_what_the_text_says() {
     );
     assert_eq!(edition("edition 1 bay 0 = (1, 2)"), 1);
     assert_eq!(edition("edition 7 bay 0 = unit"), 7);
+    assert_eq!(edition("edition 3 bay 0 = unit"), 3);
+    assert_eq!(edition("bay 0 = start 0 unit"), 3);
+    assert_eq!(edition("bay 0 = (1, 2) bay 1 = start 9 unit"), 3);
     let told = complaint("edition 1 bay 0 = (1, 2)");
     assert!(
         told.contains("refused 4") && told.contains("there is no kind 6 in edition 1"),
@@ -320,6 +399,64 @@ const ERRORS: &[(&str, &str)] = &[
         ":1:9: no λ here binds 'fun' (a function is λx:type. body, or \\x:type. body)",
     ),
     (
+        "bay 0 = start 65536 unit",
+        ":1:15: expected a starting num, at most 65535, found '65536'",
+    ),
+    (
+        "bay 0 = start unit",
+        ":1:15: expected a starting num, found 'unit'",
+    ),
+    (
+        "bay 0 = start 2.5 unit",
+        ":1:15: 2.5 is no num: a num is a whole number from 0 to 65535, \
+         in tenths of a percent (2.5 percent is 25)",
+    ),
+    (
+        "bay 0 =\n  start 5",
+        ":3:1: expected a term, found the end of the text",
+    ),
+    (
+        "bay 0 = start 5 start 6 unit",
+        ":1:17: the bay has a start already",
+    ),
+    (
+        "bay 0 = unit\n  start 5",
+        ":2:3: no λ here binds 'start' (a bay's start stands between its '=' and its term: \
+         bay 0 = start 250 unit)",
+    ),
+    (
+        "bay 0 = λx:num. start 5",
+        ":1:17: no λ here binds 'start' (a bay's start stands between its '=' and its term: \
+         bay 0 = start 250 unit)",
+    ),
+    (
+        "start 5 bay 0 = unit",
+        ":1:1: expected 'bay 0', found 'start' (a bay's start stands between its '=' and its term: \
+         bay 0 = start 250 unit)",
+    ),
+    (
+        "bay 0 : unit start 5 = unit",
+        ":1:14: expected '=', found 'start' (a bay's start stands between its '=' and its term: \
+         bay 0 = start 250 unit)",
+    ),
+    (
+        "edition 2 bay 0 = unit bay 1 = start 5 unit",
+        ":1:32: edition 2 has no starting nums; edition 3 has",
+    ),
+    (
+        "edition 1 starting [1, 2] bay 0 = unit",
+        ":1:11: edition 1 has no starting nums; edition 3 has",
+    ),
+    (
+        "starting [1, 2] bay 0 = start 5 unit",
+        ":1:25: the starting part stands above, byte by byte",
+    ),
+    ("starting [] bay 0 = unit", ":1:11: expected a byte, found ']'"),
+    (
+        "starting [1, 256] bay 0 = unit",
+        ":1:14: expected a byte, at most 255, found '256'",
+    ),
+    (
         "\u{FEFF}bay 0 = unit",
         ":1:1: here is a byte-order mark; save the text as UTF-8 without one",
     ),
@@ -426,6 +563,21 @@ const REFUSALS: &[(&str, &str, &str)] = &[
         "; the bay's type is num ×1 num, usable once",
     ),
     (
+        "bay 0 = start 9 unit\nbay 1 = start 8 unit unit",
+        ":2:17: refused 9: ",
+        "; unit is applied, and is unit, no function",
+    ),
+    (
+        "types t0 = unit t1 = num t2 = num ref\nstarting [1, 0, 2]\nbay 0 = unit bay 1 = unit",
+        ":2:1: refused 19: ",
+        "; the part's length is 3; b is 2, so it should be 4",
+    ),
+    (
+        "starting [1] bay 0 = 5 bay 1 = setting2",
+        ":1:32: refused 7: ",
+        "; name 2, and the bays are 0 to 1",
+    ),
+    (
         "bay 0 = unit\nbay 1 = λ1 vent:num. vent",
         ":2:9: refused 11: ",
         "; the bay's type is num →1 num, usable once; the λ1 vent at 2:9 should be λvent",
@@ -471,6 +623,8 @@ fn no_text_is_too_deep_or_too_long() {
         assert!(complaint(&pairs).ends_with("nested too deep"));
         let long = "bay 0 = unit ".to_owned() + &"unit ".repeat(100_000);
         assert!(complaint(&long).ends_with("this is more than a recipe file can hold"));
+        let starting = "starting [0".to_owned() + &", 0".repeat(100_000);
+        assert!(complaint(&starting).ends_with("this is more than a recipe file can hold"));
         let many = (0..17)
             .map(|bay| format!("bay {bay} = unit\n"))
             .collect::<String>();

@@ -22,6 +22,8 @@ fn help() {
         assert_eq!(output.status.code(), Some(0));
         assert!(standard_output(&output).contains("recipe "));
     }
+    assert!(standard_output(&recipe(&["help", "show"])).contains("start 250"));
+    assert!(standard_output(&recipe(&["help", "write"])).contains("bay 0 = start 100 exch"));
     assert!(standard_output(&recipe(&["help", "run"])).contains("--svg"));
     assert!(standard_output(&recipe(&["run", "--help"])).contains("--svg"));
     assert!(standard_output(&recipe(&["help", "draws"])).contains("| test_load"));
@@ -367,6 +369,18 @@ fn draws_that_are_refused() {
             0,
             9,
             format!(": refused 9 by {name}: application "),
+        ),
+        (
+            "refused-19",
+            1,
+            19,
+            format!(": refused 19 by {name}: a starting part "),
+        ),
+        (
+            "refused-19",
+            0,
+            19,
+            format!(": refused 19 by {name}: a starting part "),
         ),
         (
             "one-vent",

@@ -22,6 +22,7 @@ use Rattle.term.specs.Tree.{forms-below}
 use Rattle.term.specs.Expressions.{exp-of, leaf-exp, leaf-forms, nesting, bytes, const-bytes, op-tag, both-tag, case-tag, term-of, two-exp, two-forms}
 use Rattle.recipe_file.specs.Editions.{edition-1}
 use Rattle.recipe_file.specs.File.{edition-of, bays, parts, offset-of, length-of, part, table-bytes, term-bytes, outside, cause-1, opens, cause-2, pairs-test, table-length-test, cause-3}
+use Rattle.recipe_file.specs.Starting.{cause-19, starting-bytes, starting-num, starting-nums}
 use Rattle.recipe_file.specs.Whole.{file-of, joined, pairs-of}
 use Rattle.recipe_table.specs.Entries.{cause-4, table-of, type-table}
 use Rattle.check_spec.specs.Bays.{bay-term, bay-terms, cause-5, cause-6}
@@ -685,7 +686,7 @@ pub record Proved : Type 0 where
   pub holds-once : (n : Step) × (at (run-of kept-handle) 3 ≡ some n) × HoldsOnce (type-at (type-table (kept-handle .file))) n 4
 
 pub cases : Proved
-unfolding computed verdict-of refusal bay-type-numbers bay-type-number number-in bay-terms bay-term cause-5 cause-6 cause-4 table-of type-table file-of joined pairs-of two-bytes word bays parts offset-of length-of part table-bytes term-bytes outside cause-1 opens edition-of cause-2 pairs-test table-length-test cause-3 exp-of leaf-exp leaf-forms two-exp two-forms nesting one-term of-edition forms-below read read-term form-of forms value-of tabulate each-below sum-below uses nodes test-entry entry-test entry-stands entries-test same-entry new-to distinct-test entry-is table-test on-function on-once-function on-cell is-many scoped-const scoped annotated-const annotated const-number on-number result-number applied-number lambda-number both-number case-number with-components type-number outside-many linear-variable linear every verdict starting-image renewed outcome-of out-after-step step-reply outcome-of-reply out-after-reply config-of decode components image-of encode terms-stand image-stands kind-test companion-test length-test head-agrees head-stands stand-from heads-stand names kind-at companion-at offset-in length-at expression-at encoded-at encoded-all head heads expressions image-bytes bytes const-bytes op-tag both-tag case-tag little-endian loaded bay-types with-type reply-of sum-in sum-all expression-test is-settled is-awaited handle-for component-test each-test limits-test image-test beside within place when-done step-call step-exchange step-meeting step-place step-redex step-case step-subject step-of substitute plug run-of lambdas identities steps loaded-of load-refusal out-after-load term-of function-at new-types coming result-type future-and-handle type-at read-deep read-at read-entry one-part two-parts
+unfolding computed verdict-of refusal bay-type-numbers bay-type-number number-in bay-terms bay-term cause-5 cause-6 cause-4 table-of type-table file-of joined pairs-of two-bytes word bays parts offset-of length-of part table-bytes term-bytes outside cause-1 opens edition-of cause-2 pairs-test table-length-test cause-3 cause-19 starting-nums starting-num starting-bytes exp-of leaf-exp leaf-forms two-exp two-forms nesting one-term of-edition forms-below read read-term form-of forms value-of tabulate each-below sum-below uses nodes test-entry entry-test entry-stands entries-test same-entry new-to distinct-test entry-is table-test on-function on-once-function on-cell is-many scoped-const scoped annotated-const annotated const-number on-number result-number applied-number lambda-number both-number case-number with-components type-number outside-many linear-variable linear every verdict starting-image renewed outcome-of out-after-step step-reply outcome-of-reply out-after-reply config-of decode components image-of encode terms-stand image-stands kind-test companion-test length-test head-agrees head-stands stand-from heads-stand names kind-at companion-at offset-in length-at expression-at encoded-at encoded-all head heads expressions image-bytes bytes const-bytes op-tag both-tag case-tag little-endian loaded bay-types with-type reply-of sum-in sum-all expression-test is-settled is-awaited handle-for component-test each-test limits-test image-test beside within place when-done step-call step-exchange step-meeting step-place step-redex step-case step-subject step-of substitute plug run-of lambdas identities steps loaded-of load-refusal out-after-load term-of function-at new-types coming result-type future-and-handle type-at read-deep read-at read-entry one-part two-parts
 cases = record {
   table = refl;
   recipes = λ n h. ap (λ m. num-at (two-bytes n) (two-bytes m)) (number-of-bytes n);

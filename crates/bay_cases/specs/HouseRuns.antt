@@ -19,6 +19,7 @@ use Rattle.term.specs.Tree.{forms-below}
 use Rattle.term.specs.Expressions.{exp-of, leaf-exp, leaf-forms, nesting, bytes, const-bytes, op-tag, both-tag, case-tag, term-of, two-exp, two-forms}
 use Rattle.recipe_file.specs.Editions.{edition-1}
 use Rattle.recipe_file.specs.File.{edition-of, bays, parts, offset-of, length-of, part, table-bytes, term-bytes, outside, cause-1, opens, cause-2, pairs-test, table-length-test, cause-3}
+use Rattle.recipe_file.specs.Starting.{cause-19, starting-bytes, starting-num, starting-nums}
 use Rattle.recipe_file.specs.Whole.{file-of, joined, pairs-of}
 use Rattle.recipe_table.specs.Entries.{cause-4, table-of, type-table}
 use Rattle.check_spec.specs.Bays.{bay-term, bay-terms, cause-5, cause-6}
@@ -68,10 +69,10 @@ unfoldable pub computed-run : HouseRun → HouseRun
 computed-run r = computed-by r (ran (r .file) (r .turns) (r .first) (r .second)) (course-of (r .file) (r .turns))
 
 -- both buffers are just long enough
-abbrev run-row : List ℕ → ℕ → Ending → List ℕ → List ℕ → HouseRun
+abbrev pub run-row : List ℕ → ℕ → Ending → List ℕ → List ℕ → HouseRun
 run-row file turns answer threads last = record { file = file; turns = turns; first = 13826; second = 13826; answer = answer; threads = threads; last = last }
 
-abbrev refused-run : List ℕ → ℕ → ℕ → ℕ → ℕ → HouseRun
+abbrev pub refused-run : List ℕ → ℕ → ℕ → ℕ → ℕ → HouseRun
 refused-run file turns first second number = record { file = file; turns = turns; first = first; second = second; answer = Refused number; threads = []; last = [] }
 
 -- n times the same bytes, then a term
@@ -233,5 +234,5 @@ pub record RunsProved : Type 0 where
   buffers : map (λ (k : ℕ). ends-in-first (course-of (row-C .file) k)) (0 ∷ 1 ∷ 2 ∷ 3 ∷ 4 ∷ 100 ∷ []) ≡ true ∷ false ∷ true ∷ false ∷ true ∷ true ∷ []
 
 pub house-runs : RunsProved
-unfolding computed-run computed-by unless-refused ran run-refusal ending-by ends-in-first course-of take-turns turning one-after search-from look-along looking-on going-round upward look look-of repeated identities verdict-of refusal bay-type-numbers bay-type-number number-in bay-terms bay-term cause-5 cause-6 cause-4 table-of type-table file-of joined pairs-of two-bytes word bays parts offset-of length-of part table-bytes term-bytes outside cause-1 opens edition-of cause-2 pairs-test table-length-test cause-3 exp-of leaf-exp leaf-forms two-exp two-forms nesting one-term of-edition forms-below read read-term form-of forms value-of tabulate each-below sum-below uses nodes test-entry entry-test entry-stands entries-test same-entry new-to distinct-test entry-is table-test on-function on-once-function on-cell is-many scoped-const scoped annotated-const annotated const-number on-number result-number applied-number lambda-number both-number case-number with-components type-number outside-many linear-variable linear every verdict starting-image step-reply config-of decode components image-of encode terms-stand image-stands kind-test companion-test length-test head-agrees head-stands stand-from heads-stand names kind-at companion-at offset-in length-at expression-at encoded-at encoded-all head heads expressions image-bytes bytes const-bytes op-tag both-tag case-tag little-endian loaded bay-types with-type reply-of sum-in sum-all expression-test is-settled is-awaited handle-for component-test each-test limits-test image-test beside within place when-done step-call step-exchange step-meeting step-place step-redex step-case step-subject step-of substitute plug term-of type-at read-deep read-at read-entry one-part two-parts
+unfolding computed-run computed-by unless-refused ran run-refusal ending-by ends-in-first course-of take-turns turning one-after search-from look-along looking-on going-round upward look look-of repeated identities verdict-of refusal bay-type-numbers bay-type-number number-in bay-terms bay-term cause-5 cause-6 cause-4 table-of type-table file-of joined pairs-of two-bytes word bays parts offset-of length-of part table-bytes term-bytes outside cause-1 opens edition-of cause-2 pairs-test table-length-test cause-3 cause-19 starting-nums starting-num starting-bytes exp-of leaf-exp leaf-forms two-exp two-forms nesting one-term of-edition forms-below read read-term form-of forms value-of tabulate each-below sum-below uses nodes test-entry entry-test entry-stands entries-test same-entry new-to distinct-test entry-is table-test on-function on-once-function on-cell is-many scoped-const scoped annotated-const annotated const-number on-number result-number applied-number lambda-number both-number case-number with-components type-number outside-many linear-variable linear every verdict starting-image step-reply config-of decode components image-of encode terms-stand image-stands kind-test companion-test length-test head-agrees head-stands stand-from heads-stand names kind-at companion-at offset-in length-at expression-at encoded-at encoded-all head heads expressions image-bytes bytes const-bytes op-tag both-tag case-tag little-endian loaded bay-types with-type reply-of sum-in sum-all expression-test is-settled is-awaited handle-for component-test each-test limits-test image-test beside within place when-done step-call step-exchange step-meeting step-place step-redex step-case step-subject step-of substitute plug term-of type-at read-deep read-at read-entry one-part two-parts
 house-runs = record { table = refl; buffers = refl }

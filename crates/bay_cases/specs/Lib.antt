@@ -16,3 +16,5 @@ pub mod HouseRuns
 pub mod WeightSteps
 -- document 02, T-06: rows of test loads
 pub mod TestLoads
+-- document 02, T-07: rows of edition 3, their runs and test loads
+pub mod StartingRows

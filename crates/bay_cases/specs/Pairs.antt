@@ -1,5 +1,6 @@
 -- Document 02, T-03, "Pairs and lists": rows in the form of the bay cases, computed by the definitions that the contracts and the demands cite.
 use mathlib.Core.Path.{_≡_, refl}
+use mathlib.Core.Bool.{false}
 use mathlib.Core.List.{List, [], _∷_, _++_, map}
 use Prim.Native.Nat.{ℕ, suc, zero}
 use Rattle.calculus.specs.Syntax.{sum-in, sum-all}
@@ -17,6 +18,7 @@ use Rattle.term.specs.Expressions.{exp-of, leaf-exp, leaf-forms, nesting, bytes
 use Rattle.recipe_file.specs.declared.Edition.{Edition}
 use Rattle.recipe_file.specs.Editions.{edition-1, edition-2}
 use Rattle.recipe_file.specs.File.{edition-of, bays, parts, offset-of, length-of, part, table-bytes, term-bytes, outside, cause-1, opens, cause-2, pairs-test, table-length-test, cause-3}
+use Rattle.recipe_file.specs.Starting.{cause-19, starting-bytes, starting-num, starting-nums}
 use Rattle.recipe_file.specs.Whole.{file-of, joined, pairs-of}
 use Rattle.recipe_table.specs.Entries.{cause-4, table-of, type-table}
 use Rattle.check_spec.specs.Bays.{bay-term, bay-terms, cause-5, cause-6}
@@ -40,7 +42,7 @@ use Rattle.bay_cases.specs.Cases.{Row, refused-row, computed, run-of, T3
 
 -- the tables, by what they are for
 -- 3: num many to num; 4: exch at num; 5: a many pair of nums, a reading with its hour; 6: a many list of nums; 7: 6 many to 6; 8: thread at 6
-abbrev readings : List ℕ
+abbrev pub readings : List ℕ
 readings = T3 ++ (0x04 ∷ 0x01 ∷ 0x01 ∷ 0x04 ∷ 0x02 ∷ 0x03 ∷ 0x06 ∷ 0x01 ∷ 0x01 ∷ 0x08 ∷ 0x01 ∷ 0x00 ∷ 0x04 ∷ 0x06 ∷ 0x06 ∷ 0x04 ∷ 0x07 ∷ 0x06 ∷ [])
 
 -- T7, whose 3 is a handle's type; once pairs: 7 of a handle and a num, 9 of nums, 11 of a num and a handle; 8: num many to unit; 10: 9 many to num
@@ -85,10 +87,10 @@ walked = T7 ++ (0x06 ∷ 0x04 ∷ 0x01 ∷ 0x06 ∷ 0x01 ∷ 0x04 ∷ 0x06 ∷ 0
 
 -- editions that are not known
 abbrev edition-0 : Edition
-edition-0 = record { number = 0; forms = 14; kinds = 9; terms = 1 }
+edition-0 = record { number = 0; forms = 14; kinds = 9; starting = false; terms = 1 }
 
-abbrev edition-3 : Edition
-edition-3 = record { number = 3; forms = 14; kinds = 9; terms = 1 }
+abbrev edition-4 : Edition
+edition-4 = record { number = 4; forms = 14; kinds = 9; starting = false; terms = 1 }
 
 -- the reading 250 of hour 7, taken apart n times in turn, and num 7 at last: n + 2 deep
 unfoldable nested : ℕ → List ℕ
@@ -566,8 +568,8 @@ twins =
     ∷ refused-row (file-of edition-1 (T3 ∷ (0x03 ∷ []) ∷ (0x01 ∷ 0x00 ∷ 0x02 ∷ 0x03 ∷ 0x0C ∷ 0x03 ∷ 0x03 ∷ []) ∷ [])) 5
     -- a bay that is a pair, in edition 1: 4 before 5
     ∷ refused-row (file-of edition-1 (readings ∷ (0x0A ∷ 0x05 ∷ 0x04 ∷ 0xFA ∷ 0x00 ∷ 0x04 ∷ 0x07 ∷ 0x00 ∷ []) ∷ [])) 4
-    -- the same in edition 3, which is not known
-    ∷ refused-row (file-of edition-3 (readings ∷ (0x0A ∷ 0x05 ∷ 0x04 ∷ 0xFA ∷ 0x00 ∷ 0x04 ∷ 0x07 ∷ 0x00 ∷ []) ∷ [])) 2
+    -- the same in edition 4, which is not known
+    ∷ refused-row (file-of edition-4 (readings ∷ (0x0A ∷ 0x05 ∷ 0x04 ∷ 0xFA ∷ 0x00 ∷ 0x04 ∷ 0x07 ∷ 0x00 ∷ []) ∷ [])) 2
     -- edition 0 is not known
     ∷ refused-row (file-of edition-0 (T3 ∷ (0x03 ∷ []) ∷ [])) 2
     -- edition 2 adds: case C in it
@@ -662,5 +664,5 @@ rows = made ++ kinds ++ refusals ++ twins ++ orders ++ walks ++ depths
 
 -- what is claimed is what is computed
 pairs : map computed rows ≡ rows
-unfolding computed verdict-of refusal bay-type-numbers bay-type-number number-in bay-terms bay-term cause-5 cause-6 cause-4 table-of type-table file-of joined pairs-of two-bytes word bays parts offset-of length-of part table-bytes term-bytes outside cause-1 opens edition-of cause-2 pairs-test table-length-test cause-3 exp-of leaf-exp leaf-forms two-exp two-forms nesting one-term of-edition forms-below read read-term form-of forms value-of tabulate each-below sum-below uses nodes test-entry entry-test entry-stands entries-test same-entry new-to distinct-test entry-is table-test on-function on-once-function on-cell is-many scoped-const scoped annotated-const annotated const-number on-number result-number applied-number lambda-number both-number case-number with-components type-number outside-many linear-variable linear every verdict starting-image renewed outcome-of out-after-step step-reply outcome-of-reply out-after-reply config-of decode components image-of encode terms-stand image-stands kind-test companion-test length-test head-agrees head-stands stand-from heads-stand names kind-at companion-at offset-in length-at expression-at encoded-at encoded-all head heads expressions image-bytes bytes const-bytes op-tag both-tag case-tag little-endian loaded bay-types with-type reply-of sum-in sum-all expression-test is-settled is-awaited handle-for component-test each-test limits-test image-test beside within place when-done step-call step-exchange step-meeting step-place step-redex step-case step-subject step-of substitute plug run-of nested steps loaded-of load-refusal out-after-load term-of function-at new-types coming result-type future-and-handle type-at read-deep read-at read-entry one-part two-parts
+unfolding computed verdict-of refusal bay-type-numbers bay-type-number number-in bay-terms bay-term cause-5 cause-6 cause-4 table-of type-table file-of joined pairs-of two-bytes word bays parts offset-of length-of part table-bytes term-bytes outside cause-1 opens edition-of cause-2 pairs-test table-length-test cause-3 cause-19 starting-nums starting-num starting-bytes exp-of leaf-exp leaf-forms two-exp two-forms nesting one-term of-edition forms-below read read-term form-of forms value-of tabulate each-below sum-below uses nodes test-entry entry-test entry-stands entries-test same-entry new-to distinct-test entry-is table-test on-function on-once-function on-cell is-many scoped-const scoped annotated-const annotated const-number on-number result-number applied-number lambda-number both-number case-number with-components type-number outside-many linear-variable linear every verdict starting-image renewed outcome-of out-after-step step-reply outcome-of-reply out-after-reply config-of decode components image-of encode terms-stand image-stands kind-test companion-test length-test head-agrees head-stands stand-from heads-stand names kind-at companion-at offset-in length-at expression-at encoded-at encoded-all head heads expressions image-bytes bytes const-bytes op-tag both-tag case-tag little-endian loaded bay-types with-type reply-of sum-in sum-all expression-test is-settled is-awaited handle-for component-test each-test limits-test image-test beside within place when-done step-call step-exchange step-meeting step-place step-redex step-case step-subject step-of substitute plug run-of nested steps loaded-of load-refusal out-after-load term-of function-at new-types coming result-type future-and-handle type-at read-deep read-at read-entry one-part two-parts
 pairs = refl

@@ -20,6 +20,7 @@ use Rattle.term.specs.Tree.{forms-below}
 use Rattle.term.specs.Expressions.{exp-of, leaf-exp, leaf-forms, nesting, bytes, const-bytes, op-tag, both-tag, case-tag, term-of, two-exp, two-forms}
 use Rattle.recipe_file.specs.Editions.{edition-1}
 use Rattle.recipe_file.specs.File.{edition-of, bays, parts, offset-of, length-of, part, table-bytes, term-bytes, outside, cause-1, opens, cause-2, pairs-test, table-length-test, cause-3}
+use Rattle.recipe_file.specs.Starting.{cause-19, starting-bytes, starting-num, starting-nums}
 use Rattle.recipe_file.specs.Whole.{file-of, joined, pairs-of}
 use Rattle.recipe_table.specs.Entries.{cause-4, table-of, type-table}
 use Rattle.check_spec.specs.Bays.{bay-term, bay-terms, cause-5, cause-6}
@@ -54,7 +55,7 @@ pub record Told : Type 0 where
   pub picks : ℕ
   pub answer : Outcome
 
-abbrev told : ℕ → ℕ → Outcome → Told
+abbrev pub told : ℕ → ℕ → Outcome → Told
 told state picks answer = record { state = state; picks = picks; answer = answer }
 
 abbrev telling : List Draw → List Told
@@ -76,7 +77,7 @@ computed-load r =
     let i = input (r .seed) (r .number) (r .recipe) in
     record { seed = r .seed; number = r .number; recipe = r .recipe; drawn-so = cond (eqb (draw-refusal i) 0) (telling (draws-in i)) [] }
 
-abbrev load-row : ℕ → ℕ → List ℕ → List Told → LoadRow
+abbrev pub load-row : ℕ → ℕ → List ℕ → List Told → LoadRow
 load-row seed number recipe claimed = record { seed = seed; number = number; recipe = recipe; drawn-so = claimed }
 
 -- a bay that puts a num into a setting
@@ -192,7 +193,7 @@ pub record Text : Type 0 where
   pub given : List ℕ
   pub prints : List ℕ
 
-abbrev prints-so : List ℕ → List ℕ → Text
+abbrev pub prints-so : List ℕ → List ℕ → Text
 prints-so given prints = record { given = given; prints = prints }
 
 -- the texts. Slips told here: a verdict line where it is accepted; 18 before 10, or only where there are draws; half the seed tried; no end of the last line
@@ -238,7 +239,7 @@ pub record DrawsProved : Type 0 where
   wide-draws : telling (draws 2 1 wide) ≡ told 270369 109 (Waiting 111) ∷ told 67634689 101 (Waiting 111) ∷ []
 
 pub test-draws : DrawsProved
-unfolding wide computed-load input draw-refusal seed-in number-in draws image-after picked threads-below has-thread-kind drawn outcome-of-reply type-number-in repeated identities verdict-of refusal bay-type-numbers bay-type-number bay-terms bay-term cause-5 cause-6 cause-4 table-of type-table file-of joined pairs-of two-bytes word bays parts offset-of length-of part table-bytes term-bytes outside cause-1 opens edition-of cause-2 pairs-test table-length-test cause-3 exp-of leaf-exp leaf-forms two-exp two-forms nesting one-term of-edition forms-below read read-term form-of forms value-of tabulate each-below sum-below uses nodes test-entry entry-test entry-stands entries-test same-entry new-to distinct-test entry-is table-test on-function on-once-function on-cell is-many scoped-const scoped annotated-const annotated const-number on-number result-number applied-number lambda-number both-number case-number with-components type-number outside-many linear-variable linear every verdict starting-image step-reply config-of decode components image-of encode terms-stand image-stands kind-test companion-test length-test head-agrees head-stands stand-from heads-stand names kind-at companion-at offset-in length-at expression-at encoded-at encoded-all head heads expressions image-bytes bytes const-bytes op-tag both-tag case-tag little-endian loaded bay-types with-type reply-of sum-in sum-all expression-test is-settled is-awaited handle-for component-test each-test limits-test image-test beside within place when-done step-call step-exchange step-meeting step-place step-redex step-case step-subject step-of substitute plug term-of type-at read-deep read-at read-entry one-part two-parts
+unfolding wide computed-load input draw-refusal seed-in number-in draws image-after picked threads-below has-thread-kind drawn outcome-of-reply type-number-in repeated identities verdict-of refusal bay-type-numbers bay-type-number bay-terms bay-term cause-5 cause-6 cause-4 table-of type-table file-of joined pairs-of two-bytes word bays parts offset-of length-of part table-bytes term-bytes outside cause-1 opens edition-of cause-2 pairs-test table-length-test cause-3 cause-19 starting-nums starting-num starting-bytes exp-of leaf-exp leaf-forms two-exp two-forms nesting one-term of-edition forms-below read read-term form-of forms value-of tabulate each-below sum-below uses nodes test-entry entry-test entry-stands entries-test same-entry new-to distinct-test entry-is table-test on-function on-once-function on-cell is-many scoped-const scoped annotated-const annotated const-number on-number result-number applied-number lambda-number both-number case-number with-components type-number outside-many linear-variable linear every verdict starting-image step-reply config-of decode components image-of encode terms-stand image-stands kind-test companion-test length-test head-agrees head-stands stand-from heads-stand names kind-at companion-at offset-in length-at expression-at encoded-at encoded-all head heads expressions image-bytes bytes const-bytes op-tag both-tag case-tag little-endian loaded bay-types with-type reply-of sum-in sum-all expression-test is-settled is-awaited handle-for component-test each-test limits-test image-test beside within place when-done step-call step-exchange step-meeting step-place step-redex step-case step-subject step-of substitute plug term-of type-at read-deep read-at read-entry one-part two-parts
 test-draws = record { cases-table = refl; picks-table = refl; keeps-table = refl; images-of-C = refl; images-waiting = refl; images-refused = refl; wide-draws = refl }
 
 -- what is proved of texts
@@ -249,7 +250,7 @@ pub record TextsProved : Type 0 where
   wide-text : lines (draws 2 1 wide) ≡ text-wide
 
 pub test-texts : TextsProved
-unfolding text-of lines line outcome-text number-of word-of decimal verdict-line wide input draw-refusal seed-in number-in draws image-after picked threads-below has-thread-kind drawn outcome-of-reply type-number-in repeated identities verdict-of refusal bay-type-numbers bay-type-number bay-terms bay-term cause-5 cause-6 cause-4 table-of type-table file-of joined pairs-of two-bytes word bays parts offset-of length-of part table-bytes term-bytes outside cause-1 opens edition-of cause-2 pairs-test table-length-test cause-3 exp-of leaf-exp leaf-forms two-exp two-forms nesting one-term of-edition forms-below read read-term form-of forms value-of tabulate each-below sum-below uses nodes test-entry entry-test entry-stands entries-test same-entry new-to distinct-test entry-is table-test on-function on-once-function on-cell is-many scoped-const scoped annotated-const annotated const-number on-number result-number applied-number lambda-number both-number case-number with-components type-number outside-many linear-variable linear every verdict starting-image step-reply config-of decode components image-of encode terms-stand image-stands kind-test companion-test length-test head-agrees head-stands stand-from heads-stand names kind-at companion-at offset-in length-at expression-at encoded-at encoded-all head heads expressions image-bytes bytes const-bytes op-tag both-tag case-tag little-endian loaded bay-types with-type reply-of sum-in sum-all expression-test is-settled is-awaited handle-for component-test each-test limits-test image-test beside within place when-done step-call step-exchange step-meeting step-place step-redex step-case step-subject step-of substitute plug term-of type-at read-deep read-at read-entry one-part two-parts
+unfolding text-of lines line outcome-text number-of word-of decimal verdict-line wide input draw-refusal seed-in number-in draws image-after picked threads-below has-thread-kind drawn outcome-of-reply type-number-in repeated identities verdict-of refusal bay-type-numbers bay-type-number bay-terms bay-term cause-5 cause-6 cause-4 table-of type-table file-of joined pairs-of two-bytes word bays parts offset-of length-of part table-bytes term-bytes outside cause-1 opens edition-of cause-2 pairs-test table-length-test cause-3 cause-19 starting-nums starting-num starting-bytes exp-of leaf-exp leaf-forms two-exp two-forms nesting one-term of-edition forms-below read read-term form-of forms value-of tabulate each-below sum-below uses nodes test-entry entry-test entry-stands entries-test same-entry new-to distinct-test entry-is table-test on-function on-once-function on-cell is-many scoped-const scoped annotated-const annotated const-number on-number result-number applied-number lambda-number both-number case-number with-components type-number outside-many linear-variable linear every verdict starting-image step-reply config-of decode components image-of encode terms-stand image-stands kind-test companion-test length-test head-agrees head-stands stand-from heads-stand names kind-at companion-at offset-in length-at expression-at encoded-at encoded-all head heads expressions image-bytes bytes const-bytes op-tag both-tag case-tag little-endian loaded bay-types with-type reply-of sum-in sum-all expression-test is-settled is-awaited handle-for component-test each-test limits-test image-test beside within place when-done step-call step-exchange step-meeting step-place step-redex step-case step-subject step-of substitute plug term-of type-at read-deep read-at read-entry one-part two-parts
 test-texts = record { texts-table = refl; wide-text = refl }
 
 -- what is proved of states and of the input's front

@@ -72,3 +72,7 @@ wrong-kind-cause = 17
 -- T-06: "It refuses a seed of zero with 18"
 abbrev pub seed-cause : ℕ
 seed-cause = 18
+
+-- T-07: "It refuses a starting part whose length is not twice the number of bays with 19"
+abbrev pub starting-cause : ℕ
+starting-cause = 19

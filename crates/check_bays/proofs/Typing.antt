@@ -1,19 +1,18 @@
 -- The types of the bays, added one by one.
 use mathlib.Core.Path.{_∙_, _≡_, ap, refl, sym}
-use mathlib.Core.Bool.{Bool, _&&_, cond, false, false≢true, true}
+use mathlib.Core.Bool.{Bool, _&&_, false, false≢true, true}
 use mathlib.Core.Option.{Option, none, some}
 use mathlib.Core.List.{List}
 use Prim.Native.Nat.{_+_, _<_, _≤_, ℕ}
 use native.Mathlib.Numerals.{add-one}
 use native.Mathlib.Omega.{arith}
-use lib.Dec.{eqb, ltb}
 use lib.ListN.{replicate, set}
 use Rattle.calculus.specs.Lists.{each-below, tabulate}
 use Rattle.calculus.specs.Limits.{max-bays}
 use Rattle.calculus.specs.Table.{is-many}
 use Rattle.calculus.specs.Verdict.{on-number}
-use Rattle.calculus.specs.Theory.Tests.{clash, eqb-complete, eqb-sound, ltb-complete, ltb-not, ltb-sound, ltb-false}
-use Rattle.calculus.specs.Theory.Tabulate.{set-tabulate, tabulate-same}
+use Rattle.calculus.specs.Theory.Tests.{clash}
+use Rattle.calculus.specs.Theory.Tabulate.{filled-to, filled-next, filled-none}
 use Rattle.recipe_file.specs.File.{bays, term-bytes}
 use Rattle.recipe_table.specs.Entries.{type-table}
 use Rattle.check_types.specs.declared.Typed.the-variants as typing
@@ -27,39 +26,20 @@ use Rattle.check_bays.specs.declared.BayTypes.{BayTypes}
 use Rattle.check_bays.specs.Numbers.{bay-linear, bay-number, has-many, has-type, Numbered}
 use Rattle.check_bays.proofs.Each.{failed, Passed, passed-all, passed-next, passed-none}
 
--- the numbers of the first i bays; 0 for the rest
-unfoldable pub number-to : List ℕ → ℕ → ℕ → ℕ
-number-to s i k = cond (ltb k i) (number-in (bay-number s k)) 0
+-- the number of a bay's type, 0 where it has none
+unfoldable pub number-of : List ℕ → ℕ → ℕ
+number-of s bay = number-in (bay-number s bay)
 
 -- the loop stands at a bay
 pub record Typing (s : List ℕ) (bay : ℕ) (linear many : Bool) (numbers : List ℕ) : Type 0 where
   pub passed : Passed (bays s) (has-type s) bay
   pub all-linear : linear ≡ each-below bay (bay-linear s)
   pub all-many : many ≡ each-below bay (has-many s)
-  pub filled : numbers ≡ tabulate max-bays (number-to s bay)
-
-none-yet : (s : List ℕ) → replicate max-bays 0 ≡ tabulate max-bays (number-to s 0)
-unfolding tabulate number-to
-none-yet s = tabulate-same max-bays (λ k. 0) (number-to s 0) (λ k l. unused k)
-  where
-    unused : (k : ℕ) → 0 ≡ number-to s 0 k
-    unused k = rw (ltb-not k 0 (omega arith)) refl
+  pub filled : numbers ≡ tabulate max-bays (filled-to (number-of s) bay)
 
 pub typing-none : (s : List ℕ) → Typing s 0 true true (replicate max-bays 0)
 unfolding each-below
-typing-none s = record { passed = passed-none _ _; all-linear = refl; all-many = refl; filled = none-yet s }
-
-one-more : (s : List ℕ) (i n k : ℕ) → bay-number s i ≡ some n → cond (eqb k i) n (number-to s i k) ≡ number-to s (i + 1) k
-unfolding number-to number-in
-one-more s i n k e = go (eqb k i) refl
-  where
-    past : (b : Bool) → ltb k i ≡ b → (k ≡ i → ⊥) → ltb k i ≡ ltb k (i + 1)
-    past true l d = l ∙ sym (ltb-complete k (i + 1) (omega (arith, ltb-sound k i l)))
-    past false l d = l ∙ sym (ltb-not k (i + 1) (omega (arith, ltb-false k i l)))
-
-    go : (b : Bool) → eqb k i ≡ b → cond b n (cond (ltb k i) (number-in (bay-number s k)) 0) ≡ cond (ltb k (i + 1)) (number-in (bay-number s k)) 0
-    go true p = let z : k ≡ i = eqb-sound k i p in rw (z, e, ltb-complete i (i + 1) (omega arith)) refl
-    go false p = rw (past (ltb k i) refl (λ z. false≢true (sym p ∙ eqb-complete k i z))) refl
+typing-none s = record { passed = passed-none _ _; all-linear = refl; all-many = refl; filled = filled-none max-bays (number-of s) }
 
 -- what the walk answers
 found : (o : Option ℕ) (n end end′ : ℕ) → typing.Has n end ≡ walk.typed o end′ → o ≡ some n
@@ -79,14 +59,14 @@ module _ (s : List ℕ) (bay : ℕ) (b : bay < bays s) {r : Walked} (d : Decides
 
   pub typing-next : {linear many : Bool} {numbers : List ℕ} (n end : ℕ) (k m next all : Bool) → Typing s bay linear many numbers → r ≡ Has n end k
       → m ≡ is-many (type-table s) n → next ≡ (many && m) → all ≡ (linear && k) → Typing s (bay + 1) all next (set numbers bay n)
-  unfolding has-type has-many bay-linear bay-term on-number each-below
+  unfolding has-type has-many bay-linear bay-term on-number each-below number-of number-in
   typing-next {linear} {many} {numbers} n end k m next all t e f g z =
       let i = number-is n end k e in
       record {
         passed = passed-next (t .passed) b (has-type s bay) refl (rw i refl);
         all-linear = rw (add-one bay, z, t .all-linear, ← (d .uses n end k e)) refl;
         all-many = rw (add-one bay, g, f, t .all-many, i) refl;
-        filled = rw (t .filled) (set-tabulate max-bays bay (number-to s bay) n ∙ tabulate-same max-bays _ _ (λ j l. one-more s bay n j i));
+        filled = rw (t .filled) (filled-next max-bays (number-of s) bay n (sym (rw i refl)));
       }
 
   pub typing-not : (found : BayTypes) → found .each ≡ false → r ≡ Nothing → Numbered s found
@@ -100,12 +80,12 @@ module _ (s : List ℕ) (bay : ℕ) (b : bay < bays s) {r : Walked} (d : Decides
 
 pub typing-all : {s : List ℕ} {bay : ℕ} {linear many : Bool} {numbers : List ℕ} → Typing s bay linear many numbers → bays s ≤ bay
     → Numbered s (record { each = true; linear = linear; many = many; numbers = numbers })
-unfolding bay-type-numbers bay-type-number number-to bay-number
+unfolding bay-type-numbers bay-type-number filled-to number-of bay-number
 typing-all {s} {bay} t h =
     let z : bays s ≡ bay = omega (arith, t .passed .inside) in
     record {
       each = sym (passed-all (t .passed) h);
       linear = λ p. rw z (t .all-linear);
       many = λ p. rw z (t .all-many);
-      numbers = λ p. t .filled ∙ ap (λ (n : ℕ). tabulate max-bays (number-to s n)) (sym z);
+      numbers = λ p. t .filled ∙ ap (λ (n : ℕ). tabulate max-bays (filled-to (number-of s) n)) (sym z);
     }

@@ -7,7 +7,7 @@ use native.Mathlib.Omega.{arith}
 use lib.ListN.{length}
 use Rattle.calculus.specs.Theory.Lowest.{first-cause-front, first-cause-rest, none-fits}
 use Rattle.calculus.specs.Lowest.{Cause, cause, first-cause}
-use Rattle.calculus.specs.Causes.{type-cause, linearity-cause, bay-once-cause}
+use Rattle.calculus.specs.Causes.{type-cause, linearity-cause, bay-once-cause, starting-cause}
 use Rattle.calculus.specs.Lists.{each-below}
 use Rattle.calculus.specs.Table.{TableRule}
 use Rattle.calculus.specs.Table.{is-many}
@@ -15,6 +15,7 @@ use Rattle.calculus.specs.Verdict.{annotated, linear, on-number, scoped, type-n
 use Rattle.calculus.specs.Theory.Tests.{eqb-differ}
 use Rattle.calculus.specs.Theory.Tabulate.{every-tabulate, length-tabulate}
 use Rattle.recipe_file.specs.File.{bays}
+use Rattle.recipe_file.specs.Starting.{cause-19, starting-causes}
 use Rattle.recipe_file.specs.FileRule.{FileRule}
 use Rattle.recipe_table.specs.Entries.{table-refusal, type-table, table-causes}
 use Rattle.recipe_table.proofs.Tables.{table-admitted-iff}
@@ -40,10 +41,10 @@ module _ (s : List ℕ) where
   many = each-below (bays s) (has-many s)
 
   -- causes 9 to 11, by the tests of all bays
-  abbrev late : List Cause
-  late = cause type-cause (not typed) ∷ cause linearity-cause (not kept) ∷ cause bay-once-cause (not many) ∷ []
+  abbrev walked : List Cause
+  walked = cause type-cause (not typed) ∷ cause linearity-cause (not kept) ∷ cause bay-once-cause (not many) ∷ []
 
-  by-bays : type-causes (type-table s) (bay-terms s) ≡ scope-causes s ++ late
+  by-bays : type-causes (type-table s) (bay-terms s) ≡ scope-causes s ++ walked
   unfolding bay-terms each-passes bay-passes passes bay-annotated has-type has-many bay-linear bay-number
   by-bays =
       let f = bay-term s in
@@ -58,13 +59,16 @@ module _ (s : List ℕ) where
         every-tabulate (λ e. on-number (type-number T [] e) (is-many T)) n f,
       ) refl
 
-  -- causes 5 to 11
+  -- causes 9 to 11 and 19; 5 to 11 and 19
+  abbrev late : List Cause
+  late = walked ++ starting-causes s
+
   abbrev behind-table : List Cause
   behind-table = (term-causes s ++ scope-causes s) ++ late
 
   by-causes : refusal s ≡ first-cause (table-causes s ++ behind-table)
   unfolding refusal
-  by-causes = ap (λ (cs : List Cause). first-cause (table-causes s ++ (term-causes s ++ cs))) by-bays
+  by-causes = ap (λ (cs : List Cause). first-cause (table-causes s ++ (term-causes s ++ (cs ++ starting-causes s)))) by-bays
 
   -- what a refusal's number says
   refused-is : (n : ℕ) → refusal s ≡ n → (n ≡ 0 → ⊥) → refused n ≡ verdict-of s
@@ -110,7 +114,7 @@ module _ (s : List ℕ) (file : ℕ) (e : file ≡ table-refusal s) (z : file �
         rest = past-file ∙ first-cause-rest (term-causes s ++ scope-causes s) (late s) (none-fits (term-causes s ++ scope-causes s) tt (sym f ∙ w));
       }
 
--- Causes 9 to 11
+-- Causes 9 to 11, and 19
 
 -- an answer that accepts
 abbrev pub accepting : ℕ → List ℕ → Verdict
@@ -128,7 +132,12 @@ module _ {s : List ℕ} (a : Admitted s) {types : BayTypes} (n : Numbered s type
       pub refused-once : types .many ≡ false → refused bay-once-cause ≡ verdict-of s
       refused-once p = refused-is s bay-once-cause (a .rest ∙ rw (← (n .each), p₉, ← (n .linear p₉), p₁₀, ← (n .many p₉), p) refl) (λ z. omega arith)
 
-      pub all-pass : types .many ≡ true → (b : ℕ) → b ≡ bays s → accepting b (types .numbers) ≡ verdict-of s
-      all-pass p b e =
-          ap₂ accepting e (n .numbers p₉)
-          ∙ accepted-is s (a .rest ∙ rw (← (n .each), p₉, ← (n .linear p₉), p₁₀, ← (n .many p₉), p) refl)
+      module _ (p₁₁ : types .many ≡ true) {starting : Bool} (f : starting ≡ cause-19 s) where
+        by-starting : refusal s ≡ first-cause (cause starting-cause starting ∷ [])
+        by-starting = a .rest ∙ rw (← (n .each), p₉, ← (n .linear p₉), p₁₀, ← (n .many p₉), p₁₁, f) refl
+
+        pub refused-starting : starting ≡ true → refused starting-cause ≡ verdict-of s
+        refused-starting p = refused-is s starting-cause (by-starting ∙ rw p refl) (λ z. omega arith)
+
+        pub all-pass : starting ≡ false → (b : ℕ) → b ≡ bays s → accepting b (types .numbers) ≡ verdict-of s
+        all-pass p b e = ap₂ accepting e (n .numbers p₉) ∙ accepted-is s (by-starting ∙ rw p refl)

@@ -82,6 +82,9 @@ pub fn check(recipe: &[u8]) -> Verdict
     if !found.many {
         return refused(Cause::BAY_ONCE);
     }
+    if recipe_file::starting_breaks(recipe, edition) {
+        return refused(Cause::STARTING);
+    }
     let types = found.numbers;
     Verdict {
         refusal: 0,

@@ -6,3 +6,5 @@ pub mod Bays
 pub mod Answers
 -- accepted exactly when the file says a recipe that the papers ask for; the recipe is unique, and so are the types answered
 pub mod Accepted
+-- files that differ in the starting part only
+pub mod Alike

@@ -11,13 +11,14 @@ use Rattle.calculus.specs.Lists.{tabulate}
 use Rattle.calculus.specs.Limits.{max-bays}
 use Rattle.calculus.specs.Verdict.{type-causes, type-number}
 use Rattle.recipe_file.specs.File.{bays}
+use Rattle.recipe_file.specs.Starting.{starting-causes}
 use Rattle.recipe_table.specs.Entries.{type-table, table-causes}
 use Rattle.check_spec.specs.declared.Verdict.{Verdict}
 use Rattle.check_spec.specs.Bays.{bay-term, bay-terms, term-causes}
 
--- causes 1 to 11 of a file; 7 to 11 are the calculus's
+-- causes 1 to 11 of a file, of which 7 to 11 are the calculus's; T-07: 19, "tried after 11"
 abbrev pub check-causes : List ℕ → List Cause
-check-causes s = table-causes s ++ (term-causes s ++ type-causes (type-table s) (bay-terms s))
+check-causes s = table-causes s ++ (term-causes s ++ (type-causes (type-table s) (bay-terms s) ++ starting-causes s))
 
 -- the number of the first that fits, 0 where none does
 unfoldable pub refusal : List ℕ → ℕ

@@ -45,16 +45,16 @@ pub record FirstDemand : Type 0 where
   pub load-writes-nothing : (file out : List ℕ) → ¬ (loaded-of file (length out) .refusal ≡ 0) → out-after-load file out ≡ out
   pub step-writes-nothing : (image : List ℕ) (x : ℕ) (out : List ℕ) → ((rule size : ℕ) → ¬ (outcome-of image x out ≡ Rule rule size)) → out-after-step image x out ≡ out
 
--- a file that says a recipe which the papers accept: table and terms
+-- a file that says a recipe which the papers accept: table, starting nums and terms
 abbrev pub Accepted : List ℕ → Type 0
-Accepted file = (T : Table) × (es : List Exp) × Recipe file T es
+Accepted file = (T : Table) × (ns : List ℕ) × (es : List Exp) × Recipe file T ns es
 
 -- "the out buffer holds the image in its first bytes and is unchanged beyond", where it was `before` and is `after`
 abbrev pub Written : List ℕ → List ℕ → List ℕ → Type 0
 Written image before after = (after ≡ image ++ drop (length image) before) × (length image ≤ length before)
 
--- what is answered and left of a file that says the table T and the terms es
-pub record RecipeDemand (file : List ℕ) (T : Table) (es : List Exp) : Type 0 where
+-- what is answered and left of a file that says the table T, the starting nums ns and the terms es
+pub record RecipeDemand (file : List ℕ) (T : Table) (ns : List ℕ) (es : List Exp) : Type 0 where
   -- "Accepting answers b and each bay's type number": the type that a derivation gives; beyond the bays 0
   pub bays : verdict-of file .bays ≡ length es
   pub types : (bay : ℕ) (e : Exp) → at es bay ≡ some e → (α : LinType) →
@@ -62,9 +62,9 @@ pub record RecipeDemand (file : List ℕ) (T : Table) (es : List Exp) : Type 0 w
   pub types-beyond : (bay : ℕ) → length es ≤ bay → getD (verdict-of file .types) bay 0 ≡ 0
   -- "loading also the image's length": what a check answers, and the starting image's length
   pub loaded-answer : (out : List ℕ) → max-image-length ≤ length out →
-      loaded-of file (length out) ≡ record { refusal = 0; bays = length es; types = verdict-of file .types; length = length (image-of (start T es .config)) }
+      loaded-of file (length out) ≡ record { refusal = 0; bays = length es; types = verdict-of file .types; length = length (image-of (start T ns es .config)) }
   -- "After a load .. the out buffer holds the image in its first bytes and is unchanged beyond"
-  pub loaded-image : (out : List ℕ) → max-image-length ≤ length out → Written (image-of (start T es .config)) out (out-after-load file out)
+  pub loaded-image : (out : List ℕ) → max-image-length ≤ length out → Written (image-of (start T ns es .config)) out (out-after-load file out)
 
 -- a slice that is the image of a configuration, every rule and limit of "The image" kept
 pub record ImageOf (s : List ℕ) (C : Config) : Type 0 where
@@ -114,12 +114,12 @@ pub record StepDemand (s : List ℕ) (x : ℕ) (out : List ℕ) : Type 0 where
 pub record SecondDemand : Type 0 where
   -- accepted exactly when; the file says one recipe; there is a type number for each bay that there may be
   pub accepted : (file : List ℕ) → Bytes file → (verdict-of file .refusal ≡ 0) ↔ Accepted file
-  pub one-recipe : (file : List ℕ) (T T′ : Table) (es es′ : List Exp) → Recipe file T es → Recipe file T′ es′ → (T ≡ T′) × (es ≡ es′)
+  pub one-recipe : (file : List ℕ) (T T′ : Table) (ns ns′ : List ℕ) (es es′ : List Exp) → Recipe file T ns es → Recipe file T′ ns′ es′ → (T ≡ T′) × (ns ≡ ns′) × (es ≡ es′)
   pub types-length : (file : List ℕ) → length (verdict-of file .types) ≡ max-bays
   -- loaded exactly when
   pub loaded : (file out : List ℕ) → Bytes file → (loaded-of file (length out) .refusal ≡ 0) ↔ (Accepted file × (max-image-length ≤ length out))
   -- what check and load answer then; what a step answers, to any slice, thread number and buffer
-  pub recipe : (file : List ℕ) → Bytes file → (T : Table) (es : List Exp) → Recipe file T es → RecipeDemand file T es
+  pub recipe : (file : List ℕ) → Bytes file → (T : Table) (ns : List ℕ) (es : List Exp) → Recipe file T ns es → RecipeDemand file T ns es
   pub step : (s : List ℕ) → Bytes s → (x : ℕ) (out : List ℕ) → StepDemand s x out
 
 -- the third demand of the calls from this image with these types

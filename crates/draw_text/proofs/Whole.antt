@@ -8,7 +8,7 @@ use lib.Dec.{eqb}
 use lib.ListN.{length, take}
 use lib.Seq.{getD-drop}
 use Rattle.calculus.specs.Bytes.{Bytes}
-use Rattle.calculus.specs.Causes.{seed-cause}
+use Rattle.calculus.specs.Causes.{seed-cause, starting-cause}
 use Rattle.calculus.specs.Image.{nodes-all}
 use Rattle.calculus.specs.Limits.{front-length, max-image-length}
 use Rattle.calculus.specs.Theory.Tests.{eqb-complete, eqb-sound}
@@ -68,11 +68,11 @@ module _ {input : List ℕ} {seed : ℕ} {out : List ℕ} {l : Loaded} {out′ :
           let n : ¬ (refusal (recipe-in input) ≡ 0) = λ z. false≢true (sym e ∙ eqb-complete (l .refusal) 0 (told ∙ z)) in
           told ∙ sym (recipe-refused input n)
 
-  pub refusal-small : refusal-of (l .refusal) seed ≤ seed-cause
+  pub refusal-small : refusal-of (l .refusal) seed ≤ starting-cause
   unfolding refusal-of
   refusal-small = go (eqb (l .refusal) 0) (eqb seed 0)
     where
-      go : (b c : Bool) → cond b (cond c seed-cause 0) (l .refusal) ≤ seed-cause
+      go : (b c : Bool) → cond b (cond c seed-cause 0) (l .refusal) ≤ starting-cause
       go true true = omega arith
       go true false = omega arith
       go false c = omega (arith, refusal-told-small (recipe-in input) (d .answer) (d .long))

@@ -1,10 +1,12 @@
 -- Document 01, "Loading gives names 0 to b − 1 to the settings and b to 2b − 1 to the bays' threads; thread b + k holds bay k's term, byte for byte, and there
--- is no other name."
+-- is no other name." T-07: a setting starts with its bay's starting num.
 use mathlib.Core.Bool.{cond}
-use mathlib.Core.List.{List, [], _∷_}
+use mathlib.Core.List.{List, _∷_}
 use Prim.Native.Nat.{ℕ, _+_, _-_}
 use lib.Dec.{ltb}
+use Rattle.calculus.specs.Bytes.{two-bytes}
 use Rattle.recipe_file.specs.File.{edition-of, bays, term-bytes}
+use Rattle.recipe_file.specs.Starting.{starting-num}
 use Rattle.calculus.specs.Kinds.{no-owner}
 use Rattle.term.specs.Forms.{num-tag}
 use Rattle.image_layout.specs.Encoded.{Encoded}
@@ -14,11 +16,11 @@ use Rattle.image.specs.Owned.{thread-holding, cell-holding}
 abbrev pub first-term : List ℕ → ℕ
 first-term s = edition-of s .terms
 
--- the starting image name by name (Theory.Image, `starting-tabulated`): a setting, "a cell of num, starting at 0"
-abbrev pub setting : Encoded
-setting = cell-holding no-owner (num-tag ∷ 0 ∷ 0 ∷ [])
+-- the starting image name by name (Theory.Image, `starting-tabulated`): a setting, "a cell of num", with the num that it starts with
+unfoldable pub setting : ℕ → Encoded
+setting n = cell-holding no-owner (num-tag ∷ two-bytes n)
 
--- how many bytes it holds
+-- so many bytes, whatever the num
 abbrev pub setting-length : ℕ
 setting-length = 3
 
@@ -28,7 +30,7 @@ bay-thread s bay = thread-holding no-owner (term-bytes s bay)
 
 -- the component of name k
 unfoldable pub starting-at : List ℕ → ℕ → Encoded
-starting-at s k = cond (ltb k (bays s)) setting (bay-thread s (k - bays s))
+starting-at s k = cond (ltb k (bays s)) (setting (starting-num s k)) (bay-thread s (k - bays s))
 
 -- how many names there are
 abbrev pub starting-names : List ℕ → ℕ

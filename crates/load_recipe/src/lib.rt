@@ -33,7 +33,8 @@ pub fn load(recipe: &[u8], out: &mut [u8]) -> Loaded
         return refused(refusal);
     }
     let edition = recipe_file::edition_of(recipe);
-    let length = load_image::put_starting(recipe, edition, out);
+    let nums = recipe_file::starting_nums(recipe, edition);
+    let length = load_image::put_starting(recipe, edition, nums, out);
     let types = verdict.types;
     Loaded {
         refusal: 0,

@@ -173,6 +173,8 @@ impl Cause {
     pub const WRONG_KIND: u8 = 17;
 
     pub const SEED: u8 = 18;
+
+    pub const STARTING: u8 = 19;
 }
 
 pub fn byte_values() -> usize
@@ -277,7 +279,7 @@ pub fn rules() -> [u8; 9]
     ]
 }
 
-pub fn causes() -> [u8; 18]
+pub fn causes() -> [u8; 19]
     ensures { λ r. ⌜ r ≡ causes ⌝ }
 {
     [
@@ -299,5 +301,6 @@ pub fn causes() -> [u8; 18]
         Cause::USED_HANDLE,
         Cause::WRONG_KIND,
         Cause::SEED,
+        Cause::STARTING,
     ]
 }

@@ -1,14 +1,18 @@
 -- Document 01's "Bay cases", as far as causes 1 to 3 go, and files at the limits.
 use mathlib.Core.Path.{_≡_, refl}
 use mathlib.Core.Bool.{false, true}
-use mathlib.Core.List.{List, [], _++_, _∷_}
+use mathlib.Core.List.{List, [], _++_, _∷_, map}
 use Prim.Native.Nat.{_+_, _-_, suc, zero, ℕ}
 use lib.ListN.{drop, replicate}
-use Rattle.calculus.specs.Bytes.{word}
+use Rattle.calculus.specs.Bytes.{two-bytes, word}
+use Rattle.calculus.specs.Lists.{tabulate}
 use Rattle.calculus.specs.Limits.{min-bays, max-bays, min-parts, max-parts}
 use Rattle.recipe_file.proofs.Causes.{bays-outside}
-use Rattle.recipe_file.specs.Editions.{edition-1}
+use Rattle.recipe_file.specs.Editions.{edition-1, edition-2, edition-3}
 use Rattle.recipe_file.specs.File.{parts, bays, table-bytes, term-bytes, pair-offset, offset-of, length-of, part, outside, cause-1, opens, edition-of, cause-2, pairs-test, table-length-test, cause-3, layout-refusal}
+use Rattle.recipe_file.specs.Starting.{starting-bytes, starting-num, starting-nums, nums-bytes, cause-19}
+use Rattle.recipe_file.specs.Whole.{file-of, joined, pairs-of, parts-from}
+use Rattle.recipe_file.specs.Twins.{term-parts, twin, edition-2-twin, edition-3-twin}
 
 -- "table of three entries"
 abbrev table-3 : List ℕ
@@ -80,7 +84,11 @@ one-part = refl
 pub two-to-seventeen : (n : ℕ) → outside min-parts max-parts n ≡ outside min-bays max-bays (n - edition-1 .terms)
 two-to-seventeen n = bays-outside (edition-1 .terms) n
 
--- another opening, editions 0 and 3
+-- T-07, "n runs from 3 to 18" in edition 3
+pub three-to-eighteen : (n : ℕ) → outside 3 18 n ≡ outside min-bays max-bays (n - edition-3 .terms)
+three-to-eighteen n = bays-outside (edition-3 .terms) n
+
+-- another opening, editions 0 and 4
 pub other-opening : layout-refusal (0x4C ∷ 0x45 ∷ replicate 10 0) ≡ 2
 unfolding layout-refusal cause-1 cause-2 outside opens
 other-opening = refl
@@ -89,7 +97,7 @@ pub edition-0 : layout-refusal (0x4C ∷ 0x46 ∷ 0 ∷ 2 ∷ replicate 10 0) �
 unfolding layout-refusal cause-1 cause-2 outside opens edition-of bays
 edition-0 = refl
 
-pub other-edition : layout-refusal (0x4C ∷ 0x46 ∷ 3 ∷ 2 ∷ replicate 10 0) ≡ 2
+pub other-edition : layout-refusal (0x4C ∷ 0x46 ∷ 4 ∷ 2 ∷ replicate 10 0) ≡ 2
 unfolding layout-refusal cause-1 cause-2 outside opens edition-of bays
 other-edition = refl
 
@@ -109,6 +117,53 @@ edition-2-17 = refl
 pub edition-2-18 : layout-refusal (0x4C ∷ 0x46 ∷ 2 ∷ drop 3 (many-bays 17)) ≡ 2
 unfolding layout-refusal cause-1 cause-2 outside opens edition-of bays parts pairs-from
 edition-2-18 = refl
+
+-- T-07: an edition 3 file of two bays, whose starting part is p
+abbrev pub two-started : List ℕ → List ℕ
+two-started p = file-of edition-3 (table-3 ∷ p ∷ (3 ∷ []) ∷ (9 ∷ 0 ∷ []) ∷ [])
+
+-- the nums 250 and 513, the lower byte first; the bays are two, and their terms the last two parts
+pub edition-3-laid : layout-refusal (two-started (250 ∷ 0 ∷ 1 ∷ 2 ∷ [])) ≡ 0
+unfolding file-of pairs-of joined two-bytes layout-refusal cause-1 cause-2 cause-3 outside opens edition-of bays parts pairs-test offset-of length-of word table-length-test
+edition-3-laid = refl
+
+pub edition-3-nums : starting-nums (two-started (250 ∷ 0 ∷ 1 ∷ 2 ∷ [])) ≡ 250 ∷ 513 ∷ []
+unfolding file-of pairs-of joined two-bytes starting-nums starting-num starting-bytes tabulate edition-of bays parts part offset-of length-of word
+edition-3-nums = refl
+
+pub edition-3-terms : tabulate 2 (term-bytes (two-started (250 ∷ 0 ∷ 1 ∷ 2 ∷ []))) ≡ (3 ∷ []) ∷ (9 ∷ 0 ∷ []) ∷ []
+unfolding file-of pairs-of joined two-bytes tabulate term-bytes edition-of part offset-of length-of word
+edition-3-terms = refl
+
+-- four bytes for two bays; three, five and two are 19, none is 3
+pub nineteen : map (λ p. cause-19 (two-started p)) ((0 ∷ 0 ∷ 0 ∷ 0 ∷ []) ∷ (0 ∷ 0 ∷ 0 ∷ []) ∷ (0 ∷ 0 ∷ 0 ∷ 0 ∷ 0 ∷ []) ∷ (0 ∷ 0 ∷ []) ∷ []) ≡ false ∷ true ∷ true ∷ true ∷ []
+unfolding file-of pairs-of joined two-bytes cause-19 edition-of bays parts length-of word
+nineteen = refl
+
+pub no-starting-byte : layout-refusal (two-started []) ≡ 3
+unfolding file-of pairs-of joined two-bytes layout-refusal cause-1 cause-2 cause-3 outside opens edition-of bays parts pairs-test offset-of length-of word
+no-starting-byte = refl
+
+-- the same parts in edition 2: three bays, the first of them a num, and nothing to be refused 19; the settings start at 0
+pub edition-2-starts : (bays (file-of edition-2 (table-3 ∷ (4 ∷ 250 ∷ 0 ∷ []) ∷ (3 ∷ []) ∷ (9 ∷ 0 ∷ []) ∷ [])) ≡ 3) ×
+    ((cause-19 (file-of edition-2 (table-3 ∷ (4 ∷ 250 ∷ 0 ∷ []) ∷ (3 ∷ []) ∷ (9 ∷ 0 ∷ []) ∷ [])) ≡ false) ×
+    (starting-nums (file-of edition-2 (table-3 ∷ (4 ∷ 250 ∷ 0 ∷ []) ∷ (3 ∷ []) ∷ (9 ∷ 0 ∷ []) ∷ [])) ≡ 0 ∷ 0 ∷ 0 ∷ []))
+unfolding file-of pairs-of joined two-bytes cause-19 starting-nums starting-num starting-bytes tabulate edition-of bays parts word
+edition-2-starts = (refl, (refl, refl))
+
+-- twins: the starting part taken out, and put in
+pub twins : (edition-2-twin (two-started (250 ∷ 0 ∷ 1 ∷ 2 ∷ [])) ≡ file-of edition-2 (table-3 ∷ (3 ∷ []) ∷ (9 ∷ 0 ∷ []) ∷ [])) ×
+    (edition-3-twin (250 ∷ 513 ∷ []) (file-of edition-2 (table-3 ∷ (3 ∷ []) ∷ (9 ∷ 0 ∷ []) ∷ [])) ≡ two-started (250 ∷ 0 ∷ 1 ∷ 2 ∷ []))
+unfolding file-of pairs-of joined two-bytes twin term-parts parts-from nums-bytes table-bytes edition-of bays parts part offset-of length-of word
+twins = (refl, refl)
+
+-- "n runs from 3 to 18": n parts in edition 3, of which the first is the table
+abbrev pub so-many-parts : ℕ → List ℕ
+so-many-parts n = file-of edition-3 (table-3 ∷ replicate (n - 1) (3 ∷ []))
+
+pub edition-3-parts : map (λ n. layout-refusal (so-many-parts n)) (2 ∷ 3 ∷ 18 ∷ 19 ∷ []) ≡ 2 ∷ 0 ∷ 0 ∷ 2 ∷ []
+unfolding file-of pairs-of joined two-bytes layout-refusal cause-1 cause-2 cause-3 outside opens edition-of bays parts pairs-test offset-of length-of word table-length-test
+edition-3-parts = refl
 
 -- a file that is shorter than its pairs
 pub cut-pairs : layout-refusal (0x4C ∷ 0x46 ∷ 1 ∷ 17 ∷ replicate 10 0) ≡ 3

@@ -1,17 +1,22 @@
 -- What every known edition keeps, and the edition that a file says.
 use mathlib.Core.Path.{_≡_, refl}
+use mathlib.Core.Bool.{true}
 use mathlib.Core.List.{List, [], _∷_}
 use Prim.Native.Nat.{_+_, _-_, _<_, _≤_, suc, zero, ℕ}
 use native.Mathlib.Omega.{arith}
 use lib.ListN.{getD, length}
 use Rattle.calculus.specs.Limits.{byte-values, max-bays}
+use Rattle.calculus.specs.Theory.Tests.{clash}
 use Rattle.recipe_file.specs.declared.Edition.{Edition}
 use Rattle.recipe_file.specs.Editions.{edition-1, editions}
 use Rattle.recipe_file.specs.File.{edition-of, table-part}
+use Rattle.recipe_file.specs.Starting.{starting-part}
 
 pub record EditionRule (e : Edition) : Type 0 where
   -- the type table stands before the terms
   pub behind-table : table-part < e .terms
+  -- and so does the starting part
+  pub behind-starting : e .starting ≡ true → starting-part < e .terms
   -- "Byte 3 is n"
   pub one-byte : e .terms + max-bays < byte-values
 
@@ -21,7 +26,13 @@ AllKeep [] = Unit {0}
 AllKeep (e ∷ es) = EditionRule e × AllKeep es
 
 all-keep : AllKeep editions
-all-keep = (record { behind-table = omega arith; one-byte = omega arith }, (record { behind-table = omega arith; one-byte = omega arith }, tt))
+all-keep = (
+  record { behind-table = omega arith; behind-starting = λ e. absurd (clash (cc)); one-byte = omega arith },
+  (
+    record { behind-table = omega arith; behind-starting = λ e. absurd (clash (cc)); one-byte = omega arith },
+    (record { behind-table = omega arith; behind-starting = λ e. omega arith; one-byte = omega arith }, tt),
+  ),
+)
 
 keeps-at : (es : List Edition) (i : ℕ) → AllKeep es → EditionRule (getD es i edition-1)
 keeps-at [] i k = all-keep .0

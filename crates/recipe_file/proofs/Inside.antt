@@ -1,11 +1,13 @@
 -- What readers of a file that is laid out use: the pairs and the parts stand in it.
 use mathlib.Core.Path.{_≡_}
+use mathlib.Core.Bool.{true}
 use mathlib.Core.List.{List}
 use Prim.Native.Nat.{_+_, _-_, _<_, _≤_, suc, zero, ℕ}
 use native.Mathlib.Omega.{arith}
 use lib.ListN.{length, length-drop, length-take}
 use Rattle.calculus.specs.Limits.{byte-values}
 use Rattle.recipe_file.specs.File.{parts, table-part, edition-of, bays, pair-offset, offset-of, length-of, part, table-bytes}
+use Rattle.recipe_file.specs.Starting.{starting-part, starting-bytes}
 use Rattle.recipe_file.specs.FileRule.{FileRule, HasPart, HasBay}
 use Rattle.recipe_file.proofs.Editions.{edition-rule}
 use Rattle.recipe_file.proofs.Chains.{some-part, chain-room, chain-inside, chain}
@@ -36,6 +38,15 @@ length-table-bytes l = length-part (table-is-part l)
 pub term-is-part : {s : List ℕ} {bay : ℕ} → HasBay s bay → HasPart s (edition-of s .terms + bay)
 unfolding bays
 term-is-part h = record { laid = h .laid; below = omega (arith, h .below) }
+
+-- so is the starting part, where the edition has it
+pub starting-is-part : {s : List ℕ} → FileRule s → edition-of s .starting ≡ true → HasPart s starting-part
+unfolding bays
+starting-is-part {s} l e = record { laid = l; below = omega (arith, edition-rule s .behind-starting e, l .has-parts .low) }
+
+pub length-starting-bytes : {s : List ℕ} → FileRule s → edition-of s .starting ≡ true → length (starting-bytes s) ≡ length-of s starting-part
+unfolding starting-bytes
+length-starting-bytes l e = rw e (length-part (starting-is-part l e))
 
 -- "sorted by offset"
 sorted-by : (s : List ℕ) → FileRule s → (i k : ℕ) → i + suc k < parts s → offset-of s i < offset-of s (i + suc k)

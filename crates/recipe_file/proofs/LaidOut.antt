@@ -29,7 +29,7 @@ between least most n e =
     let (a, b) = or-parts (ltb n least) (ltb most n) e in
     record { low = ltb-false n least a; high = ltb-false most n b }
 
-within : (least most n : ℕ) → Between least most n → outside least most n ≡ false
+pub within : (least most n : ℕ) → Between least most n → outside least most n ≡ false
 unfolding outside
 within least most n b = or-false (le-ltb n least (b .low)) (le-ltb most n (b .high))
 

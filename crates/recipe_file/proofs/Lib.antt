@@ -12,7 +12,11 @@ mod Causes
 mod Walks
 -- the file of its parts
 pub mod Wholes
+-- the starting part
+pub mod Starting
 -- document 01's cases
 pub mod Cases
 -- the file of fitting parts
 pub mod Made
+-- the twins of a file
+pub mod Twins

@@ -29,7 +29,7 @@ past-word : (s : List ℕ) (j n : ℕ) (l : List ℕ) → drop j s ≡ two-bytes
 unfolding two-bytes
 past-word s j n l e = sym (drop-drop 2 j s) ∙ ap (drop 2) e
 
-length-pairs : (at : ℕ) (ps : List (List ℕ)) → length (pairs-of at ps) ≡ 4 * length ps
+pub length-pairs : (at : ℕ) (ps : List (List ℕ)) → length (pairs-of at ps) ≡ 4 * length ps
 unfolding pairs-of two-bytes
 length-pairs at [] = refl
 length-pairs at (p ∷ ps) = let h = length-pairs (at + length p) ps in omega arith

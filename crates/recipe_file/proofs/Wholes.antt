@@ -13,12 +13,12 @@ use Rattle.recipe_file.specs.Whole.{pairs-of, joined, file-of, parts-fro
 use Rattle.recipe_file.proofs.Chains.{Chain, chain}
 use Rattle.recipe_file.proofs.Inside.{pairs-inside, length-part}
 
-length-parts : (s : List ℕ) (k i : ℕ) → length (parts-from s k i) ≡ k
+pub length-parts : (s : List ℕ) (k i : ℕ) → length (parts-from s k i) ≡ k
 unfolding parts-from
 length-parts s zero i = refl
 length-parts s (suc k) i = ap suc (length-parts s k (i + 1))
 
-bytes-word : (s : List ℕ) → Bytes s → (j : ℕ) → two-bytes (word s j) ≡ getD s j 0 ∷ getD s (j + 1) 0 ∷ []
+pub bytes-word : (s : List ℕ) → Bytes s → (j : ℕ) → two-bytes (word s j) ≡ getD s j 0 ∷ getD s (j + 1) 0 ∷ []
 unfolding two-bytes word
 bytes-word s b j =
     let low = b j in
@@ -39,7 +39,7 @@ four s j n h =
 
 module _ (s : List ℕ) (l : FileRule s) where
   -- the parts from i on are what stands from there to the end
-  joined-from : (k i at : ℕ) → Chain s k i at → joined (parts-from s k i) ≡ drop at s
+  pub joined-from : (k i at : ℕ) → Chain s k i at → joined (parts-from s k i) ≡ drop at s
   unfolding joined parts-from part
   joined-from zero i at c = rw c (sym (drop-length s))
   joined-from (suc k) i at (o, p, c) =

@@ -43,7 +43,7 @@ part s i = take (length-of s i) (drop (offset-of s i) s)
 abbrev pub table-part : ℕ
 table-part = 0
 
--- "then one term for each of b = n − 1 bays": which part is the first, the edition says
+-- "then one term for each of b = n − 1 bays", T-07, "the parts less two": which part is the first, the edition says
 unfoldable pub bays : List ℕ → ℕ
 bays s = parts s - edition-of s .terms
 
@@ -67,7 +67,8 @@ cause-1 s = outside min-file-length max-file-length (length s)
 unfoldable pub opens : List ℕ → Bool
 opens s = eqb (getD s 0 0) (getD opening 0 0) && eqb (getD s 1 0) (getD opening 1 0)
 
--- document 01, cause 2: "first two bytes, edition, or n outside 2 to 17", so b outside 1 to 16 (proofs.Cases, `two-to-seventeen`)
+-- document 01, cause 2: "first two bytes, edition, or n outside 2 to 17", so b outside 1 to 16; T-07, "n runs from 3 to 18" in edition 3
+-- (proofs.Cases, `two-to-seventeen`, `three-to-eighteen`)
 unfoldable pub cause-2 : List ℕ → Bool
 cause-2 s = not (opens s) || (not (eqb (getD s 2 0) (edition-of s .number)) || outside min-bays max-bays (bays s))
 

@@ -1,10 +1,13 @@
 // The recipe file: its limits, its layout, and its parts as slices of it.
 ghost use mathlib.Core.Path.{_≡_};
+ghost use mathlib.Core.Bool.{false};
 ghost use Prim.Native.Nat.{_+_, _*_, _<_, _≤_};
 ghost use lib.ListN.{length};
 ghost use Rattle.calculus.specs.Bytes.{two-byte-values};
-ghost use Rattle.calculus.specs.Limits.{byte-values, min-file-length};
+ghost use Rattle.calculus.specs.Limits.{byte-values, max-bays, min-file-length};
+ghost use Rattle.calculus.specs.Lists.{tabulate};
 ghost use Rattle.recipe_file.specs.File.{edition-of, bays, pair-offset, offset-of, length-of, part, table-bytes, term-bytes, outside, cause-2, pairs-test, table-length-test, cause-3, layout-refusal};
+ghost use Rattle.recipe_file.specs.Starting.{starting-bytes, starting-num, cause-19};
 ghost use Rattle.recipe_file.specs.FileRule.{FileRule, HasPart, HasBay};
 
 mod cursor;
@@ -16,18 +19,20 @@ use numbers::Recipe;
 // The first two bytes of every recipe.
 pub const OPENING: [u8; 2] = *b"LF";
 
-// An edition of the recipe file: how many node forms and kinds of types it has, the first ones, and from which part on the parts are terms.
+// An edition of the recipe file: how many node forms and kinds of types it has, the first ones; whether the part behind the type table is the starting part;
+// and from which part on the parts are terms.
 pub struct Edition {
     pub number: u8,
     pub forms: u8,
     pub kinds: u8,
+    pub starting: bool,
     pub terms: usize,
 }
 
-// The part that is the type table, and the first term where it follows.
+// The part that is the type table, and the starting part where there is one.
 const TABLE_PART: usize = 0;
 
-const NEXT_PART: usize = 1;
+const STARTING_PART: usize = TABLE_PART + 1;
 
 impl Edition {
     // Document 01's.
@@ -35,7 +40,8 @@ impl Edition {
         number: 1,
         forms: 10,
         kinds: 5,
-        terms: NEXT_PART,
+        starting: false,
+        terms: TABLE_PART + 1,
     };
 
     // T-03's, with pairs and lists.
@@ -43,21 +49,33 @@ impl Edition {
         number: 2,
         forms: 14,
         kinds: 9,
-        terms: NEXT_PART,
+        starting: false,
+        terms: TABLE_PART + 1,
+    };
+
+    // T-07's, with starting nums.
+    pub const THIRD: Edition = Edition {
+        number: 3,
+        forms: 14,
+        kinds: 9,
+        starting: true,
+        terms: STARTING_PART + 1,
     };
 
     // How many are known.
-    pub const COUNT: usize = 2;
+    pub const COUNT: usize = 3;
 }
 
 // Those that are known, in the order of their numbers.
-const EDITIONS: [Edition; Edition::COUNT] = [Edition::FIRST, Edition::SECOND];
+const EDITIONS: [Edition; Edition::COUNT] = [Edition::FIRST, Edition::SECOND, Edition::THIRD];
 
 // A recipe has a bay at least.
 const MIN_BAYS: usize = 1;
 
-// The bytes of an entry of the type table.
+// The bytes of an entry of the type table, and of a bay's starting num.
 pub const ENTRY_LENGTH: usize = 3;
+
+const START_LENGTH: usize = 2;
 
 // Where pair i stands; behind the last of n pairs the first part begins.
 pub fn pair_offset(i: usize) -> usize
@@ -231,4 +249,41 @@ pub fn term_bytes(recipe: &[u8], edition: Edition, bay: usize) -> &[u8]
     ensures { λ r. ⌜ now r ≡ term-bytes (now (recipe .entry)) bay ⌝ }
 {
     part(recipe, edition.terms + bay)
+}
+
+// The bytes of the starting part, as they stand in the recipe; none where the edition has no such part.
+fn starting_bytes(recipe: &[u8], edition: Edition) -> &[u8]
+    requires { ⌜ FileRule (now recipe) × (edition ≡ edition-of (now recipe)) ⌝ }
+    ensures { λ r. ⌜ now r ≡ starting-bytes (now (recipe .entry)) ⌝ }
+{
+    if !edition.starting {
+        return &recipe[..0];
+    }
+    part(recipe, STARTING_PART)
+}
+
+// Cause 19: the length of the starting part.
+pub fn starting_breaks(recipe: &[u8], edition: Edition) -> bool
+    requires { ⌜ FileRule (now recipe) × (edition ≡ edition-of (now recipe)) ⌝ }
+    ensures { λ r. ⌜ r ≡ cause-19 (now (recipe .entry)) ⌝ }
+{
+    if !edition.starting {
+        return false;
+    }
+    length_of(recipe, STARTING_PART) != START_LENGTH * bay_count(recipe, edition)
+}
+
+// The starting nums of all bays, by value; 0 where none is written.
+pub fn starting_nums(recipe: &[u8], edition: Edition) -> [u16; Recipe::MAX_BAYS]
+    requires { ⌜ (FileRule (now recipe) × (cause-19 (now recipe) ≡ false)) × (edition ≡ edition-of (now recipe)) ⌝ }
+    ensures { λ r. ⌜ r ≡ tabulate max-bays (starting-num (now (recipe .entry))) ⌝ }
+{
+    let starting = starting_bytes(recipe, edition);
+    let mut nums = [0u16; Recipe::MAX_BAYS];
+    let mut bay: usize = 0;
+    while START_LENGTH * bay < starting.len() {
+        nums[bay] = buffer::word_at(starting, START_LENGTH * bay) as u16;
+        bay += 1;
+    }
+    nums
 }

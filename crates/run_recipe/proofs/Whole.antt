@@ -13,14 +13,12 @@ use Rattle.calculus.specs.Causes.{buffer-cause}
 use Rattle.calculus.specs.Limits.{max-image-length}
 use Rattle.calculus.specs.Image.{nodes-all}
 use Rattle.calculus.specs.Table.{type-at}
-use Rattle.calculus.specs.Recipe.{start}
 use Rattle.calculus.specs.Theory.Tests.{ltb-not}
 use Rattle.recipe_table.specs.Entries.{type-table}
-use Rattle.check_spec.specs.Bays.{bay-terms}
 use Rattle.check_spec.specs.Verdict.{refusal}
 use Rattle.image.specs.Configuration.{config-of}
 use Rattle.image.specs.Stands.{image-stands}
-use Rattle.load_spec.specs.Starting.{starting-image}
+use Rattle.load_spec.specs.Starting.{starting-image, starting-state}
 use Rattle.load_spec.specs.declared.Loaded.{Loaded}
 use Rattle.load_spec.specs.Loading.{load-refusal, loaded-of, out-after-load}
 use Rattle.load_spec.specs.Theory.Told.{image-told, length-inside, length-told}
@@ -134,7 +132,7 @@ module _ {file first second : List ℕ} (k : ℕ) {l : Loaded} {first′ : List 
         record {
           present = record {
             numbers = type-at (type-table file);
-            state = start (type-table file) (bay-terms file);
+            state = starting-state file;
             reached = r;
             holds = loaded-image;
             long = loaded-length;

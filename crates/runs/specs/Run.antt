@@ -14,10 +14,9 @@ use Rattle.calculus.specs.Causes.{room-cause}
 use Rattle.calculus.specs.Limits.{max-image-length}
 use Rattle.calculus.specs.Table.{type-at}
 use Rattle.calculus.specs.State.{ValuesTyped}
-use Rattle.calculus.specs.Recipe.{start}
 use Rattle.recipe_table.specs.Entries.{type-table}
-use Rattle.check_spec.specs.Bays.{bay-terms}
 use Rattle.image.specs.Configuration.{config-of}
+use Rattle.load_spec.specs.Starting.{starting-state}
 use Rattle.load_spec.specs.Loading.{loaded-of, out-after-load}
 use Rattle.step_spec.specs.declared.Outcome.{Outcome}
 use Rattle.step_spec.specs.declared.Outcome.the-variants.{Rule, Done, Waiting, Refused}
@@ -89,7 +88,7 @@ image-loaded file out = take (loaded-of file (length out) .length) (out-after-lo
 
 -- the types of its names: "cell of num for a setting, the bay's type for its first thread"
 abbrev pub types-loaded : List ℕ → List LinType
-types-loaded file = start (type-table file) (bay-terms file) .names
+types-loaded file = starting-state file .names
 
 -- the steps of these calls, the first being handed the image that a load into `out` wrote
 abbrev pub steps-of : List ℕ → List ℕ → List Call → List Step

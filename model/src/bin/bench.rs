@@ -2,7 +2,7 @@
 
 use model::answers::{Implementation, Model, Plain, RULE};
 use model::draw::Draw;
-use model::editions::{Edition, FIRST, SECOND};
+use model::editions::{Edition, FIRST, SECOND, THIRD};
 use model::examples;
 use model::ffi::Library;
 use model::format::write_parts;
@@ -44,6 +44,10 @@ fn corpora() -> Vec<Corpus> {
         corpus(
             "well-typed recipes of edition 2",
             well_typed(&mut draw, SECOND),
+        ),
+        corpus(
+            "well-typed recipes of edition 3",
+            well_typed(&mut draw, THIRD),
         ),
         corpus(
             "the corpus of the comparison",

@@ -1,8 +1,9 @@
 //! Houses that come to lack room, some of whose bays go on; and how many turns to ask for.
 
 use crate::draw::Draw;
-use crate::editions::{FIRST, SECOND};
+use crate::editions::{FIRST, SECOND, THIRD};
 use crate::format::Recipe;
+use crate::generate::starts;
 use crate::houses::{self, Bay, Makes};
 
 /// An identity doubled so often has more than 4,096 nodes.
@@ -14,14 +15,28 @@ pub fn house(draw: &mut Draw) -> Recipe {
         0 => draw.between(6, 16),
         _ => draw.between(1, 5),
     };
-    let edition = draw.pick(&[FIRST, SECOND]);
+    let edition = draw.pick(&[FIRST, SECOND, THIRD]);
     let makes = match draw.below(8) {
         0 => Some(draw.pick(&[Makes::Cells, Makes::Threads, Makes::Handles])),
         1 => Some(Makes::Nothing),
         _ => None,
     };
-    let bays: Vec<Bay> = (0..count).map(|_| bay(draw, makes)).collect();
-    houses::house(edition, &bays)
+    let bays = match draw.below(8) {
+        0 => with_room_later(draw),
+        _ => (0..count).map(|_| bay(draw, makes)).collect(),
+    };
+    let starts = starts::nums(draw, edition, bays.len());
+    Recipe {
+        starts,
+        ..houses::house(edition, &bays)
+    }
+}
+
+/// A bay that holds much for a while, one that lacks room meanwhile, and a small one.
+fn with_room_later(draw: &mut Draw) -> Vec<Bay> {
+    let holds = Bay::Holds(8, draw.between(20, 30));
+    let small = draw.pick(&[Bay::Done, Bay::Steps(3), Bay::Waits]);
+    vec![holds, Bay::Doubles(9), small]
 }
 
 /// A bay; it loops for ever only where something to make is told.

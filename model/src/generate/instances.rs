@@ -2,7 +2,7 @@
 //! types that differ from one in one place.
 
 use crate::draw::Draw;
-use crate::editions::{FIRST, SECOND};
+use crate::editions::{FIRST, SECOND, THIRD};
 use crate::format::Recipe;
 use crate::generate::mutants::entries::near_type;
 use crate::generate::tables::GrowingTable;
@@ -52,7 +52,7 @@ fn instance(draw: &mut Draw, table: &mut GrowingTable, constant: Constant) -> Op
 
 /// A table of 256 entries: instances of one constant, and types near them.
 fn table_of_instances(draw: &mut Draw) -> Recipe {
-    let edition = draw.pick(&[FIRST, SECOND, SECOND]);
+    let edition = draw.pick(&[FIRST, SECOND, THIRD]);
     let mut table = GrowingTable::new(edition, *limits::ENTRIES.end());
     table.fill(draw, 8);
     let constant = draw.pick(&CONSTANTS);
@@ -62,6 +62,7 @@ fn table_of_instances(draw: &mut Draw) -> Recipe {
     let mut recipe = Recipe {
         edition: edition.number,
         entries: table.into_entries(),
+        starts: edition.zeros(1),
         terms: Vec::new(),
     };
     while recipe.entries.len() + 4 < *limits::ENTRIES.end() {
@@ -76,13 +77,13 @@ fn table_of_instances(draw: &mut Draw) -> Recipe {
 /// more.
 pub fn constants_at_every_type(draw: &mut Draw) -> Vec<Vec<u8>> {
     let mut recipe = table_of_instances(draw);
+    let has_compounds = recipe.edition != FIRST.number;
     let mut files = Vec::new();
     for number in 0..=recipe.entries.len() {
         let number = number as u8;
         let constants = CONSTANTS.map(|constant| vec![Node::Constant(constant, number)]);
         let compounds = [Node::Pair(number), Node::Front(number)];
         let compounds = compounds.map(|node| vec![node, Node::Num(1), Node::Num(2)]);
-        let has_compounds = recipe.edition == SECOND.number;
         let compounds = compounds.into_iter().filter(|_| has_compounds);
         for term in constants.into_iter().chain(compounds) {
             recipe.terms = vec![term];

@@ -3,8 +3,10 @@
 pub mod entries;
 
 use crate::draw::Draw;
+use crate::editions::Edition;
 use crate::format::{write_parts, Recipe};
 use crate::generate::recipes::well_typed;
+use crate::generate::starts;
 use crate::limits;
 use crate::nodes::{end_of_term, Node};
 use crate::types::{Constant, Shape};
@@ -126,12 +128,21 @@ fn nearby(index: u8, draw: &mut Draw) -> u8 {
     }
 }
 
-/// Byte 2: the other edition, or none.
+/// Another edition, with its starting part or without one; or none.
 fn change_edition(recipe: &mut Recipe, draw: &mut Draw) {
     recipe.edition = match recipe.edition {
-        1 => draw.pick(&[2, 2, 2, 0, 3]),
-        _ => draw.pick(&[1, 1, 1, 0, 3, 255]),
+        1 => draw.pick(&[2, 2, 3, 0, 4]),
+        2 => draw.pick(&[1, 1, 3, 3, 0, 4, 255]),
+        _ => draw.pick(&[1, 2, 2, 0, 4, 255]),
     };
+    fit_starts(recipe, draw);
+}
+
+/// A starting num for each bay, where the edition has them.
+fn fit_starts(recipe: &mut Recipe, draw: &mut Draw) {
+    if let Some(edition) = Edition::of(recipe.edition) {
+        recipe.starts = starts::nums(draw, edition, recipe.terms.len());
+    }
 }
 
 /// A node of two subterms becomes another such node.
@@ -290,7 +301,7 @@ fn replace_leaf(recipe: &mut Recipe, draw: &mut Draw) {
     };
 }
 
-/// A bay more or less, down to none and up to one too many.
+/// A bay more or less, down to one and up to one too many; now and then without its starting num.
 fn change_bays(recipe: &mut Recipe, draw: &mut Draw) {
     let some = recipe.terms[draw.below(recipe.terms.len())].clone();
     match draw.below(4) {
@@ -300,6 +311,9 @@ fn change_bays(recipe: &mut Recipe, draw: &mut Draw) {
         1 => recipe.terms.resize(limits::MAX_BAYS, some),
         2 if draw.one_in(3) => recipe.terms.resize(limits::MAX_BAYS + 1, vec![Node::Unit]),
         _ => recipe.terms.push(some),
+    }
+    if !draw.one_in(4) {
+        fit_starts(recipe, draw);
     }
 }
 
@@ -362,7 +376,8 @@ fn resize(file: &mut Vec<u8>, draw: &mut Draw) {
 pub fn giant(draw: &mut Draw) -> Vec<u8> {
     let recipe = well_typed(draw);
     let mut parts = recipe.parts();
-    parts.truncate(draw.between(1, 3).min(parts.len()));
+    let kept = parts.len() - recipe.terms.len() + draw.below(3);
+    parts.truncate(kept.min(parts.len()));
     let length = draw.pick(&[8_190, 8_191, 8_192, 8_193, 4_000, 3_000]);
     let fixed = 4 + 4 * (parts.len() + 1) + parts.iter().map(Vec::len).sum::<usize>();
     let room = length.max(fixed + 3) - fixed;

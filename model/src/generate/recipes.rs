@@ -1,10 +1,11 @@
 //! Well-typed recipes, small ones and ones at the limits; and the corpus of files to compare.
 
 use crate::draw::Draw;
-use crate::editions::{FIRST, SECOND};
+use crate::editions::{FIRST, SECOND, THIRD};
 use crate::format::Recipe;
 use crate::generate::growth::{grow_to_nesting, grow_to_nodes};
 use crate::generate::mutants;
+use crate::generate::starts;
 use crate::generate::tables::GrowingTable;
 use crate::generate::terms::TermMaker;
 use crate::limits;
@@ -15,6 +16,7 @@ use crate::table::UNIT_ENTRY;
 #[derive(Debug, Clone)]
 pub struct Draft {
     pub table: GrowingTable,
+    pub starts: Vec<u16>,
     pub terms: Vec<Vec<Node>>,
 }
 
@@ -27,6 +29,7 @@ impl Draft {
         Recipe {
             edition: self.table.edition().number,
             entries: self.table.into_entries(),
+            starts: self.starts,
             terms: self.terms,
         }
     }
@@ -139,7 +142,7 @@ fn draft(draw: &mut Draw, faults: Faults) -> Draft {
 }
 
 fn draft_as_wished(draw: &mut Draw, wish: &Wish) -> Draft {
-    let edition = draw.pick(&[FIRST, SECOND, SECOND]);
+    let edition = draw.pick(&[FIRST, SECOND, SECOND, THIRD, THIRD]);
     let mut table = GrowingTable::new(edition, *limits::ENTRIES.end());
     let more = draw.pick(&[0, 2, 6, 12, 30]);
     table.fill(draw, 3 + more);
@@ -148,7 +151,12 @@ fn draft_as_wished(draw: &mut Draw, wish: &Wish) -> Draft {
         let once = wish.faults.once_bay && bay + 1 == wish.bays;
         terms.push(bay_term(draw, &mut table, wish, once));
     }
-    Draft { table, terms }
+    let starts = starts::nums(draw, edition, wish.bays);
+    Draft {
+        table,
+        starts,
+        terms,
+    }
 }
 
 /// A term for one bay; unit when no other is found.
@@ -215,9 +223,9 @@ pub fn largest(draw: &mut Draw) -> Recipe {
     }
 }
 
-/// A file of the corpus: more than half of them well-typed recipes, the others with a fault.
+/// A file of the corpus: about half of them well-typed recipes, the others with a fault.
 pub fn file(draw: &mut Draw) -> Vec<u8> {
-    match draw.below(100) {
+    match draw.below(106) {
         0..=44 => well_typed(draw).write(),
         45 => at_a_limit(draw).write(),
         46..=51 => careless(draw).write(),
@@ -227,6 +235,7 @@ pub fn file(draw: &mut Draw) -> Vec<u8> {
         63 if draw.one_in(3) => mutants::of_recipe(draw, at_a_limit),
         63..=83 => mutants::of_recipe(draw, well_typed),
         84..=87 => mutants::of_recipe(draw, several_careless_bays),
-        _ => mutants::of_bytes(draw, well_typed),
+        88..=99 => mutants::of_bytes(draw, well_typed),
+        _ => starts::file(draw),
     }
 }

@@ -63,11 +63,24 @@ impl<'a> TermMaker<'a> {
             return self.simplest(goal, duties, nesting);
         }
         self.fuel -= 1;
-        let start = self.nodes.len();
-        let made = self.some_form(goal, &duties, nesting);
-        made.or_else(|| {
-            self.nodes.truncate(start);
-            self.simplest(goal, duties, nesting)
+        self.one_or_other(
+            |terms| terms.some_form(goal, &duties, nesting),
+            |terms| terms.simplest(goal, duties.clone(), nesting),
+        )
+    }
+
+    /// One way to a term, or the other where the first comes to nothing and all that it wrote and bound
+    /// is taken back.
+    fn one_or_other(
+        &mut self,
+        one: impl FnOnce(&mut Self) -> Option<()>,
+        other: impl FnOnce(&mut Self) -> Option<()>,
+    ) -> Option<()> {
+        let (nodes, scope) = (self.nodes.len(), self.scope.len());
+        one(self).or_else(|| {
+            self.nodes.truncate(nodes);
+            self.scope.truncate(scope);
+            other(self)
         })
     }
 

@@ -1,13 +1,15 @@
-//! Inputs of the test load: short ones, cut ones and long ones; examples, houses and drawn recipes, each
-//! with a seed and a number of draws.
+//! Inputs of the test load: short ones, cut ones and long ones; examples, houses, recipes with starting
+//! nums and drawn recipes, each with a seed and a number of draws.
 
 use crate::draw::Draw;
-use crate::editions::{FIRST, SECOND};
+use crate::editions::{FIRST, SECOND, THIRD};
 use crate::examples;
-use crate::format::write_parts;
+use crate::format::{write_parts, Recipe};
 use crate::generate::{houses, recipes};
 use crate::houses::{all_names, crowd, fullest, house, nine_sorts, Bay, Makes};
 use crate::limits::{MAX_DRAWS, MAX_FILE};
+use crate::nodes::Node;
+use crate::table::{entry, ONCE, UNIT_ENTRY};
 use crate::test_load::Input;
 
 /// How many recipes and houses are drawn.
@@ -22,6 +24,7 @@ pub fn inputs() -> Vec<Vec<u8>> {
         of_examples(),
         with_many_draws(),
         of_houses(),
+        with_starting_nums(),
         drawn(),
     ]
     .concat()
@@ -112,6 +115,28 @@ fn of_houses() -> Vec<Vec<u8>> {
     .into_iter()
     .map(|(recipe, count)| input(2_006, count, &recipe.write()))
     .collect()
+}
+
+/// A house of edition 3: with its nums, with starting parts of other lengths, and with a bay more whose
+/// type is usable once. "tried after 11 and before 18": zero among the seeds.
+fn with_starting_nums() -> Vec<Vec<u8>> {
+    let mut house = house(THIRD, &[Bay::Steps(4), Bay::Waits, Bay::Doubles(3)]);
+    house.starts = vec![250, u16::MAX, 256];
+    let of_length = |recipe: &Recipe, length: usize| {
+        let mut parts = recipe.parts();
+        parts[1].resize(length, 1);
+        write_parts(recipe.edition, &parts)
+    };
+    let mut once = house.clone();
+    let function = once.entries.len() as u8;
+    once.entries.push(entry(ONCE, UNIT_ENTRY, UNIT_ENTRY));
+    once.starts.push(1);
+    once.terms
+        .push(vec![Node::Lambda(function), Node::Variable(0)]);
+    let lengths = [6, 5, 7, 4, 8, 3, 1, 0, 2_000];
+    let mut recipes = lengths.map(|length| of_length(&house, length)).to_vec();
+    recipes.extend([8, 6].map(|length| of_length(&once, length)));
+    with_each(recipes, &[(0, 0), (0, 9), (1, 0), (2_006, 40)])
 }
 
 /// Drawn recipes, accepted and refused, and drawn houses.

@@ -1,4 +1,5 @@
-//! Causes 1 to 4 in their order, then the terms: causes 5 to 8 in one pass, 9 to 11 in another.
+//! Causes 1 to 4 in their order, then the terms: causes 5 to 8 in one pass, 9 to 11 in another; then
+//! cause 19.
 
 use crate::causes;
 use crate::editions::Edition;
@@ -61,27 +62,66 @@ fn try_check(file: &[u8]) -> Result<Answer, u32> {
     }
     let n = usize::from(file[3]);
     let edition = Edition::of(file[2]).ok_or(causes::OPENING)?;
-    if file[..2] != limits::OPENING || !limits::PARTS.contains(&n) {
+    if file[..2] != limits::OPENING || !edition.parts().contains(&n) {
         return Err(causes::OPENING);
     }
     check_pairs(file, n)?;
-    let table = PlainTable {
-        bytes: part(file, 0),
-    };
+    let parts = PlainParts { file, edition };
+    let table = parts.table();
     if !table_is_sound(edition, table) {
         return Err(causes::TYPE_ENTRY);
     }
-    check_terms(file, edition, n - 1, table)
+    scan_terms(parts, table)?;
+    let answer = walk_terms(parts, table)?;
+    match parts.starting() {
+        Some(starting) if starting.len() != limits::STARTING_NUM_LENGTH * parts.bays() => {
+            Err(causes::STARTING)
+        }
+        _ => Ok(answer),
+    }
+}
+
+/// The parts of a file whose pairs are sound.
+#[derive(Clone, Copy)]
+pub struct PlainParts<'a> {
+    file: &'a [u8],
+    edition: Edition,
+}
+
+impl<'a> PlainParts<'a> {
+    /// Of a file that is accepted.
+    pub fn of_accepted(file: &'a [u8]) -> PlainParts<'a> {
+        let edition = Edition::of(file[2]).expect("an accepted file has an edition");
+        PlainParts { file, edition }
+    }
+
+    fn bays(self) -> usize {
+        usize::from(self.file[3]) - self.edition.terms()
+    }
+
+    /// The part that pair i names.
+    fn part(self, i: usize) -> &'a [u8] {
+        let offset = number_at(self.file, 4 + 4 * i);
+        &self.file[offset..offset + number_at(self.file, 6 + 4 * i)]
+    }
+
+    fn table(self) -> PlainTable<'a> {
+        PlainTable {
+            bytes: self.part(0),
+        }
+    }
+
+    pub fn starting(self) -> Option<&'a [u8]> {
+        self.edition.starting.then(|| self.part(1))
+    }
+
+    pub fn term(self, bay: usize) -> &'a [u8] {
+        self.part(self.edition.terms() + bay)
+    }
 }
 
 fn number_at(file: &[u8], at: usize) -> usize {
     usize::from(file[at]) + 256 * usize::from(file[at + 1])
-}
-
-/// The part that pair i names; the pairs are sound.
-pub fn part(file: &[u8], i: usize) -> &[u8] {
-    let offset = number_at(file, 4 + 4 * i);
-    &file[offset..offset + number_at(file, 6 + 4 * i)]
 }
 
 fn check_pairs(file: &[u8], n: usize) -> Result<(), u32> {
@@ -136,16 +176,12 @@ fn entry_is_sound(table: PlainTable, own: usize, e: &[u8]) -> bool {
     }
 }
 
-fn check_terms(
-    file: &[u8],
-    edition: Edition,
-    bays: usize,
-    table: PlainTable,
-) -> Result<Answer, u32> {
+fn scan_terms(parts: PlainParts, table: PlainTable) -> Result<(), u32> {
+    let bays = parts.bays();
     let mut nodes = 0;
     let mut lowest = u32::MAX;
     for bay in 0..bays {
-        let scanned = scan_term(edition, part(file, 1 + bay), table, bays)?;
+        let scanned = scan_term(parts.edition, parts.term(bay), table, bays)?;
         nodes += scanned.nodes;
         lowest = lowest.min(scanned.lowest);
     }
@@ -155,16 +191,17 @@ fn check_terms(
     if lowest != u32::MAX {
         return Err(lowest);
     }
-    walk_terms(file, bays, table)
+    Ok(())
 }
 
-fn walk_terms(file: &[u8], bays: usize, table: PlainTable) -> Result<Answer, u32> {
+fn walk_terms(parts: PlainParts, table: PlainTable) -> Result<Answer, u32> {
+    let bays = parts.bays();
     let mut answer = Answer::refused(0);
     answer.bays = bays as u32;
     let mut misused = false;
     let mut once = false;
     for bay in 0..bays {
-        let mut walk = Walk::new(part(file, 1 + bay), table);
+        let mut walk = Walk::new(parts.term(bay), table);
         let found = walk.term().ok_or(causes::TYPE)?;
         misused |= walk.misused;
         once |= table.is_once(found);

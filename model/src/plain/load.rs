@@ -1,9 +1,9 @@
-//! Loading: the check, then the starting image, each term copied byte for byte.
+//! Loading: the check, then the starting image, each starting num and each term copied byte for byte.
 
 use crate::causes;
 use crate::kinds;
 use crate::limits;
-use crate::plain::check::{check, part, Answer};
+use crate::plain::check::{check, Answer, PlainParts};
 use crate::tags;
 
 /// The verdict, and the length of the image written (0 on a refusal).
@@ -16,12 +16,18 @@ pub fn load(file: &[u8], out: &mut [u8]) -> (Answer, usize) {
         return (answer, 0);
     }
     let bays = answer.bays as usize;
+    let parts = PlainParts::of_accepted(file);
+    let starting = parts.starting();
     let mut end = limits::FIRST_HEAD + limits::HEAD_LENGTH * 2 * bays;
     out[..2].copy_from_slice(&(2 * bays as u16).to_le_bytes());
     for name in 0..2 * bays {
+        let num;
         let (kind, expression) = match name.checked_sub(bays) {
-            None => (kinds::CELL, &[tags::NUM, 0, 0][..]),
-            Some(bay) => (kinds::THREAD, part(file, 1 + bay)),
+            None => {
+                num = setting(starting, name);
+                (kinds::CELL, &num[..])
+            }
+            Some(bay) => (kinds::THREAD, parts.term(bay)),
         };
         let head = limits::FIRST_HEAD + limits::HEAD_LENGTH * name;
         out[head..head + 2].copy_from_slice(&[kind, 0]);
@@ -31,4 +37,12 @@ pub fn load(file: &[u8], out: &mut [u8]) -> (Answer, usize) {
         end += expression.len();
     }
     (answer, end)
+}
+
+/// The num that a bay's setting starts with, as an expression.
+fn setting(starting: Option<&[u8]>, bay: usize) -> [u8; 3] {
+    match starting {
+        Some(nums) => [tags::NUM, nums[2 * bay], nums[2 * bay + 1]],
+        None => [tags::NUM, 0, 0],
+    }
 }

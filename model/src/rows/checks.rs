@@ -1,12 +1,13 @@
 //! Rows of a check: files of one to four small bays with every verdict, some with different causes
-//! in two bays, some as deep as terms may be or deeper, some that are about pairs and lists.
+//! in two bays, some as deep as terms may be or deeper, some that are about pairs and lists, some about
+//! starting nums.
 
 use crate::answers::{Implementation, Model, VerdictAnswer};
 use crate::causes;
 use crate::draw::Draw;
 use crate::editions;
-use crate::format::{table_and_terms, write_parts};
-use crate::generate::{mutants, recipes};
+use crate::format::{self, edition_of, starting_part, write_parts, Parts};
+use crate::generate::{mutants, recipes, starts};
 use crate::limits;
 use crate::nodes::Node;
 use crate::rows::quota::fill;
@@ -54,6 +55,8 @@ enum Sort {
     Compound,
     /// Of edition 1, with what only edition 2 has.
     Later,
+    /// Of edition 3, with a starting num other than 0, or with a starting part of another length.
+    Starting,
 }
 
 #[derive(Debug, Clone, PartialEq, Eq, PartialOrd, Ord)]
@@ -76,12 +79,17 @@ fn wanted() -> BTreeMap<Class, usize> {
     wanted.insert((Sort::Small, causes::FILE_LENGTH, 0), 8);
     wanted.insert((Sort::Small, causes::OPENING, 0), 8);
     for bays in 1..=BAYS {
-        wanted.insert((Sort::Small, 0, bays), 5);
+        wanted.insert((Sort::Small, 0, bays), 4);
         wanted.insert((Sort::Small, causes::LAYOUT, bays), 2);
         for refusal in causes::TYPE_ENTRY..=causes::BAY_ONCE {
-            wanted.insert((Sort::Small, refusal, bays), 3);
+            wanted.insert((Sort::Small, refusal, bays), 2);
         }
         wanted.remove(&(Sort::Small, causes::TERM_SIZE, bays));
+        wanted.insert((Sort::Starting, 0, bays), 3);
+        wanted.insert((Sort::Starting, causes::STARTING, bays), 3);
+        for refusal in [causes::NO_TERM, causes::SCOPE, causes::BAY_ONCE] {
+            wanted.insert((Sort::Starting, refusal, bays), 1);
+        }
     }
     for (place, lowest) in OF_ONE_BAY.iter().enumerate() {
         for second in &OF_ONE_BAY[place + 1..] {
@@ -104,17 +112,15 @@ fn class(drawn: &Drawn) -> Class {
     let refusal = Model.check(&drawn.file).refusal;
     let opened = ![causes::FILE_LENGTH, causes::OPENING].contains(&refusal)
         && ![Sort::Compound, Sort::Later].contains(&drawn.sort);
-    let bays = if opened {
-        usize::from(drawn.file[3]) - 1
-    } else {
-        0
-    };
+    let edition = opened.then(|| edition_of(&drawn.file)).flatten();
+    let bays = edition.map_or(0, |edition| usize::from(drawn.file[3]) - edition.terms());
     (drawn.sort, refusal, bays)
 }
 
 fn drawn(draw: &mut Draw) -> Option<Drawn> {
-    let file = match draw.below(10) {
+    let file = match draw.below(12) {
         0 | 1 => recipes::small(draw).write(),
+        10 | 11 => starts::file(draw),
         2..=6 => mutants::of_recipe(draw, recipes::small),
         7 | 8 => mutants::of_bytes(draw, recipes::small),
         _ => {
@@ -134,6 +140,7 @@ fn sort_of(file: &[u8]) -> Sort {
         _ => compounds::refuses(file),
     };
     match second_cause(file) {
+        _ if is_about_starting(file, refusal) => Sort::Starting,
         Some(second) => Sort::TwoCauses(second),
         None if is_later(file, refusal) => Sort::Later,
         None if is_about => Sort::Compound,
@@ -152,16 +159,34 @@ fn is_later(file: &[u8], refusal: u32) -> bool {
     Model.check(&second).refusal != refusal
 }
 
+/// Whether the starting part of a file whose layout is kept has another length, or, where the file is
+/// accepted, a num other than 0.
+fn is_about_starting(file: &[u8], refusal: u32) -> bool {
+    let laid_out = refusal == 0 || refusal > causes::LAYOUT;
+    let edition = laid_out.then(|| edition_of(file)).flatten();
+    let parts = edition.and_then(|edition| format::parts(edition, file));
+    match parts.and_then(|parts| parts.starting_nums()) {
+        Some(nums) => refusal == 0 && nums.iter().any(|num| *num != 0),
+        None => laid_out,
+    }
+}
+
 /// The second lowest cause that fits a bay taken by itself, every other bay being unit.
 fn second_cause(file: &[u8]) -> Option<u32> {
     if Model.check(file).refusal < causes::NO_TERM {
         return None;
     }
-    let (table, terms) = table_and_terms(file)?;
+    let Parts {
+        table,
+        starting,
+        terms,
+    } = format::parts(edition_of(file)?, file)?;
     let alone = |bay: usize| {
         let mut parts = vec![table.to_vec()];
-        parts.resize(1 + terms.len(), vec![tags::UNIT]);
-        parts[1 + bay] = terms[bay].to_vec();
+        parts.extend(starting.map(<[u8]>::to_vec));
+        parts.extend(terms.iter().map(|_| vec![tags::UNIT]));
+        let at = parts.len() - terms.len() + bay;
+        parts[at] = terms[bay].to_vec();
         Model.check(&write_parts(file[2], &parts)).refusal
     };
     let found: BTreeSet<u32> = (0..terms.len()).map(alone).collect();
@@ -188,6 +213,10 @@ fn deep(draw: &mut Draw) -> Vec<u8> {
     let mut parts = vec![table, term];
     if draw.one_in(2) {
         parts.push(vec![tags::UNIT]);
+    }
+    let bays = parts.len() - 1;
+    if edition.starting {
+        parts.insert(1, starting_part(&starts::nums(draw, edition, bays)));
     }
     write_parts(edition.number, &parts)
 }

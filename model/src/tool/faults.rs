@@ -3,16 +3,47 @@
 pub mod bytes;
 pub mod entries;
 pub mod marks;
+pub mod starting;
 pub mod terms;
 pub mod typing;
 pub mod usage;
 
 use crate::editions::{self, Edition};
-use crate::format::{pairs, table_and_terms};
+use crate::format::{self, pairs};
 use crate::nodes::{Node, FORMS};
 use crate::table::{entries_of, Entry};
 use crate::tool::text::spot::Spot;
 use std::fmt;
+
+/// A part of a file.
+#[derive(Debug, Clone, Copy, PartialEq, Eq)]
+pub enum Part {
+    Table,
+    Starting,
+    /// The term of that bay.
+    Bay(usize),
+}
+
+impl Part {
+    /// The part of that number, 0 first, in a file of that edition.
+    pub fn of(edition: Edition, number: usize) -> Part {
+        match number.checked_sub(edition.terms()) {
+            Some(bay) => Part::Bay(bay),
+            None if number == 0 => Part::Table,
+            None => Part::Starting,
+        }
+    }
+}
+
+impl fmt::Display for Part {
+    fn fmt(&self, f: &mut fmt::Formatter<'_>) -> fmt::Result {
+        match self {
+            Part::Table => write!(f, "the type table"),
+            Part::Starting => write!(f, "the starting part"),
+            Part::Bay(bay) => write!(f, "bay {bay}"),
+        }
+    }
+}
 
 /// Where a fault is.
 #[derive(Debug, Clone, PartialEq, Eq)]
@@ -20,8 +51,10 @@ pub enum Place {
     File,
     Opening,
     /// The pair of that part.
-    Pair(usize),
+    Pair(Part),
     Entry(usize),
+    /// The starting part.
+    Starting,
     /// A bay, the position of a node among its nodes, and the path to it.
     Node(usize, usize, String),
 }
@@ -31,9 +64,9 @@ impl fmt::Display for Place {
         match self {
             Place::File => write!(f, "the file as a whole"),
             Place::Opening => write!(f, "the opening bytes"),
-            Place::Pair(0) => write!(f, "the pair of the type table"),
-            Place::Pair(part) => write!(f, "the pair of bay {}", part - 1),
-            Place::Entry(number) => write!(f, "the type table, entry {number}"),
+            Place::Pair(part) => write!(f, "the pair of {part}"),
+            Place::Entry(number) => write!(f, "{}, entry {number}", Part::Table),
+            Place::Starting => write!(f, "{}", Part::Starting),
             Place::Node(bay, _, path) => write!(f, "bay {bay}, {path}"),
         }
     }
@@ -61,8 +94,8 @@ pub fn fault_in(file: &[u8], spots: &[Vec<Spot>]) -> Option<Fault> {
 
 fn find(file: &[u8], spots: &[Vec<Spot>]) -> Result<(), Fault> {
     bytes::length(file)?;
-    bytes::opening(file)?;
-    bytes::layout(file)?;
+    let edition = bytes::opening(file)?;
+    bytes::layout(edition, file)?;
     let recipe = Parts {
         spots,
         ..Parts::of(file)
@@ -74,7 +107,8 @@ fn find(file: &[u8], spots: &[Vec<Spot>]) -> Result<(), Fault> {
     typing::fit_types(&recipe, &terms)?;
     typing::agree(&recipe, &terms)?;
     usage::once(&recipe, &terms)?;
-    usage::bays_are_many(&recipe, &terms)
+    usage::bays_are_many(&recipe, &terms)?;
+    starting::twice_the_bays(&recipe)
 }
 
 /// The parts of a file whose layout is sound, and where they begin.
@@ -82,6 +116,10 @@ pub struct Parts<'a> {
     /// The first, where the file says none.
     pub edition: Edition,
     pub entries: Vec<Entry>,
+    /// The starting part, where the edition has one.
+    starting: Option<&'a [u8]>,
+    /// The bays' starting nums, where these are what the starting part holds.
+    starts: Option<Vec<u16>>,
     pub terms: Vec<&'a [u8]>,
     offsets: Vec<usize>,
     spots: &'a [Vec<Spot>],
@@ -91,13 +129,17 @@ impl<'a> Parts<'a> {
     /// Empty where the layout is not sound.
     pub fn of(file: &'a [u8]) -> Parts<'a> {
         let opened = (file.len() >= 4).then_some(file);
-        let (table, terms) = opened.and_then(table_and_terms).unwrap_or_default();
-        let pairs = opened.and_then(pairs).unwrap_or_default();
         let said = opened.and_then(|file| Edition::of(file[2]));
+        let edition = said.unwrap_or(editions::FIRST);
+        let parts = opened.and_then(|file| format::parts(edition, file));
+        let parts = parts.unwrap_or_default();
+        let pairs = opened.and_then(pairs).unwrap_or_default();
         Parts {
-            edition: said.unwrap_or(editions::FIRST),
-            entries: entries_of(table),
-            terms,
+            edition,
+            entries: entries_of(parts.table),
+            starting: parts.starting,
+            starts: parts.starting.and_then(|_| parts.starting_nums()),
+            terms: parts.terms,
             offsets: pairs.iter().map(|pair| pair.offset).collect(),
             spots: &[],
         }
@@ -113,9 +155,25 @@ impl<'a> Parts<'a> {
         self.offsets.first().copied().unwrap_or(0)
     }
 
+    /// The starting part, where it is of another length than the bays' starting nums.
+    pub fn other_starting_part(&self) -> Option<&'a [u8]> {
+        self.starting.filter(|_| self.starts.is_none())
+    }
+
+    /// The bay's starting num, where the file says one.
+    pub fn start(&self, bay: usize) -> Option<u16> {
+        self.starts.as_ref()?.get(bay).copied()
+    }
+
+    /// Where the starting part begins.
+    pub fn starting_offset(&self) -> usize {
+        self.offsets.get(1).copied().unwrap_or(0)
+    }
+
     /// Where the bay's term begins.
     pub fn bay_offset(&self, bay: usize) -> usize {
-        self.offsets.get(bay + 1).copied().unwrap_or(0)
+        let part = self.edition.terms() + bay;
+        self.offsets.get(part).copied().unwrap_or(0)
     }
 
     /// Where the node at that position begins.

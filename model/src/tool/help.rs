@@ -22,7 +22,8 @@ difference or a file that cannot be read or written, 2 for wrong usage.
 const SHOW: &str = "\
 recipe show FILE [--ascii]
 
-Prints the types and each bay's term of a recipe file, in the form that `recipe write` reads.
+Prints the types, each bay's term and, in edition 3, what its setting starts with, in the form that
+`recipe write` reads.
 For a refused file it says the refusal, the place (part, path from the root, byte offset), what
 was found there, and shows as much of the file as it can; the exit status is then 1.
 
@@ -33,6 +34,7 @@ was found there, and shows as much of the file as it can; the exit status is the
   λx:num. e      a function usable many times     λ1 x:num. e     one usable once
   f a b          f applied to a, then to b        exch[t4]        a constant and its type
   setting3       the setting of bay 3             250             a num
+  start 250      before a term: the bay's setting starts with 250, not 0
   num ×ω unit    a pair usable many times         num ×1 unit     one usable once
   num listω      a list usable many times         num list1       one usable once
   (a, b)[t5]     a pair and its type              (a :: b)[t6]    a list's first element and the rest
@@ -54,6 +56,11 @@ added by themselves):
 
   bay 0 = unit
   bay 0 = exch[num ref →ω num →ω num] setting0 250
+
+A vent set by hand: its bay starts with 10 percent. A text with start is written as edition 3, and
+one without as edition 1 or 2, the least that has all its types and terms:
+
+  bay 0 = start 100 exch[num ref →ω num →ω num] setting0 250
 ";
 
 const RUN: &str = "\

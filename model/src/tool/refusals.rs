@@ -1,9 +1,9 @@
 //! The refusals in the documents' words, and the rules by name.
 
 /// The cause of each number, 1 first.
-const CAUSES: [&str; 18] = [
+const CAUSES: [&str; 19] = [
     "file length outside 12 to 8,192",
-    "first two bytes, edition, or n outside 2 to 17",
+    "first two bytes, edition, or n outside 2 to 17, in edition 3 outside 3 to 18",
     "pairs break the layout; table length no multiple of 3, or outside 9 to 768",
     "a type entry breaks its rule",
     "a part is not exactly one term: unknown tag, cut, bytes over",
@@ -20,6 +20,7 @@ const CAUSES: [&str; 18] = [
     "used handle applied",
     "two values meet, neither a rule, nor waiting, nor 16",
     "a seed of zero",
+    "a starting part whose length is not twice the number of bays",
 ];
 
 /// The rules in Fig. 5's order, 1 first, and document 02's two.

@@ -12,7 +12,7 @@ use crate::tool::judge::{self, Refusal};
 use crate::tool::problem::{message, Outcome};
 use crate::tool::text::layout::laid_out;
 use crate::tool::text::printer::Printer;
-use crate::tool::text::spelling::{Spelling, ASCII, UNICODE};
+use crate::tool::text::spelling::{Spelling, ASCII, START, STARTING, UNICODE};
 use crate::tool::text::type_texts::TypeTexts;
 use remains::{cut_text, first_bytes};
 use std::ffi::OsString;
@@ -69,6 +69,7 @@ pub fn shown(name: &str, file: &[u8], spelling: &'static Spelling) -> String {
     let texts = TypeTexts::new(&parts.entries, spelling);
     text += &edition(&parts);
     text += &types(&texts);
+    text += &starting_part(&parts);
     for (bay, part) in parts.terms.iter().enumerate() {
         text += &bay_text(&parts, bay, part, &texts);
     }
@@ -101,7 +102,7 @@ pub fn told(name: &str, refusal: &Refusal) -> String {
     format!("{first}# where: {place}{offset}\n# found: {found}\n")
 }
 
-/// `edition 2`; of the first edition nothing is said.
+/// `edition 2`, `edition 3`; of the first edition nothing is said.
 fn edition(parts: &Parts) -> String {
     match parts.edition {
         editions::FIRST => String::new(),
@@ -131,16 +132,35 @@ fn types(texts: &TypeTexts) -> String {
     text
 }
 
-/// `bay k : type =`, then the term.
+/// `starting [250, 0, 7]`, where these are not the nums of the bays.
+fn starting_part(parts: &Parts) -> String {
+    let bytes = match parts.other_starting_part() {
+        Some(bytes) => bytes,
+        None => return String::new(),
+    };
+    let numbers: Vec<String> = bytes.iter().map(u8::to_string).collect();
+    let lines: Vec<String> = numbers
+        .chunks(BYTES_IN_LINE)
+        .map(|b| b.join(", "))
+        .collect();
+    format!("\n{STARTING} [{}]\n", lines.join(",\n  "))
+}
+
+/// How many bytes of a starting part stand in a line.
+const BYTES_IN_LINE: usize = 16;
+
+/// `bay k : type =`, `start N` where the edition has it, then the term.
 fn bay_text(parts: &Parts, bay: usize, part: &[u8], texts: &TypeTexts) -> String {
     let reading = faults::terms::read(parts.edition, part);
+    let start = parts.start(bay);
     if reading.stopped.is_some() {
-        return cut_text(bay, &reading.nodes, part);
+        return cut_text(bay, start, &reading.nodes, part);
     }
     let printer = Printer::new(&reading.nodes, texts);
     let sound = Table::read(parts.edition, texts.entries).is_some();
     let root = printer.types[0].filter(|_| sound);
     let claim = root.map_or(String::new(), |t| format!(" : {}", texts.name(t)));
+    let start = start.map_or(String::new(), |num| format!("  {START} {num}\n"));
     let term = laid_out(&printer, 2);
-    format!("\nbay {bay}{claim} =\n  {term}\n")
+    format!("\nbay {bay}{claim} =\n{start}  {term}\n")
 }

@@ -8,6 +8,7 @@ pub mod parser;
 pub mod printer;
 pub mod spelling;
 pub mod spot;
+pub mod starts;
 pub mod term_parser;
 pub mod tokens;
 pub mod type_parser;

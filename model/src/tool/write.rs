@@ -60,7 +60,7 @@ fn judged(text: &[u8], even_refused: bool) -> Result<(Vec<u8>, String), String> 
     let no_text = |at| format!(": {}", hints::no_text(text, at));
     let text = std::str::from_utf8(text).map_err(|error| no_text(error.valid_up_to()))?;
     let read = read(text).map_err(|error| placed(&error))?;
-    let file = read.recipe.write();
+    let file = read.file();
     match judge::refusal_in(&file, &read.nodes) {
         Some(refusal) if !even_refused => Err(refused(&read, &refusal)),
         Some(refusal) => Ok((file, refusal.short())),
@@ -87,6 +87,7 @@ fn refused(read: &Read, refusal: &Refusal) -> String {
             let spot = read.nodes.get(*bay).and_then(|spots| spots.get(*at));
             spot.map(|spot| &spot.position)
         }
+        Place::Starting => read.starting.as_ref().map(|part| &part.position),
         Place::File | Place::Opening | Place::Pair(_) => None,
     };
     match position {

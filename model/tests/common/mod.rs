@@ -40,6 +40,12 @@ pub fn recipe_2(table: &str, term: &str) -> Vec<u8> {
     file_of(editions::SECOND.number, table, &[term])
 }
 
+/// The file of several bays, of edition 3: its table, its starting part and its terms.
+pub fn recipe_3(table: &str, starting: &str, terms: &[&str]) -> Vec<u8> {
+    let parts = [&[starting], terms].concat();
+    file_of(editions::THIRD.number, table, &parts)
+}
+
 /// A file with that edition byte.
 pub fn file_of(edition: u8, table: &str, terms: &[&str]) -> Vec<u8> {
     let mut parts = vec![bytes_of_hexadecimal(table)];

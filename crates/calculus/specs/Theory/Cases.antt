@@ -3,10 +3,11 @@ use mathlib.Core.Path.{_≡_, refl, subst}
 use mathlib.Core.Bool.{cond, true}
 use mathlib.Core.Option.{Option, some}
 use mathlib.Core.List.{List, [], _∷_, map}
-use Prim.Native.Nat.{suc, zero, ℕ}
+use Prim.Native.Nat.{_<_, suc, zero, ℕ}
 use native.Mathlib.Omega.{arith}
 use lib.Dec.{eqb}
-use lib.ListN.{replicate}
+use lib.ListN.{length, replicate}
+use Rattle.calculus.specs.Bytes.{two-byte-values}
 use Rattle.calculus.specs.Types.{once, many, unit-type, num-type, ref, fun}
 use Rattle.calculus.specs.Syntax.{unit, num, op, exch, thread, handle, Exp, var, name, const, lam, app, thread-of, holds, used, Config, at, Each, each-var, each-const, each-lam, each-app, sum-in, sum-all}
 use Rattle.calculus.specs.Typing.{TypeNumbers}
@@ -88,6 +89,10 @@ end τ s (a ∷ rest) = end τ (state-after τ s a) rest
 abbrev pub if-accepted : {A : Type 0} → ℕ → List A → List A
 if-accepted v l = cond (eqb v 0) l []
 
+-- every setting starts at 0
+abbrev zeros : List Exp → List ℕ
+zeros es = replicate (length es) 0
+
 -- the row with what is computed in place of what is claimed
 unfoldable pub computed : Row → Row
 computed r = record {
@@ -96,8 +101,8 @@ computed r = record {
   verdict-is = verdict (r .table) (r .terms);
   type-numbers = if-accepted (verdict (r .table) (r .terms)) (map (λ e. type-number (r .table) [] e) (r .terms));
   threads = r .threads;
-  rules = map answered (config-steps (type-at (r .table)) (start (r .table) (r .terms)) (map call (r .threads)));
-  last = if-accepted (verdict (r .table) (r .terms)) (end (type-at (r .table)) (start (r .table) (r .terms)) (map call (r .threads)) .config);
+  rules = map answered (config-steps (type-at (r .table)) (start (r .table) (zeros (r .terms)) (r .terms)) (map call (r .threads)));
+  last = if-accepted (verdict (r .table) (r .terms)) (end (type-at (r .table)) (start (r .table) (zeros (r .terms)) (r .terms)) (map call (r .threads)) .config);
 }
 
 abbrev pub refused-row : Table → Exp → ℕ → Row
@@ -132,7 +137,7 @@ unfolding computed end verdict every scoped scoped-const annotated annotated-con
 cases = refl
 
 -- case A's image has 18 bytes, as document 01 shows it
-case-A-length : image-length (start T3 (const unit ∷ []) .config) ≡ 18
+case-A-length : image-length (start T3 (0 ∷ []) (const unit ∷ []) .config) ≡ 18
 unfolding loaded sum-all sum-in size const-size
 case-A-length = refl
 
@@ -146,36 +151,41 @@ unfolding verdict every scoped scoped-const annotated annotated-const on-functio
 lowest = (refl, refl, refl, refl)
 
 -- case C among steps that answer something else: done, 14, 12
-case-C-answers : map answered (config-steps (type-at T7) (start T7 (term-C ∷ [])) (call 1 ∷ call 0 ∷ call 1 ∷ record { thread = 1; buffer = 13825 } ∷ call 1 ∷ call 3 ∷ call 1 ∷ call 1 ∷ [])) ≡
+case-C-answers : map answered (config-steps (type-at T7) (start T7 (0 ∷ []) (term-C ∷ [])) (call 1 ∷ call 0 ∷ call 1 ∷ record { thread = 1; buffer = 13825 } ∷ call 1 ∷ call 3 ∷ call 1 ∷ call 1 ∷ [])) ≡
     4 ∷ 14 ∷ 1 ∷ 12 ∷ 1 ∷ 14 ∷ 5 ∷ 0 ∷ []
 unfolding type-number const-number applied-number lambda-number both-number case-number with-components on-function test-entry result-number on-number loaded with-type bay-types config-steps state-left config-reply reply-of image-test limits-test each-test component-test expression-test is-settled is-awaited handle-for sum-all nodes sum-in step-of step-place step-redex step-case step-subject step-meeting step-call step-exchange when-done place within beside substitute plug function-at result-type future-and-handle coming new-types type-at read-deep read-at read-entry one-part two-parts
 case-C-answers = refl
 
 -- the types of its names
-case-C-names : end (type-at T7) (start T7 (term-C ∷ [])) (replicate 4 (call 1)) .names ≡ ref num-type ∷ unit-type ∷ num-type ∷ fun once num-type unit-type ∷ []
+case-C-names : end (type-at T7) (start T7 (0 ∷ []) (term-C ∷ [])) (replicate 4 (call 1)) .names ≡ ref num-type ∷ unit-type ∷ num-type ∷ fun once num-type unit-type ∷ []
 unfolding end type-number const-number applied-number lambda-number both-number case-number with-components on-function test-entry result-number on-number loaded with-type bay-types config-steps state-left config-reply reply-of image-test limits-test each-test component-test expression-test is-settled is-awaited handle-for sum-all nodes sum-in step-of step-place step-redex step-case step-subject step-meeting step-call step-exchange when-done place within beside substitute plug function-at result-type future-and-handle coming new-types type-at read-deep read-at read-entry one-part two-parts
 case-C-names = refl
 
 -- the last of the four applies handle 3 and binds future 2
-case-C-binds : (n : ConfigStep) × (at (config-steps (type-at T7) (start T7 (term-C ∷ [])) (replicate 4 (call 1))) 3 ≡ some n) × ConfigBinds n 2
+case-C-binds : (n : ConfigStep) × (at (config-steps (type-at T7) (start T7 (0 ∷ []) (term-C ∷ [])) (replicate 4 (call 1))) 3 ≡ some n) × ConfigBinds n 2
 unfolding type-number const-number applied-number lambda-number both-number case-number with-components on-function test-entry result-number on-number loaded with-type bay-types config-steps state-left config-reply reply-of image-test limits-test each-test component-test expression-test is-settled is-awaited handle-for sum-all nodes sum-in step-of step-place step-redex step-case step-subject step-meeting step-call step-exchange when-done place within beside substitute plug function-at result-type future-and-handle coming new-types type-at read-deep read-at read-entry one-part two-parts
 case-C-binds = (_, refl, (3, (_, refl, refl), refl))
 
 -- the third demand, of every run of it
-case-C-admitted : Admitted T7 (term-C ∷ [])
+case-C-admitted : Admitted T7 (0 ∷ []) (term-C ∷ [])
 unfolding nodes sum-in sum-all verdict every scoped scoped-const annotated annotated-const on-function on-once-function on-cell is-many test-entry type-number const-number on-number result-number applied-number lambda-number both-number case-number with-components outside-many linear-variable linear uses
 case-C-admitted = record {
   table = table-test-iff 5 T7 .0 (tables .2) .1;
   written = written;
+  starts = record { one-each = refl; two-byte = two-byte };
   bays = omega arith;
   size = omega arith;
   accepted = refl;
 }
   where
+    two-byte : (k n : ℕ) → at (0 ∷ []) k ≡ some n → n < two-byte-values
+    two-byte zero n h = let q : 0 ≡ n = cc in omega arith
+    two-byte (suc k) n h = absurd (clash (cc))
+
     written : (i : ℕ) (e : Exp) → at (term-C ∷ []) i ≡ some e → Each Writable e
     written zero e h = let q : term-C ≡ e = cc in subst (λ (u : Exp). Each Writable u) q
         (each-app (each-const (omega arith)) (each-lam (omega arith) (each-lam (omega arith) (each-app (each-var (omega arith)) (each-var (omega arith))))))
     written (suc i) e h = absurd (clash (cc))
 
-case-C-demand : (run : List ConfigCall) → ConfigDemand (type-at T7) (start T7 (term-C ∷ [])) run
+case-C-demand : (run : List ConfigCall) → ConfigDemand (type-at T7) (start T7 (0 ∷ []) (term-C ∷ [])) run
 case-C-demand = demand case-C-admitted

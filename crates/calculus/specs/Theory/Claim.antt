@@ -29,17 +29,17 @@ bays-typed {T} R es accepted = found-typed T es λ i e h.
     let (α, q, d, m) = accepted-iff R (length es) e n .0 a in
     (n, α, a .no-cause-9, q, d, m)
 
-module _ {T : Table} {es : List Exp} (a : Admitted T es) (run : List ConfigCall) where
+module _ {T : Table} {ns : List ℕ} {es : List Exp} (a : Admitted T ns es) (run : List ConfigCall) where
   -- the third demand
-  pub demand : ConfigDemand (type-at T) (start T es) run
-  demand = recipe-demand (bays-typed (a .table) es (a .accepted)) (a .written) (a .bays) (a .size) run
+  pub demand : ConfigDemand (type-at T) (start T ns es) run
+  demand = recipe-demand (bays-typed (a .table) es (a .accepted)) (a .starts) (a .written) (a .bays) (a .size) run
 
   -- every image, that loaded and those that steps are handed and leave, breaks no rule and no limit, and the node forms can write its indices, type
   -- numbers and nums
-  pub image-loaded : ImageRule (start T es .config) × EachAll Writable (start T es .config)
-  image-loaded = recipe-loaded (bays-typed (a .table) es (a .accepted)) (a .written) (a .bays) (a .size) run
+  pub image-loaded : ImageRule (start T ns es .config) × EachAll Writable (start T ns es .config)
+  image-loaded = recipe-loaded (bays-typed (a .table) es (a .accepted)) (a .starts) (a .written) (a .bays) (a .size) run
 
-  pub images : (i : ℕ) (n : ConfigStep) → at (config-steps (type-at T) (start T es) run) i ≡ some n →
+  pub images : (i : ℕ) (n : ConfigStep) → at (config-steps (type-at T) (start T ns es) run) i ≡ some n →
       (ImageRule (n .before .config) × EachAll Writable (n .before .config)) ×
       (ImageRule (state-after (type-at T) (n .before) (n .call) .config) × EachAll Writable (state-after (type-at T) (n .before) (n .call) .config))
-  images = recipe-images (bays-typed (a .table) es (a .accepted)) (a .written) (a .bays) (a .size) run
+  images = recipe-images (bays-typed (a .table) es (a .accepted)) (a .starts) (a .written) (a .bays) (a .size) run

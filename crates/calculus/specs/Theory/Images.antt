@@ -76,7 +76,7 @@ const-size-bound unit = omega arith
 const-size-bound (num n) = omega arith
 const-size-bound (op o t) = omega arith
 
-size-bound : (e : Exp) → size e ≤ 3 * nodes e
+pub size-bound : (e : Exp) → size e ≤ 3 * nodes e
 unfolding size nodes
 size-bound (var i) = omega arith
 size-bound (name k) = omega arith

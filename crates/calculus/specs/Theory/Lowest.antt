@@ -1,11 +1,13 @@
 -- The first cause that fits: laws of lists of causes.
 use mathlib.Core.Path.{_≡_, refl}
-use mathlib.Core.Bool.{Bool, _&&_, cond, false, true}
+use mathlib.Core.Bool.{Bool, _&&_, cond, false, not, true}
 use mathlib.Core.List.{List, [], _++_, _∷_, append-nil}
 use Prim.Native.Nat.{suc, zero, ℕ}
 use native.Mathlib.Omega.{arith}
-use lib.Dec.{T}
+use borrow.Author.Tests.{eqb-false, not-true}
+use lib.Dec.{T, eqb}
 use Rattle.calculus.specs.Lowest.{Cause, first-cause}
+use Rattle.calculus.specs.Theory.Tests.{and-parts}
 
 -- no cause of a list fits
 abbrev pub NoneFits : List Cause → Type 0
@@ -52,3 +54,22 @@ first-cause-parts (c ∷ cs) ds t e =
 
 pub none-fits : (cs : List Cause) → T (numbered cs) → first-cause cs ≡ 0 → NoneFits cs
 none-fits cs t e = first-cause-parts cs [] t (rw (append-nil cs) e) .0
+
+-- and back
+pub none-first : (cs : List Cause) → NoneFits cs → first-cause cs ≡ 0
+none-first [] n = refl
+none-first (c ∷ cs) (p, n) = rw p (none-first cs n)
+
+-- no cause of a list has the number k, which is not 0
+abbrev pub apart : ℕ → List Cause → Bool
+apart k [] = not (eqb 0 k)
+apart k (c ∷ cs) = not (eqb (c .number) k) && apart k cs
+
+-- so it is not answered
+pub not-answered : (k : ℕ) (cs : List Cause) → apart k cs ≡ true → ¬ (first-cause cs ≡ k)
+not-answered k [] t = eqb-false 0 k (not-true _ t)
+not-answered k (c ∷ cs) t = let (p, q) = and-parts (not (eqb (c .number) k)) (apart k cs) t in go (c .fits) (eqb-false (c .number) k (not-true _ p)) (not-answered k cs q)
+  where
+    go : (b : Bool) → ¬ (c .number ≡ k) → ¬ (first-cause cs ≡ k) → ¬ (cond b (c .number) (first-cause cs) ≡ k)
+    go true f g e = f e
+    go false f g e = g e

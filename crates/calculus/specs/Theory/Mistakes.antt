@@ -46,8 +46,8 @@ unfolding verdict every scoped scoped-const annotated annotated-const on-functio
 both-refused = (refl, refl)
 
 both-go-wrong : (τ : TypeNumbers) →
-    (map answered (config-steps τ (loaded (runs-twice ∷ []) (unit-type ∷ [])) (replicate 9 (call 1))) ≡ 4 ∷ 1 ∷ 1 ∷ 1 ∷ 1 ∷ 5 ∷ 1 ∷ 1 ∷ 16 ∷ []) ×
-    (map answered (config-steps τ (loaded (used-twice ∷ []) (unit-type ∷ [])) (replicate 6 (call 1))) ≡ 4 ∷ 1 ∷ 1 ∷ 5 ∷ 1 ∷ 16 ∷ [])
+    (map answered (config-steps τ (loaded (0 ∷ []) (runs-twice ∷ []) (unit-type ∷ [])) (replicate 9 (call 1))) ≡ 4 ∷ 1 ∷ 1 ∷ 1 ∷ 1 ∷ 5 ∷ 1 ∷ 1 ∷ 16 ∷ []) ×
+    (map answered (config-steps τ (loaded (0 ∷ []) (used-twice ∷ []) (unit-type ∷ [])) (replicate 6 (call 1))) ≡ 4 ∷ 1 ∷ 1 ∷ 5 ∷ 1 ∷ 16 ∷ [])
 unfolding loaded config-steps state-left config-reply reply-of image-test limits-test each-test component-test expression-test is-settled is-awaited handle-for sum-all nodes sum-in step-of step-place step-redex step-case step-subject step-meeting step-call step-exchange when-done place within beside substitute plug function-at result-type future-and-handle coming new-types
 both-go-wrong τ = (refl, refl)
 

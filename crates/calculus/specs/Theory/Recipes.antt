@@ -6,17 +6,17 @@ use mathlib.Core.List.{List, [], _++_, _∷_, map}
 use Prim.Native.Nat.{_+_, _-_, _<_, _≤_, suc, zero, ℕ}
 use native.Mathlib.Decide.{decLt}
 use native.Mathlib.Omega.{arith}
-use lib.ListN.{length, length-append, length-map, length-replicate, replicate}
+use lib.ListN.{length, length-append, length-map, length-replicate}
 use Rattle.calculus.specs.Types.{many, LinType, num-type, ref, multiplicity}
-use Rattle.calculus.specs.Syntax.{num, Exp, const, is-const, Component, thread-of, holds, open-for, used, at, Allowed, Each, each-const, EachAll, sum-in, sum-all}
+use Rattle.calculus.specs.Syntax.{num, Exp, is-const, Component, thread-of, holds, open-for, used, at, Allowed, Each, each-const, EachAll, sum-in, sum-all}
 use Rattle.calculus.specs.Typing.{TypeNumbers, NameTypes, of-num, no-once-nil, Derivation, d-const}
 use Rattle.calculus.specs.Names.{OnceName}
 use Rattle.calculus.specs.Theory.ConfigRuns.{ConfigCall, state-after, ConfigStep, config-steps, ConfigDemand}
-use Rattle.calculus.specs.Recipe.{setting-types, loaded}
+use Rattle.calculus.specs.Recipe.{setting-types, setting-with, loaded, Starts}
 use Rattle.calculus.specs.Limits.{max-bays, max-recipe-nodes}
 use Rattle.calculus.specs.Image.{nodes, nodes-all, WithinLimits, ImageRule, Writable}
 use Rattle.calculus.specs.Theory.Tests.{clash}
-use Rattle.calculus.specs.Theory.Lists.{append-below, append-right, append-cases, at-replicate, replicate-at}
+use Rattle.calculus.specs.Theory.Lists.{append-below, append-right, append-cases, at-bound, replicate-at}
 use Rattle.calculus.specs.Theory.Expressions.{more-names}
 use Rattle.calculus.specs.Theory.Configurations.{types-more, sum-append}
 use Rattle.calculus.specs.Theory.Sound.{Fits}
@@ -53,26 +53,33 @@ each-at Q [] f i c h = absurd (clash (cc))
 each-at Q (e ∷ es) f zero c h = let q : thread-of e ≡ c = cc in rw (← q) (f zero e refl)
 each-at Q (e ∷ es) f (suc i) c h = each-at Q es (λ i. f (suc i)) i c h
 
-start-each : (Q : Allowed) → Q .constant (num 0) → (es : List Exp) (αs : List LinType) → ((i : ℕ) (e : Exp) → at es i ≡ some e → Each Q e) →
-    EachAll Q (loaded es αs .config)
+-- the setting of a bay
+setting-at : (ns : List ℕ) (k : ℕ) {c : Component} → at (map setting-with ns) k ≡ some c → (n : ℕ) × (c ≡ setting-with n) × (at ns k ≡ some n)
+setting-at [] k h = absurd (clash (cc))
+setting-at (n ∷ ns) zero h = (n, cc, refl)
+setting-at (n ∷ ns) (suc k) h = setting-at ns k h
+
+start-each : (Q : Allowed) (ns : List ℕ) → ((i n : ℕ) → at ns i ≡ some n → Q .constant (num n)) → (es : List Exp) (αs : List LinType) → ((i : ℕ) (e : Exp) → at es i ≡ some e → Each Q e) →
+    EachAll Q (loaded ns es αs .config)
 unfolding loaded
-start-each Q zero-too es αs f = each-append Q (replicate (length es) (holds (const (num 0)))) (map thread-of es)
-    (λ k c h. rw (at-replicate (length es) _ k h .1) (each-const zero-too)) (each-at Q es f)
+start-each Q ns nums es αs f = each-append Q (map setting-with ns) (map thread-of es)
+    (λ k c h. let (n, p, q) = setting-at ns k h in rw p (each-const (nums k n q))) (each-at Q es f)
 
 -- what is loaded is within the limits
-nodes-settings : (b : ℕ) → nodes-all (replicate b (holds (const (num 0)))) ≡ b
+nodes-settings : (ns : List ℕ) → nodes-all (map setting-with ns) ≡ length ns
 unfolding sum-all sum-in nodes
-nodes-settings zero = refl
-nodes-settings (suc b) = omega (arith, nodes-settings b)
+nodes-settings [] = refl
+nodes-settings (n ∷ ns) = omega (arith, nodes-settings ns)
 
-start-within : (es : List Exp) (αs : List LinType) → length es ≤ max-bays → nodes-all (map thread-of es) ≤ max-recipe-nodes → WithinLimits (loaded es αs .config)
+start-within : (ns : List ℕ) (es : List Exp) (αs : List LinType) → length ns ≡ length es → length es ≤ max-bays → nodes-all (map thread-of es) ≤ max-recipe-nodes →
+    WithinLimits (loaded ns es αs .config)
 unfolding loaded
-start-within es αs p q = record {
-  few-names = rw (length-append (replicate (length es) (holds (const (num 0)))) (map thread-of es), length-replicate, length-map) (omega arith);
-  few-nodes = rw (sum-append (sum-in nodes) (replicate (length es) (holds (const (num 0)))) (map thread-of es), nodes-settings (length es)) (omega arith);
+start-within ns es αs m p q = record {
+  few-names = rw (length-append (map setting-with ns) (map thread-of es), length-map, length-map) (omega arith);
+  few-nodes = rw (sum-append (sum-in nodes) (map setting-with ns) (map thread-of es), nodes-settings ns) (omega arith);
 }
 
-module _ {τ : TypeNumbers} {es : List Exp} {αs : List LinType} (b : BaysTyped τ es αs) where
+module _ {τ : TypeNumbers} {ns : List ℕ} {es : List Exp} {αs : List LinType} (b : BaysTyped τ es αs) (starts : Starts ns (length es)) where
   no-once-name : (k : ℕ) → ¬ OnceName (setting-types (length es) ++ αs) k
   no-once-name k (α, t, m) = elim (decLt k (length es)) [
     | yes l ↦
@@ -87,19 +94,19 @@ module _ {τ : TypeNumbers} {es : List Exp} {αs : List LinType} (b : BaysTyped 
         clash (cc)
   ]
 
-  start-at : (k : ℕ) (c : Component) → at (loaded es αs .config) k ≡ some c →
-      ((k < length es) × (c ≡ holds (const (num 0)))) ⊎
+  start-at : (k : ℕ) (c : Component) → at (loaded ns es αs .config) k ≡ some c →
+      ((k < length es) × (n : ℕ) × (c ≡ setting-with n)) ⊎
       ((i : ℕ) × (e : Exp) × (α : LinType) × (c ≡ thread-of e) × (k ≡ length es + i) × (at αs i ≡ some α) × (multiplicity α ≡ many) × Derivation τ (setting-types (length es)) [] e α)
   unfolding loaded
-  start-at k c h = elim (append-cases (replicate (length es) (holds (const (num 0)))) (map thread-of es) k h) [
-    | inl q ↦ inl (at-replicate (length es) (holds (const (num 0))) k q)
+  start-at k c h = elim (append-cases (map setting-with ns) (map thread-of es) k h) [
+    | inl q ↦ let (n, p, a) = setting-at ns k q in inl (omega (arith, at-bound ns k a, starts .one-each), n, p)
     | inr q ↦ let r = bay-at b (q .0) c (q .2) in
-        inr (q .0, r .0, r .1, r .2, (q .1 ∙ rw length-replicate), r .3, r .4, r .5)
+        inr (q .0, r .0, r .1, r .2, (q .1 ∙ rw (length-map, starts .one-each)), r .3, r .4, r .5)
   ]
 
-  start-fits : (k : ℕ) (c : Component) → at (loaded es αs .config) k ≡ some c → Fits τ (setting-types (length es) ++ αs) (loaded es αs .config) k c
+  start-fits : (k : ℕ) (c : Component) → at (loaded ns es αs .config) k ≡ some c → Fits τ (setting-types (length es) ++ αs) (loaded ns es αs .config) k c
   start-fits k c h = elim (start-at k c h) [
-    | inl q ↦ rw (q .1) (
+    | inl q ↦ rw (q .2) (
       num-type,
       append-below (setting-types (length es)) αs k (rw length-replicate (q .0)) ∙ replicate-at (length es) (ref num-type) k (q .0),
       is-const,
@@ -114,25 +121,25 @@ module _ {τ : TypeNumbers} {es : List Exp} {αs : List LinType} (b : BaysTyped 
     )
   ]
 
-  start-plain : (k : ℕ) (c : Component) → at (loaded es αs .config) k ≡ some c → ((v : Exp) × (c ≡ holds v)) ⊎ ((e : Exp) × (c ≡ thread-of e))
-  start-plain k c h = elim (start-at k c h) [ inl q ↦ inl (_, q .1) | inr q ↦ inr (q .1, q .3) ]
+  start-plain : (k : ℕ) (c : Component) → at (loaded ns es αs .config) k ≡ some c → ((v : Exp) × (c ≡ holds v)) ⊎ ((e : Exp) × (c ≡ thread-of e))
+  start-plain k c h = elim (start-at k c h) [ inl q ↦ inl (_, q .2) | inr q ↦ inr (q .1, q .3) ]
 
-  no-handle : (z y : ℕ) → ¬ (at (loaded es αs .config) z ≡ some (open-for y))
+  no-handle : (z y : ℕ) → ¬ (at (loaded ns es αs .config) z ≡ some (open-for y))
   no-handle z y h = elim (start-plain z (open-for y) h) [
     | inl q ↦ let e = q .1 in clash (cc)
     | inr q ↦ let e = q .1 in clash (cc)
   ]
 
-  none-used : (z : ℕ) → ¬ (at (loaded es αs .config) z ≡ some used)
+  none-used : (z : ℕ) → ¬ (at (loaded ns es αs .config) z ≡ some used)
   none-used z h = elim (start-plain z used h) [
     | inl q ↦ let e = q .1 in clash (cc)
     | inr q ↦ let e = q .1 in clash (cc)
   ]
 
-  pub start-sound : SoundState τ (loaded es αs)
+  pub start-sound : SoundState τ (loaded ns es αs)
   unfolding loaded
   start-sound = record {
-    sizes = simp (length-append, length-replicate, length-map) (ap (λ n. length es + n) (bays-length b));
+    sizes = simp (length-append, length-replicate, length-map) (rw (starts .one-each) (ap (λ n. length es + n) (bays-length b)));
     fits = start-fits;
     one-handle = λ y z z′ p q. absurd (no-handle z y p);
     linear = λ k o. absurd (no-once-name k o);
@@ -144,15 +151,15 @@ module _ {τ : TypeNumbers} {es : List Exp} {αs : List LinType} (b : BaysTyped 
   -- be written
   module _ (written : (i : ℕ) (e : Exp) → at es i ≡ some e → Each Writable e) (bays : length es ≤ max-bays) (size : nodes-all (map thread-of es) ≤ max-recipe-nodes)
       (run : List ConfigCall) where
-    start-good : Good τ (loaded es αs)
-    start-good = (start-sound, start-each Writable (omega arith) es αs written, start-within es αs bays size)
+    start-good : Good τ (loaded ns es αs)
+    start-good = (start-sound, start-each Writable ns (starts .two-byte) es αs written, start-within ns es αs (starts .one-each) bays size)
 
-    pub recipe-loaded : ImageRule (loaded es αs .config) × EachAll Writable (loaded es αs .config)
+    pub recipe-loaded : ImageRule (loaded ns es αs .config) × EachAll Writable (loaded ns es αs .config)
     recipe-loaded = good-image start-good
 
-    pub recipe-images : (i : ℕ) (n : ConfigStep) → at (config-steps τ (loaded es αs) run) i ≡ some n →
+    pub recipe-images : (i : ℕ) (n : ConfigStep) → at (config-steps τ (loaded ns es αs) run) i ≡ some n →
         (ImageRule (n .before .config) × EachAll Writable (n .before .config)) × (ImageRule (state-after τ (n .before) (n .call) .config) × EachAll Writable (state-after τ (n .before) (n .call) .config))
-    recipe-images = run-images τ (loaded es αs) start-good run
+    recipe-images = run-images τ (loaded ns es αs) start-good run
 
-    pub recipe-demand : ConfigDemand τ (loaded es αs) run
-    recipe-demand = run-demand (loaded es αs) start-sound run (λ i n h. recipe-images i n h .0 .0)
+    pub recipe-demand : ConfigDemand τ (loaded ns es αs) run
+    recipe-demand = run-demand (loaded ns es αs) start-sound run (λ i n h. recipe-images i n h .0 .0)

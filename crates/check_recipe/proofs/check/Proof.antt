@@ -7,7 +7,7 @@ use native.Mathlib.Omega.{arith}
 use borrow.Author.Tests.{not-true, not-false}
 use borrow.Author.Needs.{needs}
 use Rattle.recipe_file.specs.File.{edition-of}
-use Rattle.check_recipe.proofs.Verdicts.{Admitted, admitted, all-pass, file-refused, filed, parts-refused, refused-linear, refused-once, refused-untyped}
+use Rattle.check_recipe.proofs.Verdicts.{Admitted, admitted, all-pass, file-refused, filed, parts-refused, refused-linear, refused-once, refused-starting, refused-untyped}
 use Rattle.check_recipe.proofs.check.Statement.{statement}
 use Rattle.check_recipe.proofs.check.Tie as tie
 
@@ -89,18 +89,38 @@ returns-5 c =
     c .refused5 .ensures
     ∙ refused-once (eighth (at-8 k)) (k .before .before .types-of .ensures) (not-false _ (k .if3 .left)) (tenth j) (not-true _ (c .before .if5 .taken))
 
-bay-count-requires : tie.Need-bay-count-requires
-bay-count-requires c κs = let e = at-8 (at-9 (c .before .before .before)) in (eighth e .scoped .terms .laid, says (first e))
+-- past cause 11
+abbrev at-10 : tie.Else5 → tie.Else4
+at-10 c = c .before .before
 
-cast-t9 : tie.Need-cast-t9
-cast-t9 c = omega (arith, eighth (at-8 (at-9 (c .before .before .before .before))) .scoped .terms .laid .has-parts .high, c .bay-count .ensures)
+starting-breaks-requires : tie.Need-starting-breaks-requires
+starting-breaks-requires c κs = let e = at-8 (at-9 (at-10 c)) in (eighth e .scoped .terms .laid, says (first e))
+
+refused-requires-6 : tie.Need-refused-requires-6
+refused-requires-6 c κs = search needs
 
 returns-6 : tie.Need-returns-6
 returns-6 c =
-    let j = c .before .before .before .before in
+    let i = c .before .before .before in
+    let j = at-10 i in
     let k = at-9 j in
-    all-pass (eighth (at-8 k)) (k .before .before .types-of .ensures) (not-false _ (k .if3 .left)) (tenth j)
-    (not-false _ (c .before .before .if5 .left)) _ (c .bay-count .ensures)
+    c .refused6 .ensures
+    ∙ refused-starting (eighth (at-8 k)) (k .before .before .types-of .ensures) (not-false _ (k .if3 .left)) (tenth j) (not-false _ (i .if5 .left))
+    (c .before .before .starting-breaks .ensures) (c .before .if6 .taken)
+
+bay-count-requires : tie.Need-bay-count-requires
+bay-count-requires c κs = let e = at-8 (at-9 (at-10 (c .before .before .before))) in (eighth e .scoped .terms .laid, says (first e))
+
+cast-t10 : tie.Need-cast-t10
+cast-t10 c = omega (arith, eighth (at-8 (at-9 (at-10 (c .before .before .before .before)))) .scoped .terms .laid .has-parts .high, c .bay-count .ensures)
+
+returns-7 : tie.Need-returns-7
+returns-7 c =
+    let i = c .before .before .before .before in
+    let j = at-10 i in
+    let k = at-9 j in
+    all-pass (eighth (at-8 k)) (k .before .before .types-of .ensures) (not-false _ (k .if3 .left)) (tenth j) (not-false _ (i .if5 .left))
+    (c .before .before .before .starting-breaks .ensures) (c .before .before .if6 .left) _ (c .bay-count .ensures)
 
 pub check-spec : {M : Type 1} → statement M
 check-spec =
@@ -120,6 +140,9 @@ check-spec =
     returns-4
     refused-requires-5
     returns-5
+    starting-breaks-requires
+    refused-requires-6
+    returns-6
     bay-count-requires
-    cast-t9
-    returns-6)
+    cast-t10
+    returns-7)

@@ -7,9 +7,10 @@ use native.Mathlib.Omega.{arith}
 use lib.Dec.{eqb, ltb}
 use lib.ListN.{length}
 use Rattle.calculus.specs.Lowest.{Lowest}
-use Rattle.calculus.specs.Causes.{bay-once-cause, buffer-cause, file-length-cause}
+use Rattle.calculus.specs.Causes.{buffer-cause, file-length-cause, seed-cause, starting-cause}
 use Rattle.calculus.specs.Limits.{max-file-length, min-file-length}
 use Rattle.calculus.specs.Theory.Ascending.{ascending-lowest, first-cause-at-most}
+use Rattle.calculus.specs.Theory.Lowest.{not-answered}
 use Rattle.calculus.specs.Theory.Tests.{eqb-complete, eqb-differ, eqb-sound, ltb-complete}
 use Rattle.recipe_file.specs.File.{cause-1, outside}
 use Rattle.check_spec.specs.Verdict.{accepted, check-causes, refusal, refused, verdict-of}
@@ -35,18 +36,23 @@ pub lowest-cause : (file : List ℕ) → Lowest (check-causes file) (refusal fil
 unfolding refusal
 lowest-cause file =
     ascending-lowest 0 (check-causes file)
-    (omega arith, (omega arith, (omega arith, (omega arith, (omega arith, (omega arith, (omega arith, (omega arith, (omega arith, (omega arith, (omega arith, tt)))))))))))
+    (omega arith, (omega arith, (omega arith, (omega arith, (omega arith, (omega arith, (omega arith, (omega arith, (omega arith, (omega arith, (omega arith, (omega arith, tt))))))))))))
 
--- the causes of a file end with 11
-pub refusal-small : (file : List ℕ) → refusal file ≤ bay-once-cause
+-- the causes of a file end with 19
+pub refusal-small : (file : List ℕ) → refusal file ≤ starting-cause
 unfolding refusal
 refusal-small file =
-    first-cause-at-most bay-once-cause (check-causes file)
-    (omega arith, (omega arith, (omega arith, (omega arith, (omega arith, (omega arith, (omega arith, (omega arith, (omega arith, (omega arith, (omega arith, tt)))))))))))
+    first-cause-at-most starting-cause (check-causes file)
+    (omega arith, (omega arith, (omega arith, (omega arith, (omega arith, (omega arith, (omega arith, (omega arith, (omega arith, (omega arith, (omega arith, (omega arith, tt))))))))))))
 
--- so none has the number 12
+-- and none has the number 12 of a load, or 18 of a test load
 pub not-12 : (file : List ℕ) → ¬ (refusal file ≡ buffer-cause)
-not-12 file e = omega (arith, refusal-small file)
+unfolding refusal
+not-12 file = not-answered buffer-cause (check-causes file) refl
+
+pub not-18 : (file : List ℕ) → ¬ (refusal file ≡ seed-cause)
+unfolding refusal
+not-18 file = not-answered seed-cause (check-causes file) refl
 
 or-right : (a b : Bool) → b ≡ true → (a || b) ≡ true
 or-right true b e = refl

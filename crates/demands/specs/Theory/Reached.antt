@@ -15,15 +15,14 @@ use Rattle.calculus.specs.State.{State}
 use Rattle.calculus.specs.Reply.{refuses, reply-of}
 use Rattle.calculus.specs.Causes.{image-cause, used-handle-cause, wrong-kind-cause}
 use Rattle.calculus.specs.Table.{type-at}
-use Rattle.calculus.specs.Recipe.{start}
 use Rattle.calculus.specs.Theory.Tests.{ltb-not}
 use Rattle.calculus.specs.Theory.ImageTest.{image-test-iff}
 use Rattle.calculus.specs.Theory.ConfigRuns.{ConfigCall, ConfigDemand, config-reply, config-steps, state-after}
 use Rattle.calculus.specs.Theory.Claim.{demand}
 use Rattle.recipe_table.specs.Entries.{type-table}
-use Rattle.check_spec.specs.Bays.{bay-terms}
 use Rattle.check_spec.specs.Verdict.{refusal}
 use Rattle.check_spec.specs.Theory.Accepted.{admitted}
+use Rattle.load_spec.specs.Starting.{starting-state}
 use Rattle.load_spec.specs.Theory.Image.{says}
 use Rattle.image_layout.specs.Slice.{names}
 use Rattle.image.specs.Configuration.{config-of, image-of}
@@ -92,5 +91,5 @@ module _ {τ : TypeNumbers} {s : State} (r : Reached τ s) where
       (λ e. a (q ∙ e), λ e. b (q ∙ e), λ e. c (q ∙ e))
 
 -- the state that an accepted recipe is loaded to
-pub reached-start : (file : List ℕ) → Bytes file → refusal file ≡ 0 → Reached (type-at (type-table file)) (start (type-table file) (bay-terms file))
+pub reached-start : (file : List ℕ) → Bytes file → refusal file ≡ 0 → Reached (type-at (type-table file)) (starting-state file)
 reached-start file b accepted = record { kept = all-kept file b accepted; claim = demand (admitted (says file b accepted)) }

@@ -32,7 +32,7 @@ use Rattle.recipe_file.specs.File.{bays}
 use Rattle.check_spec.specs.Verdict.{accepted, refusal, refused, bay-type-number, bay-type-numbers, verdict-of}
 use Rattle.check_spec.specs.Recipe.{Recipe}
 use Rattle.check_spec.specs.Theory.Answers.{refusal-is, accepted-is}
-use Rattle.check_spec.specs.Theory.Accepted.{accepted-exactly, getD-at, no-cause, no-cause-iff, one-recipe, table-is, terms-are, type-answered}
+use Rattle.check_spec.specs.Theory.Accepted.{accepted-exactly, getD-at, no-cause, no-cause-iff, one-recipe, table-is, nums-are, terms-are, type-answered}
 use Rattle.image.specs.Configuration.{image-of, config-of}
 use Rattle.image.specs.Stands.{image-stands}
 use Rattle.image.specs.Theory.Exactly.{image-exactly, image-written}
@@ -50,18 +50,18 @@ use Rattle.demands.specs.Demands.{Accepted, ImageOf, LacksRoom, Means, M
 
 -- ---- a check
 
-recipe-accepted : {file : List ℕ} {T : Table} {es : List Exp} → Recipe file T es → refusal file ≡ 0
+recipe-accepted : {file : List ℕ} {T : Table} {ns : List ℕ} {es : List Exp} → Recipe file T ns es → refusal file ≡ 0
 recipe-accepted {file} r = no-cause-iff file .1 (no-cause r)
 
 accepts : (file : List ℕ) → Bytes file → (verdict-of file .refusal ≡ 0) ↔ Accepted file
-accepts file b = (λ e. accepted-exactly file b .0 (sym (refusal-is file) ∙ e), λ (T, es, r). refusal-is file ∙ recipe-accepted r)
+accepts file b = (λ e. accepted-exactly file b .0 (sym (refusal-is file) ∙ e), λ (T, ns, es, r). refusal-is file ∙ recipe-accepted r)
 
 past-end : (l : List ℕ) (k : ℕ) → length l ≤ k → getD l k 0 ≡ 0
 past-end [] k h = refl
 past-end (n ∷ l) zero h = absurd (omega arith)
 past-end (n ∷ l) (suc k) h = past-end l k (omega arith)
 
-module _ {file : List ℕ} {T : Table} {es : List Exp} (r : Recipe file T es) where
+module _ {file : List ℕ} {T : Table} {ns : List ℕ} {es : List Exp} (r : Recipe file T ns es) where
   verdict-is : verdict-of file ≡ accepted file
   verdict-is = accepted-is file (recipe-accepted r)
 
@@ -105,24 +105,24 @@ loads file out b = (
         | yes l ↦ absurd (let s = short file (length out) l in omega arith)
         | no l ↦ (accepts file b .0 (refusal-is file ∙ sym (long file (length out) (omega arith)) ∙ z), omega arith)
       ],
-  λ (a, l). load-refusal-is file (length out) ∙ long file (length out) l ∙ recipe-accepted (a .2),
+  λ (a, l). load-refusal-is file (length out) ∙ long file (length out) l ∙ recipe-accepted (a .3),
 )
 
-module _ {file : List ℕ} {T : Table} {es : List Exp} (r : Recipe file T es) (out : List ℕ) (l : max-image-length ≤ length out) where
+module _ {file : List ℕ} {T : Table} {ns : List ℕ} {es : List Exp} (r : Recipe file T ns es) (out : List ℕ) (l : max-image-length ≤ length out) where
   no-refusal : load-refusal file (length out) ≡ 0
   no-refusal = long file (length out) l ∙ recipe-accepted r
 
-  starting-is : starting-image file ≡ image-of (start T es .config)
+  starting-is : starting-image file ≡ image-of (start T ns es .config)
   unfolding starting-image
-  starting-is = rw (table-is r, terms-are r) refl
+  starting-is = rw (table-is r, nums-are r, terms-are r) refl
 
-  loaded-answer : loaded-of file (length out) ≡ record { refusal = 0; bays = length es; types = verdict-of file .types; length = length (image-of (start T es .config)) }
+  loaded-answer : loaded-of file (length out) ≡ record { refusal = 0; bays = length es; types = verdict-of file .types; length = length (image-of (start T ns es .config)) }
   loaded-answer = rw (loaded-is file (length out) no-refusal, verdict-is r, starting-is, r .count) refl
 
-  loaded-image : Bytes file → Written (image-of (start T es .config)) out (out-after-load file out)
+  loaded-image : Bytes file → Written (image-of (start T ns es .config)) out (out-after-load file out)
   loaded-image b =
       let f = starting-fits file b (recipe-accepted r) in
-      let f′ : length (image-of (start T es .config)) ≤ max-image-length = rw starting-is at f in
+      let f′ : length (image-of (start T ns es .config)) ≤ max-image-length = rw starting-is at f in
       (left-loaded file out no-refusal ∙ rw starting-is refl, omega arith)
 
 -- ---- a step
@@ -284,8 +284,8 @@ step-demand s b x out = record {
     later : (n : ℕ) → image-cause < n → Later (Refused n)
     later n l = record { not-12 = λ e. let q : n ≡ buffer-cause = cc in omega arith; not-13 = λ e. let q : n ≡ image-cause = cc in omega arith }
 
-recipe-demand : (file : List ℕ) → Bytes file → (T : Table) (es : List Exp) → Recipe file T es → RecipeDemand file T es
-recipe-demand file b T es r = record {
+recipe-demand : (file : List ℕ) → Bytes file → (T : Table) (ns : List ℕ) (es : List Exp) → Recipe file T ns es → RecipeDemand file T ns es
+recipe-demand file b T ns es r = record {
   bays = bays-are r;
   types = types-are r;
   types-beyond = types-beyond r;
@@ -296,7 +296,7 @@ recipe-demand file b T es r = record {
 pub second-demand : SecondDemand
 second-demand = record {
   accepted = accepts;
-  one-recipe = λ file T T′ es es′ r r′. one-recipe r r′;
+  one-recipe = λ file T T′ ns ns′ es es′ r r′. one-recipe r r′;
   types-length = types-length;
   loaded = loads;
   recipe = recipe-demand;

@@ -16,13 +16,11 @@ use Rattle.calculus.specs.Reply.{refuses}
 use Rattle.calculus.specs.Theory.ConfigRuns.{state-after, config-reply}
 use Rattle.calculus.specs.Bytes.{Bytes}
 use Rattle.calculus.specs.Table.{type-at}
-use Rattle.calculus.specs.Recipe.{start}
 use Rattle.calculus.specs.Theory.Claim.{demand, images}
 use Rattle.recipe_table.specs.Entries.{type-table}
-use Rattle.check_spec.specs.Bays.{bay-terms}
 use Rattle.check_spec.specs.Verdict.{accepted, refusal}
 use Rattle.check_spec.specs.Theory.Accepted.{admitted}
-use Rattle.load_spec.specs.Starting.{starting-image}
+use Rattle.load_spec.specs.Starting.{starting-image, starting-state}
 use Rattle.load_spec.specs.Loading.{loaded-of, out-after-load}
 use Rattle.load_spec.specs.Theory.Image.{says}
 use Rattle.load_spec.specs.Theory.Answers.{long as long-enough}
@@ -107,7 +105,7 @@ module _ (τ : TypeNumbers) (s : State) (kept : AllKept τ s) (claim : (run : Li
 
 -- document 01's third demand
 module _ (file : List ℕ) (b : Bytes file) (accepted : refusal file ≡ 0) where
-  pub all-kept : AllKept (type-at (type-table file)) (start (type-table file) (bay-terms file))
+  pub all-kept : AllKept (type-at (type-table file)) (starting-state file)
   all-kept run i n h =
       let ((k, w), (k′, w′)) = images (admitted (says file b accepted)) run i n h in
       (record { keeps = k; writable = w }, record { keeps = k′; writable = w′ })
@@ -121,4 +119,4 @@ pub third-demand : ThirdDemand
 unfolding starting-image
 third-demand file b v out long calls =
     let a = sym (refusal-is file) ∙ v in
-    rw (loaded-is file b a out long) (run-demand (type-at (type-table file)) (start (type-table file) (bay-terms file)) (all-kept file b a) (demand (admitted (says file b a))) calls)
+    rw (loaded-is file b a out long) (run-demand (type-at (type-table file)) (starting-state file) (all-kept file b a) (demand (admitted (says file b a))) calls)

@@ -6,22 +6,23 @@ use mathlib.Core.List.{List, [], _∷_, _++_, map}
 use Prim.Native.Nat.{ℕ, zero, suc, _%_, _+_, _<_, _≤_}
 use native.Mathlib.Nat.{mod-lt}
 use native.Mathlib.Omega.{arith}
-use lib.ListN.{length, replicate, set}
+use lib.ListN.{length, set}
 use Rattle.calculus.specs.Bytes.{Bytes}
 use Rattle.calculus.specs.Typing.{TypeNumbers}
-use Rattle.calculus.specs.Syntax.{num, unit, const, name, app, Component, thread-of, holds, used, Config, Exp, at}
+use Rattle.calculus.specs.Syntax.{unit, const, name, app, Component, thread-of, holds, used, Config, Exp, at}
 use Rattle.calculus.specs.Reduction.{plug, Rule, Reduces, beta, thread-new, future-deref, future-deref-exch, handle-new, handle-bind, cell-new, cell-exch, future-deref-case, case-both}
 use Rattle.calculus.specs.Step.{step-of}
 use Rattle.calculus.specs.Limits.{max-image-length, max-names}
 use Rattle.calculus.specs.Image.{within-limits}
 use Rattle.calculus.specs.State.{State}
 use Rattle.calculus.specs.Reply.{Reply, moved, waits, finished, refuses, reply-of}
-use Rattle.calculus.specs.Recipe.{loaded, start}
+use Rattle.calculus.specs.Recipe.{setting-with, loaded}
 use Rattle.calculus.specs.Table.{type-at}
 use Rattle.calculus.specs.Theory.Tests.{and-parts, clash}
 use Rattle.calculus.specs.Theory.Lists.{append-left, append-right, at-below, set-other}
 use Rattle.calculus.specs.Theory.Replies.{moved-answer}
 use Rattle.calculus.specs.Theory.ConfigRuns.{ConfigStep, ReplyGoes, config-steps, state-after, state-left}
+use Rattle.recipe_file.specs.Starting.{starting-nums}
 use Rattle.recipe_table.specs.Entries.{type-table}
 use Rattle.check_spec.specs.Bays.{bay-terms}
 use Rattle.check_spec.specs.Verdict.{refusal}
@@ -30,7 +31,7 @@ use Rattle.image_layout.specs.Slice.{names}
 use Rattle.image.specs.Configuration.{config-of, image-of}
 use Rattle.image.specs.Stands.{image-stands}
 use Rattle.image.specs.Theory.Maps.{at-map}
-use Rattle.load_spec.specs.Starting.{starting-image}
+use Rattle.load_spec.specs.Starting.{starting-image, starting-state}
 use Rattle.load_spec.specs.Theory.Image.{says}
 use Rattle.step_spec.specs.Stepping.{step-reply}
 use Rattle.step_spec.specs.Theory.Exactly.{step-is}
@@ -93,10 +94,10 @@ alive-start file b accepted =
     let es = bay-terms file in
     let r = says file b accepted in
     let (e, h) = at-below es 0 (omega (arith, r .count, r .laid .has-parts .low)) in
-    let front = replicate (length es) (holds (const (num 0))) in
+    let front = map setting-with (starting-nums file) in
     record {
       numbers = type-at (type-table file);
-      state = start (type-table file) es;
+      state = starting-state file;
       reached = reached-start file b accepted;
       is = refl;
       one = (length front + 0, is (append-right front (map thread-of es) 0 ∙ at-map thread-of es 0 h));

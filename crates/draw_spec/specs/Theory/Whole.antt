@@ -12,7 +12,7 @@ use lib.Dec.{eqb}
 use lib.ListN.{getD, length, replicate}
 use lib.Seq.{getD-drop}
 use Rattle.calculus.specs.Bytes.{Bytes, word}
-use Rattle.calculus.specs.Causes.{bay-once-cause, seed-cause}
+use Rattle.calculus.specs.Causes.{seed-cause}
 use Rattle.calculus.specs.Limits.{front-length, seed-length}
 use Rattle.calculus.specs.Syntax.{Config, Exp, at, thread-of}
 use Rattle.calculus.specs.Table.{type-at}
@@ -20,7 +20,7 @@ use Rattle.calculus.specs.Theory.Tests.{eqb-complete, eqb-differ, eqb-sound}
 use Rattle.text.specs.Theory.Digits.{length-verdict-line}
 use Rattle.recipe_table.specs.Entries.{type-table}
 use Rattle.check_spec.specs.Verdict.{refusal, verdict-of}
-use Rattle.check_spec.specs.Theory.Answers.{refusal-is, refusal-small}
+use Rattle.check_spec.specs.Theory.Answers.{refusal-is, not-18}
 use Rattle.image_layout.specs.Slice.{names}
 use Rattle.image.specs.Configuration.{config-of}
 use Rattle.load_spec.specs.Starting.{starting-image}
@@ -51,10 +51,10 @@ unfolding word
 padded-word s n i = rw (padded s n i, padded s n (i + 1)) refl
 
 -- a recipe's number, then 18 for a seed of zero
-by-18 : (r s : ℕ) → r ≤ bay-once-cause → (cond (eqb r 0) (cond (eqb s 0) seed-cause 0) r ≡ seed-cause) ↔ ((r ≡ 0) × (s ≡ 0))
+by-18 : (r s : ℕ) → ¬ (r ≡ seed-cause) → (cond (eqb r 0) (cond (eqb s 0) seed-cause 0) r ≡ seed-cause) ↔ ((r ≡ 0) × (s ≡ 0))
 by-18 zero zero l = (λ e. (refl, refl), λ p. refl)
 by-18 zero (suc s) l = rw (eqb-differ (suc s) 0 (omega arith)) (λ e. absurd (omega arith), λ (p, q). absurd (omega arith))
-by-18 (suc r) s l = rw (eqb-differ (suc r) 0 (omega arith)) (λ e. absurd (omega arith), λ (p, q). absurd (omega arith))
+by-18 (suc r) s l = rw (eqb-differ (suc r) 0 (omega arith)) (λ e. absurd (l e), λ (p, q). absurd (omega arith))
 
 by-0 : (r s : ℕ) → (cond (eqb r 0) (cond (eqb s 0) seed-cause 0) r ≡ 0) ↔ ((r ≡ 0) × (¬ (s ≡ 0)))
 by-0 zero zero = (λ e. absurd (omega arith), λ (p, q). absurd (q refl))
@@ -75,7 +75,7 @@ module _ (input : List ℕ) where
   refusal-by = by-recipe (eqb (refusal (recipe-in input)) 0) refl
 
   is-18 : (draw-refusal input ≡ seed-cause) ↔ ((refusal (recipe-in input) ≡ 0) × (seed-in input ≡ 0))
-  is-18 = rw refusal-by (by-18 (refusal (recipe-in input)) (seed-in input) (refusal-small (recipe-in input)))
+  is-18 = rw refusal-by (by-18 (refusal (recipe-in input)) (seed-in input) (not-18 (recipe-in input)))
 
   is-0 : (draw-refusal input ≡ 0) ↔ ((refusal (recipe-in input) ≡ 0) × (¬ (seed-in input ≡ 0)))
   is-0 = rw refusal-by (by-0 (refusal (recipe-in input)) (seed-in input))

@@ -4,10 +4,9 @@ use mathlib.Core.List.{List}
 use Prim.Native.Nat.{_-_, _+_, _*_, _≤_, ℕ}
 use borrow.Author.Needs.{needs}
 use native.Mathlib.Omega.{arith}
-use lib.ListN.{length, take, drop}
+use lib.ListN.{getD, length, take, drop}
 use Rattle.calculus.specs.Bytes.{Bytes, two-bytes}
 use Rattle.calculus.specs.Limits.{first-head, max-image-length}
-use Rattle.calculus.specs.Lists.{tabulate}
 use Rattle.recipe_file.specs.File.{bays, offset-of}
 use Rattle.recipe_file.specs.FileRule.{FileRule}
 use Rattle.buffer.specs.Written.{Wrote}
@@ -15,10 +14,10 @@ use Rattle.buffer.specs.Theory.Writes.{same, known-as}
 use Rattle.buffer.specs.Theory.TwoBytes.{length-two-bytes}
 use Rattle.image_layout.specs.Encoded.{expressions, head-offset}
 use Rattle.image_layout.specs.Theory.Turns.{room-kept, heads-end}
-use Rattle.load_image.specs.Starting.{first-term, setting, setting-length, starting-at, starting-names}
+use Rattle.load_image.specs.Starting.{first-term, setting-length, starting-at, starting-names}
 use Rattle.load_image.specs.Theory.Parts.{terms-begin-inside}
 use Rattle.load_spec.specs.Theory.Image.{laid, starting-fits}
-use Rattle.load_image.proofs.Names.{few-bays, starting-room, settings-length, starting-length, starting-wrote}
+use Rattle.load_image.proofs.Names.{few-bays, starting-room, settings-length, settings-read, starting-length, starting-wrote}
 use Rattle.load_image.proofs.put_starting.Statement.{statement}
 use Rattle.load_image.proofs.put_starting.Tie as tie
 
@@ -108,7 +107,7 @@ put-part-requires c κs =
     let h = heads-end (starting-names (file at-slice-known)) (starting-at (file at-slice-known)) (names-end at-put-heads-arg .0) (w .ends) in
     let f = c .first-term .ensures in
     let b = at-bay-count .bay-count .ensures in
-    (omega (arith, f, terms-begin-inside (file at-slice-known) (is-laid at-slice-known)), (omega arith, omega (arith, f, b, h, fits-all at-slice-known, v .ends, settings-length (at-bay-count .bay-count .result), same v, same w, same (names-end at-put-heads-arg .1), start .pre .1)))
+    (omega (arith, f, terms-begin-inside (file at-slice-known) (is-laid at-slice-known)), (omega arith, omega (arith, f, b, h, fits-all at-slice-known, v .ends, settings-length (λ k. getD (start .args .nums) k 0) (at-bay-count .bay-count .result), same v, same w, same (names-end at-put-heads-arg .1), start .pre .1)))
 
 returns : tie.Need-returns
 returns c =
@@ -121,7 +120,7 @@ returns c =
     let start = at-slice-known .before .before in
     let s = file at-slice-known in
     let w = starting-wrote s (are-bytes at-slice-known) (start .pre .0) (names-end at-put-heads-arg .1) (at-put-heads .put-heads .ensures)
-    (known-as (at-put-settings .put-settings .ensures) (ap (λ (k : ℕ). expressions (tabulate k (λ i. setting))) (at-bay-count .bay-count .ensures)))
+    (known-as (at-put-settings .put-settings .ensures) (ap expressions (settings-read s (start .args .nums) (is-laid at-slice-known) (start .pre .3) (at-bay-count .bay-count .ensures))))
     (known-as (c .before .before .put-part .ensures) (ap (λ (k : ℕ). take (length s - k) (drop k s)) (at-first-term .first-term .ensures))) in
     (w, omega (arith, w .ends, starting-fits s (are-bytes at-slice-known) (start .pre .0)))
 

@@ -8,36 +8,36 @@ use Rattle.calculus.specs.Bytes.{Bytes}
 use Rattle.calculus.specs.Limits.{max-image-length}
 use Rattle.calculus.specs.Syntax.{EachAll}
 use Rattle.calculus.specs.Image.{ImageRule, Writable}
-use Rattle.calculus.specs.Recipe.{start}
 use Rattle.calculus.specs.Theory.Claim.{image-loaded}
 use Rattle.calculus.specs.Theory.Images.{image-fits}
 use Rattle.recipe_file.specs.FileRule.{FileRule}
+use Rattle.recipe_file.specs.Starting.{starting-nums}
 use Rattle.recipe_table.specs.Entries.{type-table}
 use Rattle.check_spec.specs.Bays.{bay-terms}
 use Rattle.check_spec.specs.Verdict.{refusal}
 use Rattle.check_spec.specs.Recipe.{Recipe}
-use Rattle.check_spec.specs.Theory.Accepted.{accepted-exactly, table-is, terms-are, admitted}
+use Rattle.check_spec.specs.Theory.Accepted.{accepted-exactly, table-is, nums-are, terms-are, admitted}
 use Rattle.image.specs.Stands.{image-stands}
 use Rattle.image.specs.Theory.Lengths.{length-image-of}
 use Rattle.image.specs.Theory.Exactly.{image-written}
-use Rattle.load_spec.specs.Starting.{starting-image}
+use Rattle.load_spec.specs.Starting.{starting-image, starting-state}
 
 module _ (s : List ℕ) (b : Bytes s) (accepted : refusal s ≡ 0) where
-  pub says : Recipe s (type-table s) (bay-terms s)
-  says = let (T, es, r) = accepted-exactly s b .0 accepted in rw (table-is r, terms-are r) r
+  pub says : Recipe s (type-table s) (starting-nums s) (bay-terms s)
+  says = let (T, ns, es, r) = accepted-exactly s b .0 accepted in rw (table-is r, nums-are r, terms-are r) r
 
   pub laid : FileRule s
   laid = says .laid
 
   -- document 01, "The image": what is loaded keeps every rule and limit
-  rules : ImageRule (start (type-table s) (bay-terms s) .config) × EachAll Writable (start (type-table s) (bay-terms s) .config)
+  rules : ImageRule (starting-state s .config) × EachAll Writable (starting-state s .config)
   rules = image-loaded (admitted says) []
 
   pub starting-stands : image-stands (starting-image s) ≡ true
   unfolding starting-image
-  starting-stands = image-written (start (type-table s) (bay-terms s) .config) (rules .0) (rules .1)
+  starting-stands = image-written (starting-state s .config) (rules .0) (rules .1)
 
   -- and fits a buffer that is long enough for any image
   pub starting-fits : length (starting-image s) ≤ max-image-length
   unfolding starting-image
-  starting-fits = rw (length-image-of (start (type-table s) (bay-terms s) .config)) (image-fits (start (type-table s) (bay-terms s) .config) (rules .0 .limits))
+  starting-fits = rw (length-image-of (starting-state s .config)) (image-fits (starting-state s .config) (rules .0 .limits))

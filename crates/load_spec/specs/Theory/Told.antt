@@ -5,7 +5,7 @@ use Prim.Native.Nat.{ℕ, _≤_}
 use native.Mathlib.Omega.{arith}
 use lib.ListN.{drop, length, length-append, take}
 use lib.Seq.{take-append-seam}
-use Rattle.calculus.specs.Causes.{bay-once-cause}
+use Rattle.calculus.specs.Causes.{starting-cause}
 use Rattle.calculus.specs.Limits.{max-image-length}
 use Rattle.check_spec.specs.Verdict.{refusal}
 use Rattle.check_spec.specs.Theory.Answers.{refusal-small}
@@ -22,7 +22,7 @@ module _ (s : List ℕ) {room : ℕ} {l : Loaded} (is : l ≡ loaded-of s room) 
   pub refusal-told : l .refusal ≡ refusal s
   refusal-told = ap (λ (x : Loaded). x .refusal) is ∙ answers.load-refusal-is s room ∙ number
 
-  pub refusal-told-small : l .refusal ≤ bay-once-cause
+  pub refusal-told-small : l .refusal ≤ starting-cause
   refusal-told-small = rw refusal-told (refusal-small s)
 
   -- it is of an accepted recipe

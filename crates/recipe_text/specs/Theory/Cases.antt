@@ -15,6 +15,7 @@ use Rattle.term.specs.Numbers.{little-endian, value-of}
 use Rattle.term.specs.Reader.{one-term, read, read-term, of-edition}
 use Rattle.term.specs.Tree.{forms-below}
 use Rattle.recipe_file.specs.File.{bays, cause-1, cause-2, cause-3, edition-of, length-of, offset-of, opens, outside, pairs-test, part, parts, table-bytes, table-length-test, term-bytes}
+use Rattle.recipe_file.specs.Starting.{cause-19, starting-bytes, starting-num, starting-nums}
 use Rattle.recipe_table.specs.Entries.{cause-4, table-of, type-table}
 use Rattle.image_layout.specs.Encoded.{expressions, head, heads, image-bytes}
 use Rattle.image.specs.Configuration.{encode, image-of}
@@ -57,5 +58,5 @@ text-D = 0x76 ∷ 0x65 ∷ 0x72 ∷ 0x64 ∷ 0x69 ∷ 0x63 ∷ 0x74 ∷ 0x20 ∷
 
 -- "For case A"; "H ● 00 00: refused 7"; "D ● T7, 01 04 03: refused 10"
 cases : map text-of (file-A ∷ file-H ∷ file-D ∷ []) ≡ text-A ∷ text-H ∷ text-D ∷ []
-unfolding text-of verdict-line image-line hexadecimal hexadecimal-byte decimal verdict-of refusal bay-terms bay-term cause-5 cause-6 cause-4 table-of type-table word bays parts offset-of length-of part table-bytes term-bytes outside cause-1 opens edition-of cause-2 pairs-test table-length-test cause-3 exp-of leaf-exp leaf-forms two-exp two-forms nesting one-term of-edition forms-below read read-term form-of forms value-of tabulate each-below sum-below uses nodes test-entry entry-test entry-stands entries-test same-entry new-to distinct-test entry-is table-test on-function on-once-function on-cell is-many scoped-const scoped annotated-const annotated const-number on-number result-number applied-number lambda-number both-number case-number with-components type-number outside-many linear-variable linear every starting-image image-of encode head heads expressions image-bytes bytes const-bytes op-tag both-tag case-tag little-endian two-bytes loaded bay-types with-type term-of
+unfolding text-of verdict-line image-line hexadecimal hexadecimal-byte decimal verdict-of refusal bay-terms bay-term cause-5 cause-6 cause-4 table-of type-table word bays parts offset-of length-of part table-bytes term-bytes outside cause-1 opens edition-of cause-2 pairs-test table-length-test cause-3 cause-19 starting-nums starting-num starting-bytes exp-of leaf-exp leaf-forms two-exp two-forms nesting one-term of-edition forms-below read read-term form-of forms value-of tabulate each-below sum-below uses nodes test-entry entry-test entry-stands entries-test same-entry new-to distinct-test entry-is table-test on-function on-once-function on-cell is-many scoped-const scoped annotated-const annotated const-number on-number result-number applied-number lambda-number both-number case-number with-components type-number outside-many linear-variable linear every starting-image image-of encode head heads expressions image-bytes bytes const-bytes op-tag both-tag case-tag little-endian two-bytes loaded bay-types with-type term-of
 cases = refl

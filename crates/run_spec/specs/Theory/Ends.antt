@@ -13,14 +13,12 @@ use Rattle.calculus.specs.Bytes.{Bytes}
 use Rattle.calculus.specs.Limits.{max-image-length}
 use Rattle.calculus.specs.Causes.{buffer-cause}
 use Rattle.calculus.specs.Lowest.{first-cause}
-use Rattle.calculus.specs.Recipe.{start}
 use Rattle.calculus.specs.Table.{type-at}
 use Rattle.calculus.specs.Theory.Tests.{clash, eqb-complete, eqb-differ, eqb-sound, ltb-complete, ltb-not}
 use Rattle.recipe_table.specs.Entries.{type-table}
-use Rattle.check_spec.specs.Bays.{bay-terms}
 use Rattle.check_spec.specs.Verdict.{check-causes, refusal}
 use Rattle.check_spec.specs.Theory.Answers.{not-12}
-use Rattle.load_spec.specs.Starting.{starting-image}
+use Rattle.load_spec.specs.Starting.{starting-image, starting-state}
 use Rattle.run_spec.specs.declared.Ending.{Ending}
 use Rattle.run_spec.specs.declared.Ending.the-variants.{Turns, Idle, Room, Refused}
 use Rattle.run_spec.specs.Course.{Stop, all-turns, idle, no-room, stopped-by, course-of}
@@ -29,9 +27,9 @@ use Rattle.demands.specs.Theory.Reached.{reached-start}
 use Rattle.run_spec.specs.Theory.Chain.{Chain, chain-of, never-refused}
 
 -- the course of an accepted recipe's run goes along reached states
-pub recipe-chain : (file : List ℕ) → Bytes file → refusal file ≡ 0 → (k : ℕ) → Chain (type-at (type-table file)) k 0 (start (type-table file) (bay-terms file)) (course-of file k)
+pub recipe-chain : (file : List ℕ) → Bytes file → refusal file ≡ 0 → (k : ℕ) → Chain (type-at (type-table file)) k 0 (starting-state file) (course-of file k)
 unfolding course-of starting-image
-recipe-chain file b accepted k = chain-of k 0 (start (type-table file) (bay-terms file)) (reached-start file b accepted)
+recipe-chain file b accepted k = chain-of k 0 (starting-state file) (reached-start file b accepted)
 
 -- an ending tells why the course stops
 ends-refused : (stop : Stop) (turns size n : ℕ) → ending-by stop turns size ≡ Refused n → stop ≡ stopped-by n

@@ -245,12 +245,10 @@ impl TermMaker<'_> {
         if self.draw.one_in(4) {
             return self.term(goal, duties, nesting);
         }
-        let start = self.nodes.len();
-        let made = self.put_and_take(goal, &duties, nesting);
-        made.or_else(|| {
-            self.nodes.truncate(start);
-            self.simplest(goal, duties, nesting)
-        })
+        self.one_or_other(
+            |terms| terms.put_and_take(goal, &duties, nesting),
+            |terms| terms.simplest(goal, duties.clone(), nesting),
+        )
     }
 
     /// (λu. case s of x :: r ⇒ e) (put e'), for variables put: α →ω unit and s: α listω; now and then

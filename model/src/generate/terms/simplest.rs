@@ -119,11 +119,10 @@ impl TermMaker<'_> {
         if self.table.components(Shape::Pair, goal).is_some() {
             return self.simplest_pair(goal, nesting);
         }
-        let start = self.nodes.len();
-        self.simplest_cell(goal, nesting).or_else(|| {
-            self.nodes.truncate(start);
-            self.simplest_future(goal, nesting)
-        })
+        self.one_or_other(
+            |terms| terms.simplest_cell(goal, nesting),
+            |terms| terms.simplest_future(goal, nesting),
+        )
     }
 
     fn simplest_pair(&mut self, goal: u8, nesting: usize) -> Option<()> {

@@ -4,9 +4,9 @@ use crate::causes;
 use crate::editions::Edition;
 use crate::format::{first_offset, pairs, Pair};
 use crate::limits;
-use crate::tool::faults::{Fault, Place};
+use crate::tool::faults::{Fault, Part, Place};
 
-fn refuse(number: u32, place: Place, offset: usize, found: String) -> Result<(), Fault> {
+fn refuse<T>(number: u32, place: Place, offset: usize, found: String) -> Result<T, Fault> {
     Err(Fault {
         number,
         place,
@@ -24,8 +24,8 @@ pub fn length(file: &[u8]) -> Result<(), Fault> {
     refuse(causes::FILE_LENGTH, Place::File, 0, found)
 }
 
-/// Cause 2.
-pub fn opening(file: &[u8]) -> Result<(), Fault> {
+/// Cause 2. The edition, if there is no fault.
+pub fn opening(file: &[u8]) -> Result<Edition, Fault> {
     let n = usize::from(file[3]);
     if file[..2] != limits::OPENING {
         let found = format!(
@@ -34,20 +34,28 @@ pub fn opening(file: &[u8]) -> Result<(), Fault> {
         );
         return refuse(causes::OPENING, Place::Opening, 0, found);
     }
-    if Edition::of(file[2]).is_none() {
-        let found = format!("the edition is {:02X}, not 01 or 02", file[2]);
-        return refuse(causes::OPENING, Place::Opening, 2, found);
-    }
-    if !limits::PARTS.contains(&n) {
-        let found = format!("n, the number of parts, is {n}");
+    let edition = match Edition::of(file[2]) {
+        Some(edition) => edition,
+        None => {
+            let found = format!("the edition is {:02X}, not 01, 02 or 03", file[2]);
+            return refuse(causes::OPENING, Place::Opening, 2, found);
+        }
+    };
+    if !edition.parts().contains(&n) {
+        let (least, most) = edition.parts().into_inner();
+        let found = format!(
+            "n, the number of parts, is {n}; in edition {} it is {least} to {most}",
+            edition.number
+        );
         return refuse(causes::OPENING, Place::Opening, 3, found);
     }
-    Ok(())
+    Ok(edition)
 }
 
 /// Cause 3.
-pub fn layout(file: &[u8]) -> Result<(), Fault> {
+pub fn layout(edition: Edition, file: &[u8]) -> Result<(), Fault> {
     let n = usize::from(file[3]);
+    let last = Place::Pair(Part::of(edition, n - 1));
     let pairs = match pairs(file) {
         Some(pairs) => pairs,
         None => {
@@ -56,34 +64,40 @@ pub fn layout(file: &[u8]) -> Result<(), Fault> {
                 first_offset(n),
                 file.len()
             );
-            return refuse(causes::LAYOUT, Place::Pair(n - 1), file.len(), found);
+            return refuse(causes::LAYOUT, last, file.len(), found);
         }
     };
     let mut expected = first_offset(n);
-    for (part, pair) in pairs.iter().enumerate() {
-        pair_is_sound(file, part, *pair, expected)?;
+    for (number, pair) in pairs.iter().enumerate() {
+        let place = Place::Pair(Part::of(edition, number));
+        pair_is_sound(file, (place, 4 + 4 * number), *pair, expected)?;
         expected += pair.length;
     }
     if expected != file.len() {
         let over = file.len() - expected;
         let found = format!("the last part ends at byte {expected}, and {over} more bytes follow");
-        return refuse(causes::LAYOUT, Place::Pair(n - 1), expected, found);
+        return refuse(causes::LAYOUT, last, expected, found);
     }
     table_length(pairs[0].length)
 }
 
-fn pair_is_sound(file: &[u8], part: usize, pair: Pair, expected: usize) -> Result<(), Fault> {
-    let at = 4 + 4 * part;
+/// Whether the pair that stands there begins its part where the part before it ends, inside the file.
+fn pair_is_sound(
+    file: &[u8],
+    (place, at): (Place, usize),
+    pair: Pair,
+    expected: usize,
+) -> Result<(), Fault> {
     if pair.offset != expected {
         let found = format!(
             "the part's offset is {}, but the bytes before it end at {expected}",
             pair.offset
         );
-        return refuse(causes::LAYOUT, Place::Pair(part), at, found);
+        return refuse(causes::LAYOUT, place, at, found);
     }
     if pair.length == 0 {
         let found = "the part's length is 0".to_owned();
-        return refuse(causes::LAYOUT, Place::Pair(part), at + 2, found);
+        return refuse(causes::LAYOUT, place, at + 2, found);
     }
     let end = pair.offset + pair.length;
     if end > file.len() {
@@ -91,7 +105,7 @@ fn pair_is_sound(file: &[u8], part: usize, pair: Pair, expected: usize) -> Resul
             "the part ends at byte {end}, and the file has {} bytes",
             file.len()
         );
-        return refuse(causes::LAYOUT, Place::Pair(part), at + 2, found);
+        return refuse(causes::LAYOUT, place, at + 2, found);
     }
     Ok(())
 }
@@ -103,5 +117,5 @@ fn table_length(length: usize) -> Result<(), Fault> {
         return Ok(());
     }
     let found = format!("the type table has {length} bytes");
-    refuse(causes::LAYOUT, Place::Pair(0), 6, found)
+    refuse(causes::LAYOUT, Place::Pair(Part::Table), 6, found)
 }

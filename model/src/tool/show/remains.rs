@@ -2,9 +2,9 @@
 
 use crate::format::{edition_of, hexadecimal, pairs};
 use crate::nodes::Node;
-use crate::tool::faults::Parts;
+use crate::tool::faults::{Part, Parts};
 use crate::tool::outline::Outline;
-use crate::tool::text::spelling::constant_name;
+use crate::tool::text::spelling::{constant_name, START};
 use crate::types::Shape;
 use std::fmt::Write;
 
@@ -25,27 +25,31 @@ pub fn first_bytes(file: &[u8], parts: &Parts) -> String {
 }
 
 fn pairs_text(file: &[u8]) -> String {
-    let opened = file.len() >= 4 && edition_of(file).is_some();
-    let pairs = opened.then(|| pairs(file)).flatten().unwrap_or_default();
+    let opened = (file.len() >= 4).then(|| edition_of(file)).flatten();
+    let edition = match opened {
+        Some(edition) => edition,
+        None => return String::new(),
+    };
     let mut text = String::new();
-    for (part, pair) in pairs.iter().enumerate() {
+    for (part, pair) in pairs(file).unwrap_or_default().iter().enumerate() {
         let (offset, length) = (pair.offset, pair.length);
-        let what = match part {
-            0 => "the type table".to_owned(),
-            _ => format!("bay {}", part - 1),
-        };
-        let _ = writeln!(text, "# {what}: offset {offset}, length {length}");
+        let part = Part::of(edition, part);
+        let _ = writeln!(text, "# {part}: offset {offset}, length {length}");
     }
     text
 }
 
-/// The nodes of a part that is no term, as far as they could be read.
-pub fn cut_text(bay: usize, nodes: &[Node], part: &[u8]) -> String {
+/// The nodes of a part that is no term, as far as they could be read; before them what the bay starts
+/// with, if it says so.
+pub fn cut_text(bay: usize, start: Option<u16>, nodes: &[Node], part: &[u8]) -> String {
     let outline = Outline::of(nodes);
     let mut text = format!(
         "\n# bay {bay} is no term; {} of its nodes can be read\n",
         nodes.len()
     );
+    if let Some(num) = start {
+        let _ = writeln!(text, "#   {START} {num}");
+    }
     for (at, node) in nodes.iter().enumerate().take(CUT_NODES) {
         let deep = (outline.above[at].nesting - 1).min(CUT_INDENT);
         let _ = writeln!(text, "#   {:deep$}{}", "", node_in_words(*node));

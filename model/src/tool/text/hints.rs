@@ -1,5 +1,7 @@
 //! Help for what other languages write and a recipe does not have.
 
+use crate::tool::text::spelling::START;
+
 const NUM: &str = "a num is a whole number from 0 to 65535";
 /// A vent is set in tenths of a percent.
 const TENTHS: usize = 1;
@@ -9,6 +11,7 @@ pub fn of_word(word: &str) -> &'static str {
     match word {
         "let" => " (a recipe has no let: (λx:type. body) value names a value)",
         "fun" | "fn" | "lambda" => " (a function is λx:type. body, or \\x:type. body)",
+        START => " (a bay's start stands between its '=' and its term: bay 0 = start 250 unit)",
         _ => "",
     }
 }

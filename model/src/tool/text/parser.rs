@@ -1,18 +1,22 @@
-//! A text read as a recipe: its edition, its list of types, then each bay.
+//! A text read as a recipe: its edition, its list of types, its starting part, then each bay.
 
 use crate::editions;
-use crate::format::Recipe;
+use crate::format::{write_parts, Recipe};
 use crate::limits;
 use crate::nodes::Node;
 use crate::tool::text::hints;
 use crate::tool::text::numbering::Numbering;
 use crate::tool::text::spelling::UNICODE;
 use crate::tool::text::spot::Spot;
+use crate::tool::text::starts::{self, Start, StartingPart};
 use crate::tool::text::tokens::{tokens, Placed, Position, TextError, Token};
 use crate::tool::text::type_texts::TypeTexts;
 
 /// More nodes and brackets than any recipe file can have.
 const MOST: usize = *limits::FILE_BYTES.end();
+
+/// The nodes of a term, and where they stand.
+type Nodes = (Vec<Node>, Vec<Spot>);
 
 /// A recipe, and where in the text its entries and nodes stand.
 #[derive(Debug)]
@@ -20,7 +24,20 @@ pub struct Read {
     pub recipe: Recipe,
     /// Of the entries that the text lists.
     pub entries: Vec<Position>,
+    /// Where the text has it byte by byte, in the place of starting nums.
+    pub starting: Option<StartingPart>,
     pub nodes: Vec<Vec<Spot>>,
+}
+
+impl Read {
+    /// The bytes of the file.
+    pub fn file(&self) -> Vec<u8> {
+        let mut parts = self.recipe.parts();
+        if let Some(starting) = &self.starting {
+            parts[1] = starting.bytes.clone();
+        }
+        write_parts(self.recipe.edition, &parts)
+    }
 }
 
 /// The recipe that a text describes.
@@ -38,23 +55,29 @@ pub fn read(text: &str) -> Result<Read, TextError> {
     let entries = parser.listed_types()?;
     parser.listing = false;
     parser.types.complete_first();
+    let starting = parser.starting_part()?;
+    let mut starts = Vec::new();
     let mut terms = Vec::new();
     let mut nodes = Vec::new();
     while terms.is_empty() || parser.peek() != Token::End {
-        let (term, spots) = parser.bay(terms.len())?;
+        let (start, (term, spots)) = parser.bay(terms.len())?;
+        starts.push(start);
         terms.push(term);
         nodes.push(spots);
     }
     let listed = parser.types.entries;
+    let said = starts::edition(said, starting.as_ref(), &starts)?;
     let edition = said.unwrap_or_else(|| editions::least(&listed, &terms).number);
     let recipe = Recipe {
         edition,
         entries: listed,
+        starts: starts::nums(edition, &starts),
         terms,
     };
     Ok(Read {
         recipe,
         entries,
+        starting,
         nodes,
     })
 }
@@ -143,11 +166,7 @@ impl<'t> Parser<'t> {
     /// One node more.
     pub fn count_node(&mut self, position: Position) -> Result<(), TextError> {
         self.nodes += 1;
-        if self.nodes > MOST {
-            let text = "this is more than a recipe file can hold".to_owned();
-            return Err(error(position, text));
-        }
-        Ok(())
+        within_a_file(self.nodes, position)
     }
 
     /// The type in words, for a message.
@@ -164,8 +183,8 @@ impl<'t> Parser<'t> {
         Ok(u8::try_from(number).ok())
     }
 
-    /// `bay N = term` or `bay N : type = term`
-    fn bay(&mut self, bay: usize) -> Result<(Vec<Node>, Vec<Spot>), TextError> {
+    /// `bay N = term` or `bay N : type = term`, with `start N` before the term or without
+    fn bay(&mut self, bay: usize) -> Result<(Option<Start>, Nodes), TextError> {
         let here = self.position();
         if self.peek() != Token::Word("bay") {
             let due = format!("'bay {bay}'");
@@ -187,11 +206,12 @@ impl<'t> Parser<'t> {
             None
         };
         self.expect(Token::Sign('='))?;
+        let start = self.start()?;
         let term = self.term()?;
         if let (Some(claimed), Ok(found)) = (claimed, &term.type_number) {
             self.same_type(claim, claimed, *found)?;
         }
-        Ok(term.nodes.into_iter().unzip())
+        Ok((start, term.nodes.into_iter().unzip()))
     }
 
     fn same_type(&self, claim: Position, claimed: u8, found: u8) -> Result<(), TextError> {
@@ -202,6 +222,15 @@ impl<'t> Parser<'t> {
         let text = format!("the bay's term is of type {found}, not {claimed}");
         Err(error(claim, text))
     }
+}
+
+/// So many nodes or bytes are not more than there can be.
+pub fn within_a_file(count: usize, position: Position) -> Result<(), TextError> {
+    if count <= MOST {
+        return Ok(());
+    }
+    let text = "this is more than a recipe file can hold".to_owned();
+    Err(error(position, text))
 }
 
 pub fn error(position: Position, message: String) -> TextError {

@@ -60,6 +60,12 @@ pub const KEPT_WORDS: [&str; 12] = [
 /// The word before the number of a bay whose setting is meant.
 pub const SETTING: &str = "setting";
 
+/// The word before a bay's starting num, between the bay's `=` and its term.
+pub const START: &str = "start";
+
+/// The word before the bytes of a starting part, in front of the bays.
+pub const STARTING: &str = "starting";
+
 /// The name of a variable that stands under that many others.
 pub fn variable_name(others: usize) -> String {
     const FIRST: [&str; 6] = ["x", "y", "z", "u", "v", "w"];

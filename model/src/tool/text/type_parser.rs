@@ -4,6 +4,7 @@ use crate::table::{
     entry, Entry, CELL, MANY, MANY_LIST, MANY_PAIR, NUM, ONCE, ONCE_LIST, ONCE_PAIR, UNIT,
 };
 use crate::tool::text::parser::{error, Parser};
+use crate::tool::text::spelling::STARTING;
 use crate::tool::text::tokens::{Position, TextError, Token};
 
 impl Parser<'_> {
@@ -13,7 +14,7 @@ impl Parser<'_> {
         if !self.takes(Token::Word("types")) {
             return Ok(places);
         }
-        while !matches!(self.peek(), Token::Word("bay") | Token::End) {
+        while !matches!(self.peek(), Token::Word("bay" | STARTING) | Token::End) {
             let place = self.position();
             let own = format!("t{}", places.len());
             if self.peek() != Token::Word(&own) {
