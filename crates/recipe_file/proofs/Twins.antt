@@ -10,7 +10,7 @@ use Rattle.recipe_file.specs.declared.Edition.{Edition}
 use Rattle.recipe_file.specs.Editions.{edition-2, edition-3}
 use Rattle.recipe_file.specs.File.{edition-of, parts, bays, pair-offset, part, table-part, table-bytes, term-bytes}
 use Rattle.recipe_file.specs.FileRule.{FileRule}
-use Rattle.recipe_file.specs.Starting.{start-length, starting-part, nums-bytes}
+use Rattle.recipe_file.specs.Starting.{starting-num-length, starting-part, nums-bytes}
 use Rattle.recipe_file.specs.Whole.{pairs-of, joined, file-of, parts-from, all-parts, NoneEmpty, Makes}
 use Rattle.recipe_file.specs.Twins.{term-parts, twin, edition-2-twin, edition-3-twin}
 use Rattle.recipe_file.proofs.Chains.{chain}
@@ -188,7 +188,7 @@ module _ (s : List ℕ) (l : FileRule s) (is : edition-of s ≡ edition-2) where
   all-parts-2 = rw (parts-2, is) refl
 
   module _ (ns : List ℕ) (one-each : length ns ≡ bays s) where
-    pub length-edition-3 : length (edition-3-twin ns s) ≡ length s + (4 + start-length * bays s)
+    pub length-edition-3 : length (edition-3-twin ns s) ≡ length s + (4 + starting-num-length * bays s)
     unfolding joined
     length-edition-3 = omega (
       arith,
@@ -205,7 +205,7 @@ module _ (s : List ℕ) (l : FileRule s) (is : edition-of s ≡ edition-2) where
     unfolding edition-of twin file-of
     edition-3-known = refl
 
-    module _ (short : length s + (4 + start-length * bays s) ≤ max-file-length) where
+    module _ (short : length s + (4 + starting-num-length * bays s) ≤ max-file-length) where
       filled : NoneEmpty (nums-bytes ns ∷ [])
       filled = (omega (arith, length-nums ns, l .has-parts .low), tt)
 

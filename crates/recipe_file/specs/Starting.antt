@@ -14,8 +14,8 @@ abbrev pub starting-part : ℕ
 starting-part = table-part + 1
 
 -- "two bytes for each bay"
-abbrev pub start-length : ℕ
-start-length = 2
+abbrev pub starting-num-length : ℕ
+starting-num-length = 2
 
 -- the bytes of the starting part; none in an edition that has no such part
 unfoldable pub starting-bytes : List ℕ → List ℕ
@@ -23,7 +23,7 @@ starting-bytes s = cond (edition-of s .starting) (part s starting-part) []
 
 -- "its starting num"; "Editions 1 and 2 keep the unwritten 0", for a byte that is not there counts as 0
 unfoldable pub starting-num : List ℕ → ℕ → ℕ
-starting-num s bay = word (starting-bytes s) (start-length * bay)
+starting-num s bay = word (starting-bytes s) (starting-num-length * bay)
 
 -- the starting nums of all bays
 unfoldable pub starting-nums : List ℕ → List ℕ
@@ -36,7 +36,7 @@ nums-bytes (n ∷ ns) = two-bytes n ++ nums-bytes ns
 
 -- cause 19: "a starting part whose length is not twice the number of bays"
 unfoldable pub cause-19 : List ℕ → Bool
-cause-19 s = edition-of s .starting && not (eqb (length-of s starting-part) (start-length * bays s))
+cause-19 s = edition-of s .starting && not (eqb (length-of s starting-part) (starting-num-length * bays s))
 
 -- the same with its number
 abbrev pub starting-causes : List ℕ → List Cause

@@ -75,7 +75,7 @@ const MIN_BAYS: usize = 1;
 // The bytes of an entry of the type table, and of a bay's starting num.
 pub const ENTRY_LENGTH: usize = 3;
 
-const START_LENGTH: usize = 2;
+const STARTING_NUM_LENGTH: usize = 2;
 
 // Where pair i stands; behind the last of n pairs the first part begins.
 pub fn pair_offset(i: usize) -> usize
@@ -270,7 +270,7 @@ pub fn starting_breaks(recipe: &[u8], edition: Edition) -> bool
     if !edition.starting {
         return false;
     }
-    length_of(recipe, STARTING_PART) != START_LENGTH * bay_count(recipe, edition)
+    length_of(recipe, STARTING_PART) != STARTING_NUM_LENGTH * bay_count(recipe, edition)
 }
 
 // The starting nums of all bays, by value; 0 where none is written.
@@ -281,8 +281,8 @@ pub fn starting_nums(recipe: &[u8], edition: Edition) -> [u16; Recipe::MAX_BAYS]
     let starting = starting_bytes(recipe, edition);
     let mut nums = [0u16; Recipe::MAX_BAYS];
     let mut bay: usize = 0;
-    while START_LENGTH * bay < starting.len() {
-        nums[bay] = buffer::word_at(starting, START_LENGTH * bay) as u16;
+    while STARTING_NUM_LENGTH * bay < starting.len() {
+        nums[bay] = buffer::word_at(starting, STARTING_NUM_LENGTH * bay) as u16;
         bay += 1;
     }
     nums

@@ -32,7 +32,7 @@ use Rattle.term.specs.Tree.{forms-below}
 use Rattle.term.specs.Expressions.{bytes, nesting, FitsBytes}
 use Rattle.term.proofs.Expressions.{edition-complete, edition-sound, term-of-bytes}
 use Rattle.recipe_file.specs.File.{edition-of, bays, length-of, part, table-bytes, term-bytes, cause-1, cause-2, cause-3}
-use Rattle.recipe_file.specs.Starting.{start-length, starting-part, starting-bytes, starting-num, starting-nums, nums-bytes, cause-19, starting-causes}
+use Rattle.recipe_file.specs.Starting.{starting-num-length, starting-part, starting-bytes, starting-num, starting-nums, nums-bytes, cause-19, starting-causes}
 use Rattle.recipe_file.specs.FileRule.{FileRule}
 use Rattle.recipe_file.proofs.LaidOut.{or-parts, or-false, laid-iff}
 use Rattle.recipe_file.proofs.Inside.{length-part, length-table-bytes, starting-is-part}
@@ -111,7 +111,7 @@ module _ (s : List ℕ) (b : Bytes s) (n : NoCause s) where
     one-each = length-tabulate (bays s) (starting-num s);
     two-byte = λ k m h.
         let (l, q) = tabulate-parts (bays s) (starting-num s) k h in
-        omega (arith, starting-are-bytes (start-length * k), starting-are-bytes (start-length * k + 1));
+        omega (arith, starting-are-bytes (starting-num-length * k), starting-are-bytes (starting-num-length * k + 1));
   }
 
   says-written : edition-of s .starting ≡ true → part s starting-part ≡ nums-bytes (starting-nums s)
@@ -160,7 +160,7 @@ module _ {s : List ℕ} {T : Table} {ns : List ℕ} {es : List Exp} (r : Recipe 
   unfolding starting-num
   num-of k n h = go (edition-of s .starting) refl
     where
-      go : (t : Bool) → edition-of s .starting ≡ t → word (starting-bytes s) (start-length * k) ≡ n
+      go : (t : Bool) → edition-of s .starting ≡ t → word (starting-bytes s) (starting-num-length * k) ≡ n
       go true e = rw (some-starting s e, r .written e) (nums-read ns k h)
       go false e = let q = at-replicate (bays s) 0 k (ap (λ (l : List ℕ). at l k) (sym (r .unwritten e)) ∙ h) .1 in unwritten s e k ∙ sym q
 
@@ -174,7 +174,7 @@ module _ {s : List ℕ} {T : Table} {ns : List ℕ} {es : List Exp} (r : Recipe 
       go : (t : Bool) → edition-of s .starting ≡ t → cause-19 s ≡ false
       go false e = sym (never-19 s e)
       go true e =
-          let l : length-of s starting-part ≡ start-length * bays s = sym (length-part (starting-is-part (r .laid) e)) ∙ ap length (r .written e) ∙ length-nums ns ∙ ap (λ (b : ℕ). start-length * b) (r .starts .one-each) in
+          let l : length-of s starting-part ≡ starting-num-length * bays s = sym (length-part (starting-is-part (r .laid) e)) ∙ ap length (r .written e) ∙ length-nums ns ∙ ap (λ (b : ℕ). starting-num-length * b) (r .starts .one-each) in
           sym (by-length s e _ _ refl refl) ∙ ap not (eqb-complete _ _ l)
 
   bay-there : (bay : ℕ) → bay < bays s → (e : Exp) × (at es bay ≡ some e)

@@ -13,7 +13,7 @@ use Rattle.term.specs.Expressions.{bytes}
 use Rattle.term.proofs.Sizes.{length-bytes}
 use Rattle.recipe_file.specs.Editions.{edition-2}
 use Rattle.recipe_file.specs.File.{edition-of, bays, part, table-bytes, term-bytes}
-use Rattle.recipe_file.specs.Starting.{start-length, starting-nums}
+use Rattle.recipe_file.specs.Starting.{starting-num-length, starting-nums}
 use Rattle.recipe_file.specs.Whole.{joined, parts-from}
 use Rattle.recipe_file.specs.Twins.{term-parts}
 use Rattle.recipe_file.proofs.Inside.{length-table-bytes}
@@ -37,7 +37,7 @@ module _ {s : List ℕ} {es : List Exp} (r : Recipe s (type-table s) (starting-n
   unfolding term-parts term-bytes
   few-bytes = rw (sym (r .count)) (terms-bound s es (edition-of s .terms) (λ k e h. r .terms k e h .0))
 
-  pub twin-short : length s + (4 + start-length * bays s) ≤ max-file-length
+  pub twin-short : length s + (4 + starting-num-length * bays s) ≤ max-file-length
   unfolding joined
   twin-short =
       let l = r .laid in

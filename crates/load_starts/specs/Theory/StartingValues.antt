@@ -22,7 +22,7 @@ use Rattle.calculus.specs.Theory.Tests.{and-parts, clash}
 use Rattle.recipe_file.specs.Editions.{edition-1, edition-2, edition-3, editions}
 use Rattle.recipe_file.specs.File.{edition-of, parts, bays, length-of, table-bytes, part, outside, cause-1, cause-2, opens}
 use Rattle.recipe_file.specs.FileRule.{Between, FileRule}
-use Rattle.recipe_file.specs.Starting.{start-length, starting-part, starting-bytes, starting-num, starting-nums, nums-bytes, cause-19, starting-causes}
+use Rattle.recipe_file.specs.Starting.{starting-num-length, starting-part, starting-bytes, starting-num, starting-nums, nums-bytes, cause-19, starting-causes}
 use Rattle.recipe_file.specs.Whole.{all-parts, file-of}
 use Rattle.recipe_file.specs.Twins.{term-parts, twin, edition-2-twin, edition-3-twin}
 use Rattle.recipe_file.proofs.Cases.{three-to-eighteen}
@@ -87,7 +87,7 @@ all-zero s z = tabulate-same (bays s) (starting-num s) (λ bay. 0) (λ bay l. z 
 
 zeros-num : (s : List ℕ) (bay : ℕ) → ((i : ℕ) → getD (starting-bytes s) i 0 ≡ 0) → starting-num s bay ≡ 0
 unfolding starting-num word
-zeros-num s bay z = rw (z (start-length * bay), z (start-length * bay + 1)) refl
+zeros-num s bay z = rw (z (starting-num-length * bay), z (starting-num-length * bay + 1)) refl
 
 -- files that are alike, with the same starting nums
 module _ {s s′ : List ℕ} (a : Alike s s′) (n : cause-19 s ≡ false) (n′ : cause-19 s′ ≡ false) (nums : starting-nums s ≡ starting-nums s′) where
@@ -165,7 +165,7 @@ module _ (s : List ℕ) (a : AcceptedIn 2 s) where
   laid-2 : FileRule s
   laid-2 = laid-and-started s (a .accepted) .0
 
-  short : length s + (4 + start-length * bays s) ≤ max-file-length
+  short : length s + (4 + starting-num-length * bays s) ≤ max-file-length
   short = twin-short (says s (a .bytes) (a .accepted)) is-2
 
   module _ (ns : List ℕ) (starts : Starts ns (bays s)) where
@@ -180,8 +180,8 @@ module _ (s : List ℕ) (a : AcceptedIn 2 s) where
 
     twin-not-19 : cause-19 (edition-3-twin ns s) ≡ false
     twin-not-19 =
-        let n : length-of (edition-3-twin ns s) starting-part ≡ start-length * bays (edition-3-twin ns s) =
-        sym (length-part (starting-is-part (alike-2 .laid′) has-starting)) ∙ ap length starting-is ∙ length-nums ns ∙ ap (λ (b : ℕ). start-length * b) (starts .one-each ∙ alike-2 .as-many) in
+        let n : length-of (edition-3-twin ns s) starting-part ≡ starting-num-length * bays (edition-3-twin ns s) =
+        sym (length-part (starting-is-part (alike-2 .laid′) has-starting)) ∙ ap length starting-is ∙ length-nums ns ∙ ap (λ (b : ℕ). starting-num-length * b) (starts .one-each ∙ alike-2 .as-many) in
         sym (by-length (edition-3-twin ns s) has-starting _ _ refl refl) ∙ ap not (eq-eqb _ _ n)
 
     twin-nums : starting-nums (edition-3-twin ns s) ≡ ns
@@ -243,7 +243,7 @@ module _ (s : List ℕ) where
       fits true q e = q
       fits false q e = absurd (omega (arith, rw q at e))
 
-      both-hold : cause-19 s ≡ true → (edition-of s .starting ≡ true) × (not (eqb (length-of s starting-part) (start-length * bays s)) ≡ true)
+      both-hold : cause-19 s ≡ true → (edition-of s .starting ≡ true) × (not (eqb (length-of s starting-part) (starting-num-length * bays s)) ≡ true)
       both-hold e = and-parts _ _ e
 
       none-before : refusal s ≡ starting-cause → first-cause (causes-to-11 s) ≡ 0
