@@ -7,6 +7,10 @@ use crate::table::{self, Entry};
 use crate::tags;
 use std::ops::RangeInclusive;
 
+/// The part that is the type table, and the starting part where the edition has one.
+pub const TABLE_PART: usize = 0;
+pub const STARTING_PART: usize = 1;
+
 #[derive(Debug, Clone, Copy, PartialEq, Eq)]
 pub struct Edition {
     pub number: u8,
@@ -49,7 +53,7 @@ impl Edition {
 
     /// The part that is the first bay's term.
     pub fn terms(self) -> usize {
-        1 + usize::from(self.starting)
+        TABLE_PART + 1 + usize::from(self.starting)
     }
 
     /// The numbers of parts: 2 to 17, or one more with a starting part.

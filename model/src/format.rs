@@ -1,6 +1,6 @@
 //! Document 01, "The recipe file": opening bytes, pairs, parts; and writing a file.
 
-use crate::editions::Edition;
+use crate::editions::{Edition, STARTING_PART, TABLE_PART};
 use crate::limits;
 use crate::nodes::{write_term, Node};
 use crate::table::Entry;
@@ -66,12 +66,12 @@ pub struct Parts<'f> {
 pub fn parts(edition: Edition, file: &[u8]) -> Option<Parts<'_>> {
     let all = all_parts(file)?;
     let terms = all.get(edition.terms()..)?;
-    let table = all[0];
+    let table = all[TABLE_PART];
     let entries = table.len() / limits::ENTRY_LENGTH;
     let whole = table.len() % limits::ENTRY_LENGTH == 0;
     (whole && limits::ENTRIES.contains(&entries)).then(|| Parts {
         table,
-        starting: edition.starting.then(|| all[1]),
+        starting: edition.starting.then(|| all[STARTING_PART]),
         terms: terms.to_vec(),
     })
 }

@@ -29,10 +29,22 @@ past-word : (s : List ℕ) (j n : ℕ) (l : List ℕ) → drop j s ≡ two-bytes
 unfolding two-bytes
 past-word s j n l e = sym (drop-drop 2 j s) ∙ ap (drop 2) e
 
-pub length-pairs : (at : ℕ) (ps : List (List ℕ)) → length (pairs-of at ps) ≡ 4 * length ps
+length-pairs : (at : ℕ) (ps : List (List ℕ)) → length (pairs-of at ps) ≡ 4 * length ps
 unfolding pairs-of two-bytes
 length-pairs at [] = refl
 length-pairs at (p ∷ ps) = let h = length-pairs (at + length p) ps in omega arith
+
+-- how long the file of some parts is
+pub length-file : (e : Edition) (ps : List (List ℕ)) → length (file-of e ps) ≡ pair-offset (length ps) + length (joined ps)
+unfolding file-of
+length-file e ps = omega (arith, length-append (pairs-of (pair-offset (length ps)) ps) (joined ps), length-pairs (pair-offset (length ps)) ps)
+
+-- a part by its number
+pub part-in : (s : List ℕ) (n i k : ℕ) → k < n → getD (parts-from s n i) k [] ≡ part s (i + k)
+unfolding parts-from
+part-in s zero i k h = absurd (omega arith)
+part-in s (suc n) i zero h = let e : i ≡ i + 0 = omega arith in ap (part s) e
+part-in s (suc n) i (suc k) h = let e : i + 1 + k ≡ i + suc k = omega arith in part-in s n (i + 1) k (omega arith) ∙ ap (part s) e
 
 -- the parts qs, whose pairs stand from pair i on
 made : (s : List ℕ) (qs : List (List ℕ)) (i at : ℕ) (rest : List ℕ) → NoneEmpty qs → drop (pair-offset i) s ≡ pairs-of at qs ++ rest → drop at s ≡ joined qs →
@@ -70,7 +82,7 @@ module _ (e : Edition) (ps : List (List ℕ)) (k : Makes e ps) where
       let j : drop (pair-offset (length ps)) (file-of e ps) ≡ joined ps =
       behind-four 0x4C 0x46 (e .number) (length ps) (pairs-of (pair-offset (length ps)) ps) (joined ps) (pair-offset (length ps)) (omega (arith, length-pairs (pair-offset (length ps)) ps)) in
       made (file-of e ps) ps 0 (pair-offset (length ps)) (joined ps) (k .none-empty) refl j
-      (omega (arith, length-append (pairs-of (pair-offset (length ps)) ps) (joined ps), length-pairs (pair-offset (length ps)) ps))
+      (sym (length-file e ps))
 
   edition : EditionRule e
   edition = rw (k .known) at (edition-rule (file-of e ps))
@@ -82,19 +94,13 @@ module _ (e : Edition) (ps : List (List ℕ)) (k : Makes e ps) where
   unfolding file-of parts
   parts-made = refl
 
-  first-part : (qs : List (List ℕ)) → 0 < length qs → (n i : ℕ) → parts-from (file-of e ps) n i ≡ qs → part (file-of e ps) i ≡ getD qs 0 []
-  unfolding parts-from
-  first-part [] h n i e = absurd (omega arith)
-  first-part (q ∷ qs) h zero i e = absurd (omega (arith, ap length e))
-  first-part (q ∷ qs) h (suc n) i e = ap (λ (x : List (List ℕ)). getD x 0 []) e
-
   table-length : length-of (file-of e ps) 0 ≡ length (getD ps table-part [])
   unfolding all-parts part
   table-length =
       let s = file-of e ps in
       let n : 0 < parts s = omega (arith, parts-made, k .number .low) in
       let i = chain-inside s (whole .0) 0 n in
-      let t : part s 0 ≡ getD ps 0 [] = first-part ps (omega (arith, k .number .low)) (parts s) 0 made-parts in
+      let t : part s 0 ≡ getD ps 0 [] = sym (part-in s (parts s) 0 0 n) ∙ ap (λ (qs : List (List ℕ)). getD qs 0 []) made-parts in
       let l : length (part s 0) ≡ length-of s 0 = simp (length-take, length-drop) (omega arith) in
       sym l ∙ ap length t
 
@@ -108,7 +114,7 @@ module _ (e : Edition) (ps : List (List ℕ)) (k : Makes e ps) where
       let s = file-of e ps in
       let n = length-joined ps (k .none-empty) in
       record {
-        size = record { low = omega (arith, k .number .low, edition .behind-table, length-append (pairs-of (pair-offset (length ps)) ps) (joined ps), length-pairs (pair-offset (length ps)) ps); high = k .short };
+        size = record { low = omega (arith, k .number .low, edition .behind-table, length-file e ps); high = k .short };
         opens-so = refl;
         has-edition = ap (λ (f : Edition). f .number) (sym (k .known));
         has-parts = bays-made;

@@ -11,20 +11,13 @@ use Rattle.recipe_file.specs.Editions.{edition-2, edition-3}
 use Rattle.recipe_file.specs.File.{edition-of, parts, bays, pair-offset, part, table-part, table-bytes, term-bytes}
 use Rattle.recipe_file.specs.FileRule.{FileRule}
 use Rattle.recipe_file.specs.Starting.{starting-num-length, starting-part, nums-bytes}
-use Rattle.recipe_file.specs.Whole.{pairs-of, joined, file-of, parts-from, all-parts, NoneEmpty, Makes}
+use Rattle.recipe_file.specs.Whole.{joined, file-of, parts-from, all-parts, NoneEmpty, Makes}
 use Rattle.recipe_file.specs.Twins.{term-parts, twin, edition-2-twin, edition-3-twin}
 use Rattle.recipe_file.proofs.Chains.{chain}
 use Rattle.recipe_file.proofs.Inside.{length-part, length-table-bytes, pairs-inside, table-is-part}
 use Rattle.recipe_file.proofs.Wholes.{joined-from, length-parts}
 use Rattle.recipe_file.proofs.Starting.{length-nums}
-use Rattle.recipe_file.proofs.Made.{length-pairs, made-laid, made-parts}
-
--- a part by its number
-part-in : (s : List ℕ) (n i k : ℕ) → k < n → getD (parts-from s n i) k [] ≡ part s (i + k)
-unfolding parts-from
-part-in s zero i k h = absurd (omega arith)
-part-in s (suc n) i zero h = let e : i ≡ i + 0 = omega arith in ap (part s) e
-part-in s (suc n) i (suc k) h = let e : i + 1 + k ≡ i + suc k = omega arith in part-in s n (i + 1) k (omega arith) ∙ ap (part s) e
+use Rattle.recipe_file.proofs.Made.{length-file, made-laid, made-parts, part-in}
 
 -- no part of a file that is laid out is empty
 none-empty : (s : List ℕ) → FileRule s → (n i : ℕ) → i + n ≤ parts s → NoneEmpty (parts-from s n i)
@@ -37,11 +30,7 @@ none-empty-both : (ps qs : List (List ℕ)) → NoneEmpty ps → NoneEmpty qs �
 none-empty-both [] qs f g = g
 none-empty-both (p ∷ ps) qs (e, f) g = (e, none-empty-both ps qs f g)
 
--- how long the file of some parts is, and a file that is laid out
-length-file : (e : Edition) (ps : List (List ℕ)) → length (file-of e ps) ≡ pair-offset (length ps) + length (joined ps)
-unfolding file-of
-length-file e ps = omega (arith, length-append (pairs-of (pair-offset (length ps)) ps) (joined ps), length-pairs (pair-offset (length ps)) ps)
-
+-- how long a file that is laid out is
 pub length-laid : (s : List ℕ) → FileRule s → length s ≡ pair-offset (parts s) + length (joined (all-parts s))
 unfolding all-parts
 length-laid s l =

@@ -1,15 +1,12 @@
 //! Starting nums, and what can go wrong with the part that holds them.
 
 use crate::draw::Draw;
-use crate::editions::{Edition, FIRST, SECOND, THIRD};
+use crate::editions::{Edition, FIRST, SECOND, STARTING_PART, THIRD};
 use crate::format::{write_parts, Recipe};
 use crate::generate::recipes::{several_careless_bays, small, well_typed};
 use crate::limits::{MAX_BAYS, MAX_FILE, STARTING_NUM_LENGTH};
 use crate::nodes::Node;
 use crate::tags;
-
-/// Where the starting part stands among the parts of edition 3.
-const STARTING_PART: usize = 1;
 
 /// A starting num for each bay, where the edition has them.
 pub fn nums(draw: &mut Draw, edition: Edition, bays: usize) -> Vec<u16> {

@@ -2,7 +2,7 @@
 //! nums and drawn recipes, each with a seed and a number of draws.
 
 use crate::draw::Draw;
-use crate::editions::{FIRST, SECOND, THIRD};
+use crate::editions::{FIRST, SECOND, STARTING_PART, THIRD};
 use crate::examples;
 use crate::format::{write_parts, Recipe};
 use crate::generate::{houses, recipes};
@@ -124,7 +124,7 @@ fn with_starting_nums() -> Vec<Vec<u8>> {
     house.starts = vec![250, u16::MAX, 256];
     let of_length = |recipe: &Recipe, length: usize| {
         let mut parts = recipe.parts();
-        parts[1].resize(length, 1);
+        parts[STARTING_PART].resize(length, 1);
         write_parts(recipe.edition, &parts)
     };
     let mut once = house.clone();

@@ -2,7 +2,7 @@
 //! cause 19.
 
 use crate::causes;
-use crate::editions::Edition;
+use crate::editions::{Edition, STARTING_PART, TABLE_PART};
 use crate::limits;
 use crate::plain::term::scan_term;
 use crate::plain::walk::Walk;
@@ -107,12 +107,12 @@ impl<'a> PlainParts<'a> {
 
     fn table(self) -> PlainTable<'a> {
         PlainTable {
-            bytes: self.part(0),
+            bytes: self.part(TABLE_PART),
         }
     }
 
     pub fn starting(self) -> Option<&'a [u8]> {
-        self.edition.starting.then(|| self.part(1))
+        self.edition.starting.then(|| self.part(STARTING_PART))
     }
 
     pub fn term(self, bay: usize) -> &'a [u8] {

@@ -42,7 +42,10 @@ pub fn load(file: &[u8], out: &mut [u8]) -> (Answer, usize) {
 /// The num that a bay's setting starts with, as an expression.
 fn setting(starting: Option<&[u8]>, bay: usize) -> [u8; 3] {
     match starting {
-        Some(nums) => [tags::NUM, nums[2 * bay], nums[2 * bay + 1]],
+        Some(nums) => {
+            let at = limits::STARTING_NUM_LENGTH * bay;
+            [tags::NUM, nums[at], nums[at + 1]]
+        }
         None => [tags::NUM, 0, 0],
     }
 }

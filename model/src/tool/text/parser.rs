@@ -34,7 +34,7 @@ impl Read {
     pub fn file(&self) -> Vec<u8> {
         let mut parts = self.recipe.parts();
         if let Some(starting) = &self.starting {
-            parts[1] = starting.bytes.clone();
+            parts[editions::STARTING_PART] = starting.bytes.clone();
         }
         write_parts(self.recipe.edition, &parts)
     }
