@@ -1,7 +1,7 @@
 /*
  * A host in C: loads a recipe and takes turns between two buffers, and prints every bay's vent opening when no thread can go any more, or
- * after the turns that were asked for. The runner takes the turns; with --steps, a loop of steps takes the same ones. With --open, a bay's
- * vent is set by hand before the first turn: its starting num in the recipe's bytes.
+ * after the turns that were asked for, and then whose jobs wait. The runner takes the turns; with --steps, a loop of steps takes the same
+ * ones. With --open, a bay's vent is set by hand before the first turn: its starting num in the recipe's bytes.
  *
  *   make library && cc -std=c11 -Iinclude examples/host.c target/staticlib/libfikarehu.a -o host && ./host examples/nine-bays.recipe 1000
  */
@@ -29,10 +29,10 @@ static void print_vents(const uint8_t *image, uint32_t bays) {
             }
             break;
         case VENT_AWAITS_THREAD:
-            printf("awaits name %u, a thread that is not done\n", vent.name);
+            printf("awaits name %u, a thread of bay %u that is not done\n", vent.name, read_owner(image, vent.name));
             break;
         case VENT_AWAITS_FUTURE:
-            printf("awaits name %u, a future that is not bound\n", vent.name);
+            printf("awaits name %u, a future of bay %u that is not bound\n", vent.name, read_owner(image, vent.name));
             break;
         case VENT_NEVER:
             printf("never a value: name %u leads back to itself\n", vent.name);
@@ -65,6 +65,19 @@ struct course {
 };
 
 static uint8_t first[FIKAREHU_MAX_IMAGE], second[FIKAREHU_MAX_IMAGE];
+
+/* Whose jobs wait, and for whose: each thread is tried by a step, and the run does not go on from what that writes. */
+static void print_waiting(const struct course *course) {
+    const uint8_t *image = course->image;
+    uint8_t *other = course->ran.buffer == 0 ? second : first;
+    for (unsigned name = 0; name < names_of(image); name++) {
+        struct fikarehu_stepped stepped = fikarehu_step(image, course->ran.length, name, other, sizeof first);
+        if (stepped.outcome == FIKAREHU_WAITING) {
+            printf("thread %u of bay %u waits for name %u of bay %u\n", name, read_owner(image, name), stepped.number,
+                   read_owner(image, stepped.number));
+        }
+    }
+}
 
 /* The first way: one call. */
 static struct course by_runner(const uint8_t *recipe, size_t size, uint16_t turns) {
@@ -171,5 +184,6 @@ int main(int count, char **words) {
     printf("%u turns taken, %u names; ", course.ran.turns, names_of(course.image));
     print_stop(course.ran.stop);
     print_vents(course.image, fikarehu_check(recipe, size).bays);
+    print_waiting(&course);
     return 0;
 }

@@ -1,7 +1,7 @@
 /*
- * Reading a vent: a bay's setting in an image, its names followed to a num. The image is one that a load or a step has written; its bytes
- * are not checked here. And setting a vent by hand: a bay's first opening in a recipe. This file is included where a vent is read or set,
- * and not compiled by itself.
+ * Reading a vent: a bay's setting in an image, its names followed to a num. And reading an owner: the bay that a name belongs to. The image
+ * is one that a load or a step has written; its bytes are not checked here. And setting a vent by hand: a bay's first opening in a recipe.
+ * This file is included where a vent is read or set, and not compiled by itself.
  */
 #include "fikarehu.h"
 
@@ -29,6 +29,12 @@ static unsigned vent_two_bytes(const uint8_t *at) {
 /* The head of a name: kind, companion, offset, length. */
 static const uint8_t *vent_head(const uint8_t *image, unsigned name) {
     return image + FIKAREHU_FIRST_HEAD + FIKAREHU_HEAD_LENGTH * name;
+}
+
+/* The bay that a name belongs to: the companion byte; of an open handle, which has its future's number there, its future's. */
+static inline unsigned read_owner(const uint8_t *image, unsigned name) {
+    const uint8_t *head = vent_head(image, name);
+    return head[0] == FIKAREHU_KIND_OPEN_HANDLE ? vent_head(image, head[1])[1] : head[1];
 }
 
 /* The first node of the expression of a thread or a cell. */

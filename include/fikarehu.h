@@ -36,9 +36,9 @@ extern "C" {
 #endif
 
 /* This header's version. */
-#define FIKAREHU_VERSION "0.7.0"
+#define FIKAREHU_VERSION "0.8.0"
 #define FIKAREHU_VERSION_MAJOR 0
-#define FIKAREHU_VERSION_MINOR 7
+#define FIKAREHU_VERSION_MINOR 8
 #define FIKAREHU_VERSION_PATCH 0
 
 /* The limits of a recipe. */
@@ -47,7 +47,7 @@ enum {
     FIKAREHU_MAX_FILE = 8192,
     FIKAREHU_MIN_PARTS = 2,            /* parts: the type table, and a term for each bay; in edition 3 the */
     FIKAREHU_MAX_PARTS = 17,           /* starting part is one more, so 3 to 18 there */
-    FIKAREHU_MAX_BAYS = 16,
+    FIKAREHU_MAX_BAYS = 16,            /* bays; the owner of a name in an image is below it too */
     FIKAREHU_MIN_ENTRIES = 3,          /* entries of the type table */
     FIKAREHU_MAX_ENTRIES = 256,
     FIKAREHU_MAX_NESTING = 100,        /* nesting of a term, the root being 1 */
@@ -70,7 +70,9 @@ enum {
     FIKAREHU_HEAD_LENGTH = 6
 };
 
-/* The kind of a name: the first byte of its head in an image. */
+/* The kind of a name: the first byte of its head in an image. The second is the companion byte: of a
+ * thread, a cell, a used handle and a future the owning bay, below FIKAREHU_MAX_BAYS; of an open handle
+ * the number of its future, whose owner is the handle's too. */
 enum {
     FIKAREHU_KIND_THREAD = 1,
     FIKAREHU_KIND_CELL = 2,

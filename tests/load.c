@@ -151,7 +151,7 @@ static void starting_nums(void) {
                  BYTES(2, 0, 2, 0, 14, 0, 3, 0, 1, 0, 17, 0, 9, 0, 4, 0xFA, 0, 2, 2, 6, 4, 9, 0, 4, 0xFA, 0));
     make_3(&file, table_a, sizeof table_a, BYTES(0xFF, 0xFF, 0, 1), BYTES(3), 2);
     expect_image("two bays from 65,535 and 256", &file, 2,
-                 BYTES(4, 0, 2, 0, 26, 0, 3, 0, 2, 0, 29, 0, 3, 0, 1, 0, 32, 0, 1, 0, 1, 0, 33, 0, 1, 0, 4, 0xFF, 0xFF, 4, 0,
+                 BYTES(4, 0, 2, 0, 26, 0, 3, 0, 2, 1, 29, 0, 3, 0, 1, 0, 32, 0, 1, 0, 1, 1, 33, 0, 1, 0, 4, 0xFF, 0xFF, 4, 0,
                        1, 3, 3));
 }
 
@@ -170,6 +170,26 @@ static void sixteen_starting_nums(void) {
     for (size_t bay = 0; bay < FIKAREHU_MAX_BAYS; bay++, setting += 3) {
         CHECK(setting[0] == FIKAREHU_TAG_NUM && memcmp(setting + 1, starting + 2 * bay, 2) == 0,
               "bay %zu: num %u", bay, setting[1] + 256u * setting[2]);
+    }
+}
+
+/* A setting and a first thread belong to their bay: the companion bytes of names k and b + k are k. */
+static void owners(void) {
+    static struct file file;
+    make(&file, table_5, sizeof table_5, BYTES(2, 2, 6, 4, 9, 1, 4, 0xFA, 0), 2);
+    expect_image("two bays", &file, 2,
+                 BYTES(4, 0, 2, 0, 26, 0, 3, 0, 2, 1, 29, 0, 3, 0, 1, 0, 32, 0, 9, 0, 1, 1, 41, 0, 9, 0, 4, 0, 0, 4, 0, 0, 2, 2,
+                       6, 4, 9, 1, 4, 0xFA, 0, 2, 2, 6, 4, 9, 1, 4, 0xFA, 0));
+    for (size_t bays = 1; bays <= FIKAREHU_MAX_BAYS; bays++) {
+        make(&file, table_a, sizeof table_a, BYTES(3), bays);
+        const uint8_t *out = out_end() - FIKAREHU_MAX_IMAGE;
+        fikarehu_load(file.bytes, file.length, out_end() - FIKAREHU_MAX_IMAGE, FIKAREHU_MAX_IMAGE);
+        for (size_t name = 0; name < 2 * bays; name++) {
+            const uint8_t *head = out + FIKAREHU_FIRST_HEAD + FIKAREHU_HEAD_LENGTH * name;
+            const uint8_t kind = name < bays ? FIKAREHU_KIND_CELL : FIKAREHU_KIND_THREAD;
+            CHECK(head[0] == kind && head[1] == name % bays, "name %zu of %zu bays: kind %u, owner %u", name, bays, head[0],
+                  head[1]);
+        }
     }
 }
 
@@ -222,6 +242,7 @@ static void *on_a_thread(void *nothing) {
     edition_2();
     starting_nums();
     sixteen_starting_nums();
+    owners();
     twins();
     starting_parts_of_other_lengths();
     worst_recipes();

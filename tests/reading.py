@@ -12,7 +12,7 @@ import sys
 PAGE = 'docs/READING.md'
 BEGIN, END = '<!-- the closure, written by tests/reading.py -->', '<!-- the end of the closure -->'
 # what it is today: a request that adds a rule or a form may raise it by what it adds
-MOST_LINES = 1597
+MOST_LINES = 1641
 # the statements to start from: a crate, its file of contracts or its module, and the names
 CONTRACTS = [('fikarehu', ['fikarehu_check', 'fikarehu_load', 'fikarehu_step', 'fikarehu_run']), ('draw_text', ['put_lines_of_input'])]
 STATEMENTS = [('demands', 'Demands', ['FirstDemand', 'SecondDemand', 'ThirdDemand']), ('run_spec', 'HouseRunner', ['HouseRunner']),

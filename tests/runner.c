@@ -272,8 +272,17 @@ static void starting_nums(void) {
     /* both bays set the vent of bay 0: the second one has the first one's 250 back, and bay 1 keeps 256 */
     make_3(&scratch, table_5, sizeof table_5, BYTES(0xFF, 0xFF, 0, 1), case_b, sizeof case_b, 2);
     expect_last("two bays from 65,535 and 256", 9, FIKAREHU_IDLE, 2,
-                BYTES(4, 0, 2, 0, 26, 0, 3, 0, 2, 0, 29, 0, 3, 0, 1, 0, 32, 0, 3, 0, 1, 0, 35, 0, 3, 0, 4, 0xFA, 0, 4, 0, 1,
+                BYTES(4, 0, 2, 0, 26, 0, 3, 0, 2, 1, 29, 0, 3, 0, 1, 0, 32, 0, 3, 0, 1, 1, 35, 0, 3, 0, 4, 0xFA, 0, 4, 0, 1,
                       4, 0xFF, 0xFF, 4, 0xFA, 0));
+}
+
+/* A new name is of the bay whose thread made it: bay 0 is done, and bay 1 makes a cell that holds 3. */
+static void owners(void) {
+    const struct term cell = TERM(2, 5, 7, 4, 3, 0);
+    make_bays(&scratch, BAYS(done, cell));
+    expect_last("a cell of bay 1", 5, FIKAREHU_IDLE, 1,
+                BYTES(5, 0, 2, 0, 32, 0, 3, 0, 2, 1, 35, 0, 3, 0, 1, 0, 38, 0, 1, 0, 1, 1, 39, 0, 2, 0, 2, 1, 41, 0, 3, 0, 4, 0, 0,
+                      4, 0, 0, 3, 9, 4, 4, 3, 0));
 }
 
 /* 19, after all other causes and after 12. */
@@ -344,6 +353,7 @@ static void *everything(void *nothing) {
     stops_for_room();
     refusals_1_to_11();
     starting_nums();
+    owners();
     starting_parts_of_other_lengths();
     short_buffers();
     worst_recipes();

@@ -159,7 +159,7 @@ static void broken_images(void) {
                    FIKAREHU_REFUSED_IMAGE);
     expect_refusal("cut", BYTES(1, 0, 1, 0, 8, 0, 1, 0), 0, FIKAREHU_REFUSED_IMAGE);
     expect_refusal("kind 6", BYTES(1, 0, 6, 0, 8, 0, 1, 0, 3), 0, FIKAREHU_REFUSED_IMAGE);
-    expect_refusal("a companion", BYTES(1, 0, 1, 1, 8, 0, 1, 0, 3), 0, FIKAREHU_REFUSED_IMAGE);
+    expect_refusal("owner 16", BYTES(1, 0, 1, 16, 8, 0, 1, 0, 3), 0, FIKAREHU_REFUSED_IMAGE);
     expect_refusal("a free variable", BYTES(1, 0, 1, 0, 8, 0, 2, 0, 0, 0), 0, FIKAREHU_REFUSED_IMAGE);
     expect_refusal("name 1 of one", BYTES(1, 0, 1, 0, 8, 0, 2, 0, 9, 1), 0, FIKAREHU_REFUSED_IMAGE);
     expect_refusal("a num cut", BYTES(1, 0, 1, 0, 8, 0, 2, 0, 4, 0xE9), 0, FIKAREHU_REFUSED_IMAGE);
@@ -171,6 +171,119 @@ static void broken_images(void) {
     expect_refusal("a variable in the subject", BYTES(1, 0, 1, 0, 8, 0, 4, 0, 13, 0, 0, 3), 0, FIKAREHU_REFUSED_IMAGE);
     expect_refusal("tag 14", BYTES(1, 0, 1, 0, 8, 0, 3, 0, 14, 3, 3), 0, FIKAREHU_REFUSED_IMAGE);
     expect_refusal("a future without a handle", BYTES(1, 0, 5, 0, 8, 0, 0, 0), 0, FIKAREHU_REFUSED_IMAGE);
+}
+
+/* Each rule on an image of many owners: a new name belongs to the stepping thread's bay, every other one keeps its owner. */
+static void rules_and_owners(void) {
+    expect_rule("rule 1 in bay 2", BYTES(1, 0, 1, 2, 8, 0, 6, 0, 2, 1, 9, 0, 0, 3), 0, FIKAREHU_BETA,
+                BYTES(1, 0, 1, 2, 8, 0, 1, 0, 3));
+    expect_rule("rule 2 in bay 7", BYTES(1, 0, 1, 7, 8, 0, 4, 0, 2, 7, 5, 3), 0, FIKAREHU_THREAD_NEW,
+                BYTES(2, 0, 1, 7, 14, 0, 2, 0, 1, 7, 16, 0, 4, 0, 9, 1, 2, 3, 9, 1));
+    expect_rule("rule 2 in bay 1 on a function of bay 4",
+                BYTES(2, 0, 1, 1, 14, 0, 5, 0, 1, 4, 19, 0, 4, 0, 2, 7, 5, 9, 1, 1, 9, 0, 0), 0, FIKAREHU_THREAD_NEW,
+                BYTES(3, 0, 1, 1, 20, 0, 2, 0, 1, 4, 22, 0, 4, 0, 1, 1, 26, 0, 5, 0, 9, 2, 1, 9, 0, 0, 2, 9, 1, 9, 2));
+    expect_rule("rule 3 in bay 1 on a thread of bay 4", BYTES(2, 0, 1, 1, 14, 0, 4, 0, 1, 4, 18, 0, 1, 0, 2, 9, 1, 3, 3), 0,
+                FIKAREHU_FUTURE_DEREF, BYTES(2, 0, 1, 1, 14, 0, 3, 0, 1, 4, 17, 0, 1, 0, 2, 3, 3, 3));
+    expect_rule("rule 4 in bay 15", BYTES(1, 0, 1, 15, 8, 0, 4, 0, 2, 8, 5, 3), 0, FIKAREHU_HANDLE_NEW,
+                BYTES(3, 0, 1, 15, 20, 0, 7, 0, 5, 15, 27, 0, 0, 0, 3, 1, 27, 0, 0, 0, 2, 2, 3, 9, 1, 9, 2));
+    expect_rule("rule 6 in bay 3", BYTES(1, 0, 1, 3, 8, 0, 4, 0, 2, 5, 5, 3), 0, FIKAREHU_CELL_NEW,
+                BYTES(2, 0, 1, 3, 14, 0, 2, 0, 2, 3, 16, 0, 1, 0, 9, 1, 3));
+    expect_rule("rule 7 in bay 1 on a cell of bay 4",
+                BYTES(2, 0, 2, 4, 14, 0, 3, 0, 1, 1, 17, 0, 9, 0, 4, 0, 0, 2, 2, 6, 4, 9, 0, 4, 0xFA, 0), 1,
+                FIKAREHU_CELL_EXCH, BYTES(2, 0, 2, 4, 14, 0, 3, 0, 1, 1, 17, 0, 3, 0, 4, 0xFA, 0, 4, 0, 0));
+    expect_rule("rule 8 in bay 5", BYTES(1, 0, 1, 5, 8, 0, 12, 0, 12, 10, 9, 3, 4, 7, 0, 2, 0, 0, 0, 1), 0,
+                FIKAREHU_CASE_PAIR, BYTES(1, 0, 1, 5, 8, 0, 5, 0, 2, 4, 7, 0, 3));
+    expect_rule("rule 9 in bay 6", BYTES(1, 0, 1, 6, 8, 0, 12, 0, 13, 11, 9, 3, 4, 7, 0, 2, 0, 0, 0, 1), 0,
+                FIKAREHU_CASE_LIST, BYTES(1, 0, 1, 6, 8, 0, 5, 0, 2, 4, 7, 0, 3));
+    expect("waiting in bay 1 for a future of bay 9",
+           BYTES(3, 0, 1, 1, 20, 0, 4, 0, 5, 9, 24, 0, 0, 0, 3, 1, 24, 0, 0, 0, 2, 9, 1, 3), 0, FIKAREHU_MAX_IMAGE,
+           FIKAREHU_WAITING, 1);
+}
+
+/* Rule 5: the future becomes a thread of its own owner, and the used handle has that owner too, whoever steps. */
+static void bound_futures_and_owners(void) {
+    expect_rule("rule 5 in bay 6, its own future", BYTES(3, 0, 1, 6, 20, 0, 4, 0, 5, 6, 24, 0, 0, 0, 3, 1, 24, 0, 0, 0, 2, 9, 2, 3),
+                0, FIKAREHU_HANDLE_BIND, BYTES(3, 0, 1, 6, 20, 0, 1, 0, 1, 6, 21, 0, 1, 0, 4, 6, 22, 0, 0, 0, 3, 3));
+    expect_rule("rule 5 in bay 1, a future of bay 9", BYTES(3, 0, 1, 1, 20, 0, 4, 0, 5, 9, 24, 0, 0, 0, 3, 1, 24, 0, 0, 0, 2, 9, 2, 3),
+                0, FIKAREHU_HANDLE_BIND, BYTES(3, 0, 1, 1, 20, 0, 1, 0, 1, 9, 21, 0, 1, 0, 4, 9, 22, 0, 0, 0, 3, 3));
+    /* the handle, of number 0, before its future, and the thread, of bay 3, last */
+    expect_rule("rule 5, the handle first", BYTES(3, 0, 3, 1, 20, 0, 0, 0, 5, 12, 20, 0, 0, 0, 1, 3, 20, 0, 4, 0, 2, 9, 0, 3), 2,
+                FIKAREHU_HANDLE_BIND, BYTES(3, 0, 4, 12, 20, 0, 0, 0, 1, 12, 20, 0, 1, 0, 1, 3, 21, 0, 1, 0, 3, 3));
+}
+
+/* An image that steps by rule 1 of thread 0, what comes of it, and where in both a name's owner stands. */
+struct owned {
+    const char *kind;
+    uint8_t image[32];
+    size_t length;
+    uint8_t next[32];
+    size_t next_length, owner;
+};
+
+/* Every owner: those below 16 go and are kept, the others break the layout, also where the number is no thread. */
+static void every_owner(struct owned owned) {
+    for (unsigned owner = 0; owner < 256; owner++) {
+        owned.image[owned.owner] = owned.next[owned.owner] = (uint8_t)owner;
+        if (owner < FIKAREHU_MAX_BAYS) {
+            expect_rule(owned.kind, owned.image, owned.length, 0, FIKAREHU_BETA, owned.next, owned.next_length);
+        } else {
+            expect_refusal(owned.kind, owned.image, owned.length, 0, FIKAREHU_REFUSED_IMAGE);
+            expect_refusal(owned.kind, owned.image, owned.length, FIKAREHU_MAX_NAMES, FIKAREHU_REFUSED_IMAGE);
+        }
+    }
+}
+
+static void owners(void) {
+    every_owner((struct owned){"a thread's owner", {1, 0, 1, 0, 8, 0, 6, 0, 2, 1, 9, 0, 0, 3}, 14, {1, 0, 1, 0, 8, 0, 1, 0, 3}, 9, 3});
+    every_owner((struct owned){"a cell's owner", {2, 0, 1, 0, 14, 0, 6, 0, 2, 0, 20, 0, 1, 0, 2, 1, 9, 0, 0, 3, 3}, 21,
+                               {2, 0, 1, 0, 14, 0, 1, 0, 2, 0, 15, 0, 1, 0, 3, 3}, 16, 9});
+    every_owner((struct owned){"a used handle's owner", {2, 0, 1, 0, 14, 0, 6, 0, 4, 0, 20, 0, 0, 0, 2, 1, 9, 0, 0, 3}, 20,
+                               {2, 0, 1, 0, 14, 0, 1, 0, 4, 0, 15, 0, 0, 0, 3}, 15, 9});
+    every_owner((struct owned){"a future's owner", {3, 0, 1, 0, 20, 0, 6, 0, 5, 0, 26, 0, 0, 0, 3, 1, 26, 0, 0, 0, 2, 1, 9, 0, 0, 3}, 26,
+                               {3, 0, 1, 0, 20, 0, 1, 0, 5, 0, 21, 0, 0, 0, 3, 1, 21, 0, 0, 0, 3}, 21, 9});
+}
+
+/* A name to be written into an image: its kind, its companion byte, and the bytes of its expression. */
+struct name {
+    uint8_t kind, companion, expression[4];
+    size_t length;
+};
+
+static size_t write_names(uint8_t *image, const struct name *names, size_t count) {
+    size_t end = FIKAREHU_FIRST_HEAD + FIKAREHU_HEAD_LENGTH * count;
+    image[0] = (uint8_t)count;
+    image[1] = (uint8_t)(count >> 8);
+    for (size_t name = 0; name < count; name++) {
+        const uint8_t head[] = {names[name].kind, names[name].companion, (uint8_t)end, (uint8_t)(end >> 8),
+                                (uint8_t)names[name].length, 0};
+        memcpy(image + FIKAREHU_FIRST_HEAD + FIKAREHU_HEAD_LENGTH * name, head, sizeof head);
+        memcpy(image + end, names[name].expression, names[name].length);
+        end += names[name].length;
+    }
+    return end;
+}
+
+/* An open handle's companion is its future's number, and no owner: 16 and more stand. Thread 0, of bay 2, binds by handle 1 a future of
+ * bay 13; the names between are threads of every bay. */
+static void futures_of_high_numbers(void) {
+    static const uint8_t futures[] = {2, 15, 16, 20, 200, FIKAREHU_MAX_NAMES - 1};
+    static uint8_t image[FIKAREHU_MAX_IMAGE], next[FIKAREHU_MAX_IMAGE];
+    static struct name names[FIKAREHU_MAX_NAMES];
+    for (size_t i = 0; i < sizeof futures; i++) {
+        const uint8_t future = futures[i];
+        for (size_t name = 2; name < future; name++) {
+            names[name] = (struct name){FIKAREHU_KIND_THREAD, (uint8_t)(name % FIKAREHU_MAX_BAYS), {FIKAREHU_TAG_UNIT}, 1};
+        }
+        names[0] = (struct name){FIKAREHU_KIND_THREAD, 2, {FIKAREHU_TAG_APPLICATION, FIKAREHU_TAG_NAME, 1, FIKAREHU_TAG_UNIT}, 4};
+        names[1] = (struct name){FIKAREHU_KIND_OPEN_HANDLE, future, {0}, 0};
+        names[future] = (struct name){FIKAREHU_KIND_FUTURE, 13, {0}, 0};
+        size_t length = write_names(image, names, future + (size_t)1);
+        names[0] = (struct name){FIKAREHU_KIND_THREAD, 2, {FIKAREHU_TAG_UNIT}, 1};
+        names[1] = (struct name){FIKAREHU_KIND_USED_HANDLE, 13, {0}, 0};
+        names[future] = (struct name){FIKAREHU_KIND_THREAD, 13, {FIKAREHU_TAG_UNIT}, 1};
+        size_t next_length = write_names(next, names, future + (size_t)1);
+        expect_rule("a future of a high number", image, length, 0, FIKAREHU_HANDLE_BIND, next, next_length);
+    }
 }
 
 static void no_threads(void) {
@@ -282,6 +395,10 @@ static void *everything(void *nothing) {
     every_rule();
     case_b_from_starting_nums();
     taking_apart();
+    rules_and_owners();
+    bound_futures_and_owners();
+    owners();
+    futures_of_high_numbers();
     other_subjects();
     other_answers();
     broken_images();

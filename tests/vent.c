@@ -1,5 +1,5 @@
 /*
- * Reading a vent as docs/HOST.md says and the example host does. Prints failures and a last line with the number of checks.
+ * Reading a vent and an owner as docs/HOST.md says and the example host does. Prints failures and a last line with the number of checks.
  *
  *   cc -std=c11 -O2 -Wall -Wextra -Werror -Iinclude -pthread tests/vent.c target/staticlib/libfikarehu.a -o vent && ./vent
  */
@@ -156,6 +156,42 @@ static void images(void) {
     expect_image("unit for a num", BYTES(1, 0, 2, 0, 8, 0, 1, 0, 3), VENT_NO_NUM, 0);
 }
 
+static void expect_owners(const char *what, const uint8_t *image, const unsigned *owners, unsigned count) {
+    CHECK(vent_two_bytes(image) == count, "%s: %u names, expected %u", what, vent_two_bytes(image), count);
+    for (unsigned name = 0; name < count; name++) {
+        const unsigned owner = read_owner(image, name);
+        CHECK(owner == owners[name], "%s: name %u is of bay %u, expected %u", what, name, owner, owners[name]);
+    }
+}
+
+#define OWNERS(...) ((const unsigned[]){__VA_ARGS__}), sizeof((const unsigned[]){__VA_ARGS__}) / sizeof(unsigned)
+
+/* One name of each kind; the open handle's companion, 3, is its future and no owner. */
+static void owners_of_every_kind(void) {
+    expect_owners("every kind",
+                  (const uint8_t[]){5, 0, 1, 15, 32, 0, 1, 0, 2, 1, 33, 0, 1, 0, 3, 3, 34, 0, 0, 0, 5, 12, 34, 0, 0, 0, 4, 9, 34, 0, 0,
+                                    0, 3, 3},
+                  OWNERS(15, 1, 12, 12, 9));
+}
+
+/* handle (λx. λh. h x) in two bays: the second one's future and handle are of bay 1, before the future is bound and after. */
+static void owners_of_a_run(void) {
+    static const uint8_t table[] = {0, 0, 0, 1, 0, 0, 2, 1, 0, 3, 1, 0, 4, 3, 0, 4, 1, 4, 4, 5, 0};
+    static const uint8_t term[] = {2, 8, 6, 1, 5, 1, 4, 2, 0, 0, 0, 1};
+    static const uint32_t rules[] = {FIKAREHU_HANDLE_NEW, FIKAREHU_BETA, FIKAREHU_BETA, FIKAREHU_HANDLE_BIND};
+    static struct file file;
+    static struct run run;
+    make(&file, table, sizeof table, term, sizeof term, 2);
+    load_file(&run, &file);
+    expect_owners("loaded", run.image, OWNERS(0, 1, 0, 1));
+    for (size_t i = 0; i < sizeof rules / sizeof rules[0]; i++) {
+        step(&run, 3, rules[i], VENT_OPENING, 0);
+        expect_owners("bay 1 steps", run.image, OWNERS(0, 1, 0, 1, 1, 1));
+    }
+    step(&run, 2, FIKAREHU_HANDLE_NEW, VENT_OPENING, 0);
+    expect_owners("bay 0 steps", run.image, OWNERS(0, 1, 0, 1, 1, 1, 0, 0));
+}
+
 /* The longest chain: the setting holds name 1, each thread the next name, the last one a num, or the first thread's name. */
 static void longest(int ring) {
     static uint8_t image[FIKAREHU_MAX_IMAGE];
@@ -188,6 +224,8 @@ int main(void) {
     a_starting_num();
     written_openings();
     images();
+    owners_of_every_kind();
+    owners_of_a_run();
     longest(0);
     longest(1);
     return finish();

@@ -32,9 +32,18 @@ impl Component {
 #[derive(Debug, Clone, PartialEq, Eq, Default)]
 pub struct Configuration {
     pub components: Vec<Component>,
+    /// "Every name knows its bay": the owning bay of each name (document 02, T-08). "an open handle has
+    /// the owner of its future".
+    pub owners: Vec<u8>,
 }
 
 impl Configuration {
+    /// These components, all of one bay.
+    pub fn of_bay(bay: u8, components: Vec<Component>) -> Configuration {
+        let owners = vec![bay; components.len()];
+        Configuration { components, owners }
+    }
+
     /// m, the number of names.
     pub fn names(&self) -> usize {
         self.components.len()
@@ -71,9 +80,17 @@ impl Configuration {
         self.names() <= limits::MAX_NAMES && self.nodes() <= limits::MAX_NODES
     }
 
-    /// The configuration with another component under that name.
+    /// The configuration with another component under that name, which keeps its owner: so does "a
+    /// future or handle .. when used", whoever uses it, and a cell that is exchanged.
     pub fn with(mut self, name: usize, component: Component) -> Configuration {
         self.components[name] = component;
+        self
+    }
+
+    /// The configuration with one name more, m, of that bay.
+    pub fn and(mut self, component: Component, owner: u8) -> Configuration {
+        self.components.push(component);
+        self.owners.push(owner);
         self
     }
 }

@@ -57,6 +57,7 @@ pub fn all() -> Vec<Example> {
         recursion(),
         waiting(),
         waiting_for_ever(),
+        whose_job(),
         bound_to_itself(),
     ];
     examples.extend(refused());
@@ -384,6 +385,54 @@ fn waiting_for_ever() -> Example {
     example("waiting-for-ever", text, types.recipe(vec![term]))
 }
 
+fn whose_job() -> Example {
+    let text = "Whose job waits, document 02's T-08. Bay 1 promises a reading to the vents of bays 0 and 1: a job, \
+                a thread of bay 1 that waits for a gate. It keeps the gate's handle in a cell, and nobody opens the \
+                gate. Bay 2 promises itself a reading and opens its gate: its vent goes to 60.0 percent. Bay 0 has \
+                nothing to do, and its vent awaits a job of bay 1.";
+    let mut types = Types::new();
+    let exch = setting_exch(&mut types);
+    let pass = types.many(UNIT, UNIT);
+    let t = handle_types(&mut types, pass);
+    let cell = types.cell(t.bind);
+    let new_cell = types.many(t.bind, cell);
+    let with_cell = types.many(cell, UNIT);
+    // under the job and the former openings of two vents, or of one: the gate's handle is 3, or 2
+    let kept = apply(constant(Constant::Cell, new_cell), variable(3));
+    let shut = apply(lambda(with_cell, unit()), kept);
+    let opened = apply(variable(2), lambda(pass, variable(0)));
+    let terms = vec![
+        unit(),
+        promise(&mut types, &t, exch, (&[0, 1], 400), shut),
+        promise(&mut types, &t, exch, (&[2], 600), opened),
+    ];
+    example("whose-job", text, types.recipe(terms))
+}
+
+/// handle (λgate. λopen. (λ1 job. (λ1 former. .. then) (exch setting job)) (thread (λself. (λopened. num) (gate unit)))),
+/// an exch for each of the bays.
+fn promise(
+    types: &mut Types,
+    t: &HandleTypes,
+    exch: u8,
+    (bays, value): (&[u8], u16),
+    then: Term,
+) -> Term {
+    let after_gate = types.many(UNIT, NUM);
+    let body = types.many(NUM, NUM);
+    let thread = types.many(body, NUM);
+    let with_num = types.once(NUM, UNIT);
+    let waits = apply(variable(2), unit());
+    let job = lambda(body, apply(lambda(after_gate, num(value)), waits));
+    let made = apply(constant(Constant::Thread, thread), job);
+    let mut promised = then;
+    for (formers, bay) in bays.iter().enumerate().rev() {
+        let vent = set_to(exch, *bay, variable(formers as u8));
+        promised = apply(lambda(with_num, promised), vent);
+    }
+    handled(t, apply(lambda(with_num, promised), made))
+}
+
 fn bound_to_itself() -> Example {
     let text =
         "Case C: a future bound to itself. It is bound; its thread is done and holds its own \
@@ -563,7 +612,11 @@ fn told_run(mut image: Vec<u8>) -> String {
 fn standing(now: &Configuration) -> String {
     let told = (0..now.names()).filter_map(|name| match step_configuration(now, name as u64) {
         Stepped::Done => Some(format!("thread {name} is done")),
-        Stepped::Waiting(awaited) => Some(format!("thread {name} waits for name {awaited}")),
+        Stepped::Waiting(awaited) => {
+            let [own, other] = [name, usize::from(awaited)].map(|name| now.owners[name]);
+            let waits = format!("thread {name} of bay {own} waits");
+            Some(format!("{waits} for name {awaited} of bay {other}"))
+        }
         Stepped::Refused(causes::ROOM) => Some(format!("thread {name} lacks room")),
         _ => None,
     });

@@ -1,6 +1,7 @@
 //! Random recipes and images: well-typed recipes directed by types, what can go wrong with them,
 //! and images with and without a fault.
 
+pub mod bays;
 pub mod configurations;
 pub mod growth;
 pub mod houses;

@@ -1,4 +1,5 @@
-//! Document 01, "The image": bytes to a configuration and back. Each sentence is one check.
+//! Document 01, "The image": bytes to a configuration and back. Each sentence is one check. What a
+//! companion byte says is document 02, T-08.
 
 use crate::config::{Component, Configuration};
 use crate::expression::Expression;
@@ -58,6 +59,33 @@ pub fn names_of_kind(image: &[u8], wanted: u8) -> Vec<u64> {
         .collect()
 }
 
+/// What a companion byte is read as: "The companion byte of kinds 1, 2, 4 and 5 now holds the owning
+/// bay; an open handle has the owner of its future."
+fn owner(heads: &[Head], head: &Head) -> u8 {
+    let holder = match head.kind {
+        OPEN_HANDLE => heads.get(usize::from(head.companion)).unwrap_or(head),
+        _ => head,
+    };
+    holder.companion
+}
+
+/// What is written as a companion byte: the owning bay, but the future's number for an open handle.
+fn companion(component: &Component, owner: u8) -> u8 {
+    match component {
+        Component::OpenHandle(future) => *future,
+        _ => owner,
+    }
+}
+
+fn owners_of(heads: &[Head]) -> Vec<u8> {
+    heads.iter().map(|head| owner(heads, head)).collect()
+}
+
+/// The owning bay of each name of an image, told by its heads alone; none where a head is cut.
+pub fn owners(image: &[u8]) -> Vec<u8> {
+    heads(image).map_or_else(Vec::new, |heads| owners_of(&heads))
+}
+
 /// The configuration of an image, or `None` when it breaks a rule or limit (refusal 13).
 pub fn read_image(image: &[u8]) -> Option<Configuration> {
     let heads = heads(image)?;
@@ -65,7 +93,7 @@ pub fn read_image(image: &[u8]) -> Option<Configuration> {
         && kinds_are_known(&heads)
         && expressions_are_laid_out(&heads, image.len())
         && others_have_no_expression(&heads)
-        && companions_are_zero_but_for_open_handles(&heads)
+        && owners_are_bays(&heads)
         && futures_and_open_handles_match(&heads);
     if !sound {
         return None;
@@ -119,11 +147,13 @@ fn others_have_no_expression(heads: &[Head]) -> bool {
     true
 }
 
-/// "Companions are 0 except for kind 3."
-fn companions_are_zero_but_for_open_handles(heads: &[Head]) -> bool {
-    heads
-        .iter()
-        .all(|head| head.kind == OPEN_HANDLE || head.companion == 0)
+/// "An image with an owner not below 16 breaks the layout." Any bay that a recipe may have is an owner,
+/// gaps among them or not; an open handle's companion is no owner, but a name.
+fn owners_are_bays(heads: &[Head]) -> bool {
+    let owned = heads.iter().filter(|head| head.kind != OPEN_HANDLE);
+    owned
+        .map(|head| usize::from(head.companion))
+        .all(|owner| owner < limits::MAX_BAYS)
 }
 
 /// "Each kind-5 name is the companion of exactly one open handle, and each open handle's companion
@@ -194,7 +224,8 @@ fn configuration_of(heads: &[Head], terms: &[Option<Vec<Node>>]) -> Configuratio
         }
     };
     let components = heads.iter().zip(terms).map(component).collect();
-    Configuration { components }
+    let owners = owners_of(heads);
+    Configuration { components, owners }
 }
 
 /// The image of a configuration.
@@ -202,20 +233,20 @@ pub fn write_image(configuration: &Configuration) -> Vec<u8> {
     let m = configuration.names();
     let mut image = (m as u16).to_le_bytes().to_vec();
     let mut expressions = Vec::new();
-    for component in &configuration.components {
-        let (kind, companion) = match component {
-            Component::Thread(_) => (THREAD, 0),
-            Component::Cell(_) => (CELL, 0),
-            Component::OpenHandle(future) => (OPEN_HANDLE, *future),
-            Component::UsedHandle => (USED_HANDLE, 0),
-            Component::Future => (FUTURE, 0),
+    for (component, owner) in configuration.components.iter().zip(&configuration.owners) {
+        let kind = match component {
+            Component::Thread(_) => THREAD,
+            Component::Cell(_) => CELL,
+            Component::OpenHandle(_) => OPEN_HANDLE,
+            Component::UsedHandle => USED_HANDLE,
+            Component::Future => FUTURE,
         };
         let offset = end_of_heads(m) + expressions.len();
         if let Some(e) = component.expression() {
             expressions.extend(write_term(&e.nodes()));
         }
         let length = end_of_heads(m) + expressions.len() - offset;
-        image.extend([kind, companion]);
+        image.extend([kind, companion(component, *owner)]);
         image.extend((offset as u16).to_le_bytes());
         image.extend((length as u16).to_le_bytes());
     }

@@ -4,6 +4,7 @@
 
 #![deny(unsafe_op_in_unsafe_fn)]
 
+pub mod across;
 pub mod answers;
 pub mod by_hand;
 pub mod causes;

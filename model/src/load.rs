@@ -17,14 +17,16 @@ pub enum Loaded {
 }
 
 /// "names 0 to b − 1 to the settings and b to 2b − 1 to the bays' threads"; a setting holds its bay's
-/// starting num.
+/// starting num. "Settings and first threads belong to their bay".
 pub fn starting_configuration(starts: &[u16], terms: &[Vec<Node>]) -> Configuration {
     let setting = |num: &u16| Component::Cell(Rc::new(Expression::Num(*num)));
     let thread = |term: &Vec<Node>| Component::Thread(Rc::new(Expression::of_nodes(term)));
     let settings = starts.iter().map(setting);
     let threads = terms.iter().map(thread);
+    let bays = |count: usize| (0..=u8::MAX).take(count);
     Configuration {
         components: settings.chain(threads).collect(),
+        owners: bays(starts.len()).chain(bays(terms.len())).collect(),
     }
 }
 

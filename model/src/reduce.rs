@@ -77,6 +77,11 @@ impl Mover<'_> {
         self.configuration.names() as u8
     }
 
+    /// "a new name [belongs] to the creating thread's bay", wherever the value applied came from.
+    fn creators_bay(&self) -> u8 {
+        self.configuration.owners[self.thread]
+    }
+
     /// (BETA) E[(λy.e) v] → E[e[v/y]]
     fn beta(&self, substituted: Rc<Expression>) -> Move {
         Move::Rule(rules::BETA, self.goes_on(substituted))
@@ -85,10 +90,9 @@ impl Mover<'_> {
     /// (THREAD.NEW) E[thread v] → E[y] | y ← v y
     fn thread_new(&self, v: &Rc<Expression>) -> Move {
         let y = Rc::new(Expression::Name(self.new_name()));
-        let mut next = self.goes_on(y.clone());
-        let expression = apply(v.clone(), y);
-        next.components.push(Component::Thread(expression));
-        Move::Rule(rules::THREAD_NEW, next)
+        let next = self.goes_on(y.clone());
+        let thread = Component::Thread(apply(v.clone(), y));
+        Move::Rule(rules::THREAD_NEW, next.and(thread, self.creators_bay()))
     }
 
     /// (HANDLE.NEW) E[handle v] → E[v y z] | z h y, y taking m and z taking m + 1
@@ -97,18 +101,19 @@ impl Mover<'_> {
         let future = Rc::new(Expression::Name(y));
         let handle = Rc::new(Expression::Name(y.wrapping_add(1)));
         let applied = apply(apply(v.clone(), future), handle);
-        let mut next = self.goes_on(applied);
-        next.components.push(Component::Future);
-        next.components.push(Component::OpenHandle(y));
-        Move::Rule(rules::HANDLE_NEW, next)
+        let bay = self.creators_bay();
+        let next = self.goes_on(applied).and(Component::Future, bay);
+        Move::Rule(rules::HANDLE_NEW, next.and(Component::OpenHandle(y), bay))
     }
 
     /// (CELL.NEW) E[cell v] → E[y] | y c v
     fn cell_new(&self, v: &Rc<Expression>) -> Move {
         let y = Rc::new(Expression::Name(self.new_name()));
-        let mut next = self.goes_on(y);
-        next.components.push(Component::Cell(v.clone()));
-        Move::Rule(rules::CELL_NEW, next)
+        let cell = Component::Cell(v.clone());
+        Move::Rule(
+            rules::CELL_NEW,
+            self.goes_on(y).and(cell, self.creators_bay()),
+        )
     }
 
     /// A name at the function of an application: F[[] v].

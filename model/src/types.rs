@@ -31,7 +31,7 @@ pub enum Shape {
 }
 
 /// The constants of Fig. 1 that carry a type in the file. (unit and num carry none.)
-#[derive(Debug, Clone, Copy, PartialEq, Eq)]
+#[derive(Debug, Clone, Copy, PartialEq, Eq, PartialOrd, Ord)]
 pub enum Constant {
     Cell,
     Exch,

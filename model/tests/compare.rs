@@ -4,6 +4,8 @@
 mod tool_common;
 
 use model::answers::{RanAnswer, SteppedAnswer, VerdictAnswer};
+use model::tool::compare::pair::Difference;
+use model::tool::compare::report::in_full;
 use model::tool::compare::words::InWords;
 use std::process::Command;
 use tool_common::*;
@@ -194,6 +196,32 @@ fn answers_in_words() {
     assert_eq!(ran.in_words(), words);
 }
 
+/// The load of two bays, with and without owners: the byte is told by what it says.
+#[test]
+fn a_difference_of_owners_is_told() {
+    let image = [
+        4, 0, 2, 0, 26, 0, 3, 0, 2, 1, 29, 0, 3, 0, 1, 0, 32, 0, 1, 0, 1, 1, 33, 0, 1, 0, 4, 0, 0,
+        4, 0, 0, 3, 3,
+    ];
+    let told = |at: usize| {
+        let mut other = image;
+        other[at] = 0;
+        let outs = [image, other, image].map(|out| out.to_vec());
+        let difference = Difference {
+            outs,
+            ..Difference::default()
+        };
+        in_full(&difference)
+    };
+    let last = "9 (the owner of name 1), where A has 01, B has 00, the model has 01\n";
+    assert!(told(9).ends_with(last), "{}", told(9));
+    assert!(told(20).contains(": 20 (the kind of name 3), where "));
+    assert!(told(22).contains(": 22 (the offset of name 3), where "));
+    assert!(told(24).contains(": 24 (the length of name 3), where "));
+    assert!(told(26).contains(": 26, where "));
+    assert!(told(0).contains(": 0, where "));
+}
+
 #[test]
 fn a_library_without_the_interface() {
     let folder = Folder::new();
@@ -271,6 +299,31 @@ struct fikarehu_ran fikarehu_run(const uint8_t *recipe, size_t recipe_len, uint1
         for expected in ["difference: run of ", "recipe: 4C46", "A answers: stop "] {
             assert!(text.contains(expected), "{text}");
         }
+    }
+
+    /// Loads as the library does, but all names are of bay 0.
+    const KNOWS_NO_BAYS: &str = "\
+#include \"fikarehu.h\"
+struct fikarehu_loaded honest_load(const uint8_t *, size_t, uint8_t *, size_t);
+struct fikarehu_loaded fikarehu_load(const uint8_t *recipe, size_t recipe_len, uint8_t *out, size_t out_len) {
+    struct fikarehu_loaded loaded = honest_load(recipe, recipe_len, out, out_len);
+    for (uint32_t name = 0; name < 2 * loaded.bays; name++) {
+        out[FIKAREHU_FIRST_HEAD + FIKAREHU_HEAD_LENGTH * name + 1] = 0;
+    }
+    return loaded;
+}
+";
+
+    #[test]
+    fn an_impostor_that_knows_no_bays() {
+        let folder = Folder::new();
+        let honest = shared(&folder, "honest.so", &archive(), &[]);
+        let impostor = impostor(&folder, "load", KNOWS_NO_BAYS);
+        let output = recipe(&["compare", &honest, &impostor, "--count", "500"]);
+        let text = standard_output(&output);
+        assert_eq!(output.status.code(), Some(1), "{text}");
+        let last = "9 (the owner of name 1), where A has 01, B has 00, the model has 01\n";
+        assert!(text.ends_with(last), "{text}");
     }
 
     /// Steps as the library does, but for the byte after the image when rule 7 was applied.

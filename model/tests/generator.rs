@@ -1,14 +1,17 @@
 //! The generator reaches what it should reach; the plain check gives the model's answers.
 
+use model::across::{across, Across};
 use model::answers::{Implementation, Model, Plain};
 use model::causes;
 use model::command::on_deep_stack;
 use model::draw::Draw;
 use model::format::hexadecimal;
+use model::generate::bays;
 use model::generate::images;
 use model::generate::instances::constants_at_every_type;
 use model::generate::recipes::{file, largest, well_typed};
-use model::image::read_image;
+use model::image::{names_of_kind, owners, read_image};
+use model::kinds;
 use model::limits;
 use model::load::{load, Loaded};
 use model::nodes::{standings, Node};
@@ -17,7 +20,7 @@ use model::rules;
 use model::step::{step, Outcome};
 use model::subjects::{self, case_at, subject_of, Subject};
 use model::tool::faults::fault;
-use model::types::Shape;
+use model::types::{Constant, Shape};
 use model::verdict::verdict;
 use std::collections::BTreeMap;
 
@@ -219,6 +222,112 @@ fn runs_take_pairs_and_lists_apart_and_wait_for_them() {
                 count.unwrap_or(0) >= least,
                 "{subject:?} {answer}: {counts:?}"
             );
+        }
+    });
+}
+
+/// Owners that break the layout, each the only fault of its image: by kind and owner.
+fn wrong_owners(image: &[u8]) -> Vec<(u8, u8)> {
+    let mut found = Vec::new();
+    for kind in [
+        kinds::THREAD,
+        kinds::CELL,
+        kinds::USED_HANDLE,
+        kinds::FUTURE,
+    ] {
+        for name in names_of_kind(image, kind) {
+            let companion = limits::FIRST_HEAD + limits::HEAD_LENGTH * name as usize + 1;
+            let mut sound = image.to_vec();
+            sound[companion] = 0;
+            if read_image(&sound).is_some() && read_image(image).is_none() {
+                found.push((kind, image[companion]));
+            }
+        }
+    }
+    found
+}
+
+/// Document 02, T-08: all bays, futures of high numbers, steps between bays, and every wrong owner.
+#[test]
+fn images_have_owners_of_every_bay_and_wrong_ones() {
+    on_deep_stack(|| {
+        let mut draw = Draw::new(9);
+        let mut bays = [0; limits::MAX_BAYS];
+        let mut several = 0;
+        let (mut high_futures, mut highest_futures) = (0, 0);
+        let mut between = BTreeMap::new();
+        let mut wrong: BTreeMap<(u8, u8), usize> = BTreeMap::new();
+        for _ in 0..4_000 {
+            let image = images::image(&mut draw);
+            if let Some(now) = read_image(&image) {
+                now.owners
+                    .iter()
+                    .for_each(|owner| bays[usize::from(*owner)] += 1);
+                several += usize::from(now.owners.iter().any(|owner| *owner != now.owners[0]));
+                let futures = names_of_kind(&image, kinds::FUTURE);
+                high_futures += usize::from(futures.iter().any(|future| *future >= 16));
+                highest_futures += usize::from(futures.iter().any(|future| *future >= 200));
+                for thread in 0..now.names().min(8) {
+                    if let Some(what) = across(&now, thread as u64) {
+                        *between.entry(what).or_insert(0) += 1;
+                    }
+                }
+                assert_eq!(owners(&image), now.owners);
+            } else if image.len() < 2_000 {
+                for fault in wrong_owners(&image) {
+                    *wrong.entry(fault).or_default() += 1;
+                }
+            }
+        }
+        println!("{bays:?}, {several} of several bays, {high_futures}, {highest_futures}");
+        println!("{between:?} {wrong:?}");
+        assert!(bays.iter().all(|count| *count > 500), "{bays:?}");
+        assert!(several > 1_000);
+        assert!(high_futures > 200 && highest_futures > 40);
+        assert_eq!(between.len(), 5, "{between:?}");
+        assert!(between.values().all(|count| *count > 20), "{between:?}");
+        for kind in [
+            kinds::THREAD,
+            kinds::CELL,
+            kinds::USED_HANDLE,
+            kinds::FUTURE,
+        ] {
+            for owner in [16, 255] {
+                let count = wrong.get(&(kind, owner)).copied().unwrap_or(0);
+                assert!(count >= 5, "kind {kind}, owner {owner}: {wrong:?}");
+            }
+        }
+    });
+}
+
+/// Bays that make names of what other bays left in the settings.
+#[test]
+fn runs_make_names_of_what_came_from_other_bays() {
+    on_deep_stack(|| {
+        let mut draw = Draw::new(10);
+        let mut out = vec![0; limits::MAX_IMAGE];
+        let mut between = BTreeMap::new();
+        for _ in 0..600 {
+            let made = bays::recipe(&mut draw).write();
+            let mut image = match load(&made, &mut out) {
+                Loaded::Accepted(_, length) => out[..length].to_vec(),
+                Loaded::Refused(number) => panic!("{number}: {}", hexadecimal(&made)),
+            };
+            for _ in 0..60 {
+                let thread = images::thread_number(&mut draw, &image);
+                let now = read_image(&image).expect("an image of a run");
+                if let Outcome::Rule(_, length) = step(&image, thread, &mut out) {
+                    if let Some(what) = across(&now, thread) {
+                        *between.entry(what).or_insert(0) += 1;
+                    }
+                    image = out[..length].to_vec();
+                }
+            }
+        }
+        println!("{between:?}");
+        for what in [Across::Exchanges, Across::Makes(Constant::Cell)] {
+            let count = between.get(&what).copied().unwrap_or(0);
+            assert!(count > 20, "{what:?}: {between:?}");
         }
     });
 }

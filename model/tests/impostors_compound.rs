@@ -98,8 +98,11 @@ fn with_image(image: &[u8], change: fn(Expression) -> Expression) -> Option<Vec<
         Component::Cell(e) => Component::Cell(mapped(e, change)),
         other => other.clone(),
     };
-    let components = now.components.iter().map(component).collect();
-    Some(write_image(&Configuration { components }))
+    let changed = Configuration {
+        components: now.components.iter().map(component).collect(),
+        ..now
+    };
+    Some(write_image(&changed))
 }
 
 /// A step as the model makes it of the changed image, and the change undone; for a change that undoes

@@ -199,10 +199,10 @@ fn every_limit_kind_rule_and_cause_of_the_rattle_sources_is_in_the_header() {
         let (owner, name) = whole.split_once("::").unwrap_or(("", ""));
         let public =
             ["Recipe", "Image", "Type", "Rule", "Cause", "Stepped", "Ran"].contains(&owner);
-        // The companion of a name without one is 0 (document 01), and how many variables a term can have around it follows from its nesting: neither is a limit or a kind.
-        let inside = ["Image::NO_OWNER", "Recipe::MAX_VARIABLES"].contains(&whole.as_str());
+        // How many variables a term can have around it follows from its nesting: that is no limit.
+        let follows = whole == "Recipe::MAX_VARIABLES";
         assert!(
-            !public || inside || listed(owner, name),
+            !public || follows || listed(owner, name),
             "{whole} = {value} has no name in the header"
         );
     }

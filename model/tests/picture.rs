@@ -5,11 +5,14 @@ use model::command::on_deep_stack;
 use model::curves::picture::Panel;
 use model::curves::{self, Curve, Point};
 use model::draw::Draw;
+use model::examples::file_of;
 use model::generate::recipes;
 use model::limits;
 use model::tool::run::history::History;
+use model::tool::run::image_view::ImageView;
 use model::tool::run::order::Order;
-use model::tool::run::runner::Runner;
+use model::tool::run::report::standings;
+use model::tool::run::runner::{Answer, Ending, Runner};
 use model::tool::svg::picture;
 use model::tool::write::made;
 use model::weights;
@@ -193,7 +196,59 @@ fn each_threads_bay_and_the_rules_by_name() {
         assert!(svg.contains(&format!(">{label}</text>")), "{label}");
     }
     assert!(svg.contains("rules: 1 BETA · 2 THREAD.NEW · 3 FUTURE.DEREF"));
-    assert!(svg.contains("7 CELL.EXCH</text>"));
+    assert!(svg.contains("7 CELL.EXCH · 8 PAIR.CASE · 9 LIST.CASE</text>"));
+}
+
+/// Two settings; thread 2 of bay 0 waits for name 4, a future of bay 1; thread 3 of bay 1 is done. Of no
+/// recipe: there a thread waits for names of its own bay.
+const ACROSS: [u8; 49] = [
+    6, 0, 2, 0, 38, 0, 3, 0, 2, 1, 41, 0, 3, 0, 1, 0, 44, 0, 4, 0, 1, 1, 48, 0, 1, 0, 5, 1, 49, 0,
+    0, 0, 3, 4, 49, 0, 0, 0, 4, 0, 0, 4, 0, 0, 2, 9, 4, 3, 3,
+];
+
+#[test]
+fn a_wait_tells_whose_name_is_awaited_and_has_the_colour_of_its_bay() {
+    let mut runner = Runner::new(&Model, ACROSS.to_vec());
+    let mut history = History::start(2, &runner.image);
+    let turn = runner.turn(&mut Order::Runner(0));
+    assert_eq!(turn.taken, Err(Ending::Idle));
+    history.note(&turn, &runner.image);
+    history.finish();
+    check(&history);
+    let svg = picture("across", &history);
+    assert!(svg.contains(">waits for 4 of bay 1</text>"), "{svg}");
+    assert!(svg.contains("thread 2 waits for name 4 of bay 1, "));
+    let colours: Vec<String> = first_lines(&svg).into_iter().map(|line| line.2).collect();
+    let stripes = svg.lines().filter(|line| line.contains(" height=\"3.0\""));
+    let stripes: Vec<&str> = stripes.map(|line| attribute(line, "fill")).collect();
+    assert_eq!(stripes, [&colours[1]]);
+    let answers: Vec<(u64, Answer)> = [2, 3].map(|t| (t, runner.answer(t))).to_vec();
+    assert_eq!(
+        standings(&answers, ImageView(&runner.image)),
+        "  bay 0   thread 2 waits for name 4, a future of bay 1\n  bay 1   thread 3 is done\n"
+    );
+}
+
+/// The rows go by bays, and by numbers within a bay.
+#[test]
+fn the_threads_of_a_bay_stand_together() {
+    let svg = picture(
+        "whose job",
+        &history(&file_of("whose-job"), 60, Order::Runner(0)),
+    );
+    let is_label = |words: &Words| words.text.contains(", bay ") && !words.text.contains("thread");
+    let labels = svg.lines().filter_map(words_of).filter(is_label);
+    let labels: Vec<String> = labels.map(|words| words.text).collect();
+    let expected = [
+        "3, bay 0",
+        "4, bay 1",
+        "10, bay 1",
+        "5, bay 2",
+        "8, bay 2",
+        "11, bay 2",
+    ];
+    assert_eq!(labels, expected);
+    assert!(svg.contains(">bay 0: awaits 10 of bay 1</text>"), "{svg}");
 }
 
 /// Every bay's line at the beginning: height, width and colour.

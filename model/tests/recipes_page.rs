@@ -78,11 +78,14 @@ fn the_page_tells_the_truth() {
 }
 
 #[test]
-fn the_pages_picture_is_what_the_tool_draws() {
+fn the_pages_pictures_are_what_the_tool_draws() {
     let folder = Folder::new();
-    let picture = folder.path("mutex.svg");
-    recipe(&["run", "examples/mutex.recipe", "--svg", &picture]);
-    let kept = std::fs::read_to_string(repository().join("docs/mutex.svg"));
-    let drawn = std::fs::read_to_string(&picture);
-    assert_eq!(drawn.expect("a picture"), kept.expect("the page's picture"));
+    for name in ["mutex", "whose-job"] {
+        let picture = folder.path(&format!("{name}.svg"));
+        let file = format!("examples/{name}.recipe");
+        recipe(&["run", &file, "--svg", &picture]);
+        let kept = std::fs::read_to_string(repository().join(format!("docs/{name}.svg")));
+        let drawn = std::fs::read_to_string(&picture);
+        assert_eq!(drawn.expect("a picture"), kept.expect("the page's picture"));
+    }
 }

@@ -2,9 +2,11 @@
 //! comes often enough.
 
 use model::answers::{REFUSED, RULE, WAITING};
-use model::causes::{BAY_ONCE, BUFFER, STARTING, WRONG_KIND};
+use model::causes::{BAY_ONCE, BUFFER, IMAGE, STARTING, WRONG_KIND};
 use model::command::on_deep_stack;
 use model::draw::Draw;
+use model::image::owners;
+use model::limits::MAX_BAYS;
 use model::rows::{checks, files, loads, steps};
 use model::rules::CASE_LIST;
 use std::collections::BTreeMap;
@@ -63,4 +65,22 @@ fn there_are_enough_rows_of_every_answer() {
     }
     assert!(counts.values().sum::<usize>() >= FEWEST_IN_ALL);
     assert_eq!(counts.len(), expected.len());
+}
+
+/// Document 02, T-08: images of several bays, the highest owner that there may be, and the first wrong one.
+#[test]
+fn there_are_enough_rows_of_owners() {
+    let mut draw = Draw::new(1);
+    let rows = on_deep_stack(|| steps::rows(&mut draw));
+    let moved = rows.iter().filter(|row| row.answer.outcome == RULE);
+    let owned: Vec<Vec<u8>> = moved.map(|row| owners(&row.new)).collect();
+    let several = owned.iter().filter(|all| all.iter().any(|o| *o != all[0]));
+    let several = several.count();
+    assert!(several >= 40, "{several} rows of several bays");
+    let highest = |all: &&Vec<u8>| all.contains(&(MAX_BAYS as u8 - 1));
+    assert!(owned.iter().filter(highest).count() >= FEWEST);
+    let refused = rows.iter().filter(|row| row.answer.outcome == REFUSED);
+    let broken = refused.filter(|row| row.answer.number == IMAGE);
+    let wrong = broken.filter(|row| owners(&row.image).contains(&(MAX_BAYS as u8)));
+    assert!(wrong.count() >= 4);
 }

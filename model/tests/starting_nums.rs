@@ -130,8 +130,8 @@ fn names_go_by_n() {
 fn each_bay_starts_at_its_num() {
     let file = recipe_3(A, "FA00 0100 0001 FFFF", &["03"; 4]);
     assert_eq!(verdict(&file), Verdict::Accepted(vec![0; 4]));
-    let heads = "0800 020032000300 020035000300 020038000300 02003B000300 \
-                 01003E000100 01003F000100 010040000100 010041000100";
+    let heads = "0800 020032000300 020135000300 020238000300 02033B000300 \
+                 01003E000100 01013F000100 010240000100 010341000100";
     let expressions = "04FA00 040100 040001 04FFFF 03030303";
     assert_eq!(
         image_of_file(&file),

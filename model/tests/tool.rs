@@ -261,7 +261,7 @@ fn the_picture_of_a_run() {
     let waiting = folder.path("waiting.svg");
     recipe(&["run", "examples/waiting-for-ever.recipe", "--svg", &waiting]);
     let text = std::fs::read_to_string(&waiting).expect("a picture");
-    assert!(text.contains("waits for name 2"), "{text}");
+    assert!(text.contains("waits for name 2 of bay 0"), "{text}");
 }
 
 /// What stands between the turns and the vents.
@@ -283,15 +283,15 @@ fn a_run_says_why_it_stopped() {
     );
     let vent = "examples/one-vent.recipe";
     let expected = format!(
-        "1 turn: no thread can go, each is done or waits.\n  done: thread 1\n{one_call}stop 1, 1 turn, buffer 1, length 20."
+        "1 turn: no thread can go, each is done or waits.\n  bay 0   thread 1 is done\n{one_call}stop 1, 1 turn, buffer 1, length 20."
     );
     assert_eq!(ending(&["run", vent]), expected);
     let expected = format!(
-        "1 turn: all turns are taken.\n  done: thread 1\n{one_call}stop 0, 1 turn, buffer 1, length 20."
+        "1 turn: all turns are taken.\n  bay 0   thread 1 is done\n{one_call}stop 0, 1 turn, buffer 1, length 20."
     );
     assert_eq!(ending(&["run", vent, "--turns", "1"]), expected);
     let expected = format!(
-        "0 turns: all turns are taken.\n  can go: thread 1\n{one_call}stop 0, 0 turns, buffer 0, length 26."
+        "0 turns: all turns are taken.\n  bay 0   thread 1 can go\n{one_call}stop 0, 0 turns, buffer 0, length 26."
     );
     assert_eq!(ending(&["run", vent, "--turns", "0"]), expected);
     let folder = Folder::new();
@@ -306,8 +306,37 @@ fn a_run_says_why_it_stopped() {
         text.contains(": no thread can go, and one lacks room.\n"),
         "{text}"
     );
-    assert!(text.contains("refused: thread 1 (15: "), "{text}");
+    assert!(
+        text.contains("  bay 0   thread 1 is refused 15: "),
+        "{text}"
+    );
     assert!(text.contains("stop 2, "), "{text}");
+}
+
+/// "The service screen shows whose job waits": each turn has its thread's bay, and at the end the threads
+/// stand by their bays, with whose name they wait for.
+#[test]
+fn a_run_says_whose_job_waits() {
+    let file = "examples/whose-job.recipe";
+    let text = standard_output(&recipe(&["run", file]));
+    for line in [
+        "  turn  thread  of bay  answer                 bay 0  bay 1  bay 2\n",
+        "     1       4       1  rule 4 HANDLE.NEW          0      0      0\n",
+        "     2       5       2  rule 4 HANDLE.NEW          0      0      0\n",
+        "\n  bay 0   thread 3 is done\n  bay 1   thread 10 waits for name 6, a future of bay 1\n",
+        "\n  bay 2   threads 5, 8, 11 are done\n",
+        "\n  0  awaits name 10, a thread of bay 1\n",
+        "\n  2  60.0 % (held under name 11, a thread of bay 2)\n",
+    ] {
+        assert!(text.contains(line), "{line}{text}");
+    }
+    let text = standard_output(&recipe(&["run", file, "--order", "4,5,10,11,99"]));
+    for line in [
+        "      11       2  waits for name 8, a future of bay 2     ",
+        "      99       -  refused 14  ",
+    ] {
+        assert!(text.contains(line), "{line}\n{text}");
+    }
 }
 
 /// Other orders, and more turns than the runner takes, are of steps alone.

@@ -126,7 +126,8 @@ fn the_outcome_weighs_what_is_said() {
         let mut draw = Draw::new(2_005);
         let mut met = Vec::new();
         for _ in 0..6_000 {
-            let now = draw.pick(&[configuration, outcome_at_limit])(&mut draw);
+            let makers: [fn(&mut Draw) -> Configuration; 2] = [configuration, outcome_at_limit];
+            let now = draw.pick(&makers)(&mut draw);
             met.extend((0..now.names()).filter_map(|thread| weighed(&now, thread)));
         }
         let putting = [rules::BETA, rules::CASE_PAIR, rules::CASE_LIST];

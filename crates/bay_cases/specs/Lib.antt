@@ -18,3 +18,5 @@ pub mod WeightSteps
 pub mod TestLoads
 -- document 02, T-07: rows of edition 3, their runs and test loads
 pub mod StartingRows
+-- document 02, T-08: rows of recipes of several bays, and steps of images from outside
+pub mod OwnerRows

@@ -13,10 +13,11 @@ use Rattle.term.specs.Expressions.{exp-of, leaf-exp, leaf-forms, bytes, const-b
 use Rattle.calculus.specs.Reduction.{substitute, plug}
 use Rattle.calculus.specs.Step.{beside, within, place, when-done, step-call, step-exchange, step-meeting, step-place, step-redex, step-case, step-subject, step-of}
 use Rattle.calculus.specs.Reply.{reply-of}
+use Rattle.calculus.specs.Owners.{owners-after}
 use Rattle.image_layout.specs.Encoded.{head, heads, expressions, image-bytes}
-use Rattle.image_layout.specs.Slice.{names, kind-at, companion-at, offset-at as offset-in, length-at, expression-at, encoded-at, encoded-all}
+use Rattle.image_layout.specs.Slice.{names, kind-at, companion-at, offset-at as offset-in, length-at, expression-at, encoded-at, encoded-all, owner-at}
 use Rattle.image_layout.specs.Layout.{kind-test, companion-test, length-test, head-agrees, head-stands, stand-from, heads-stand}
-use Rattle.image.specs.Configuration.{encode, image-of, components, decode, config-of}
+use Rattle.image.specs.Configuration.{encode, image-of, components, decode, config-of, owners-of, encode-all}
 use Rattle.image.specs.Stands.{terms-stand, image-stands}
 use Rattle.step_spec.specs.declared.Outcome.{Outcome}
 use Rattle.step_spec.specs.declared.Outcome.the-variants.{Rule, Done, Refused, Waiting}
@@ -178,5 +179,5 @@ turns = subjects ++ places ++ standing
 
 -- what is claimed is what is computed
 each-stepped : map stepped turns ≡ turns
-unfolding two-bytes word exp-of leaf-exp leaf-forms two-exp two-forms one-term read read-term form-of forms value-of tabulate each-below nodes renewed outcome-of out-after-step step-reply outcome-of-reply out-after-reply config-of decode components image-of encode terms-stand image-stands kind-test companion-test length-test head-agrees head-stands stand-from heads-stand names kind-at companion-at offset-in length-at expression-at encoded-at encoded-all head heads expressions image-bytes bytes const-bytes op-tag both-tag case-tag little-endian reply-of sum-in sum-all expression-test is-settled is-awaited handle-for component-test each-test limits-test image-test beside within place when-done step-call step-exchange step-meeting step-place step-redex step-case step-subject step-of substitute plug term-of stepped
+unfolding two-bytes word exp-of leaf-exp leaf-forms two-exp two-forms one-term read read-term form-of forms value-of tabulate each-below nodes renewed outcome-of out-after-step step-reply outcome-of-reply out-after-reply config-of decode components image-of encode terms-stand image-stands kind-test companion-test length-test head-agrees head-stands stand-from heads-stand names kind-at companion-at offset-in length-at expression-at encoded-at encoded-all head heads expressions image-bytes bytes const-bytes op-tag both-tag case-tag little-endian reply-of sum-in sum-all expression-test is-settled is-awaited handle-for component-test each-test limits-test image-test beside within place when-done step-call step-exchange step-meeting step-place step-redex step-case step-subject step-of substitute plug term-of stepped owners-of owner-at owners-after encode-all
 each-stepped = refl

@@ -28,9 +28,9 @@ use Rattle.calculus.specs.Step.{beside, within, place, when-done, step-call, st
 use Rattle.calculus.specs.Reply.{reply-of}
 use Rattle.calculus.specs.Recipe.{loaded, bay-types, with-type}
 use Rattle.image_layout.specs.Encoded.{head, heads, expressions, image-bytes}
-use Rattle.image_layout.specs.Slice.{names, kind-at, companion-at, offset-at as offset-in, length-at, expression-at, encoded-at, encoded-all}
+use Rattle.image_layout.specs.Slice.{names, kind-at, companion-at, offset-at as offset-in, length-at, expression-at, encoded-at, encoded-all, owner-at}
 use Rattle.image_layout.specs.Layout.{kind-test, companion-test, length-test, head-agrees, head-stands, stand-from, heads-stand}
-use Rattle.image.specs.Configuration.{encode, image-of, components, decode, config-of}
+use Rattle.image.specs.Configuration.{encode, image-of, components, decode, config-of, owners-of, encode-all}
 use Rattle.image.specs.Stands.{terms-stand, image-stands}
 use Rattle.load_spec.specs.Starting.{starting-image}
 use Rattle.step_spec.specs.declared.Outcome.the-variants.{Rule, Done, Waiting}
@@ -38,6 +38,7 @@ use Rattle.step_spec.specs.Stepping.{step-reply, outcome-of-reply, out-after-re
 use Rattle.runs.specs.Run.{steps, renewed}
 use Rattle.load_spec.specs.Loading.{loaded-of, load-refusal, out-after-load}
 use Rattle.calculus.specs.NewTypes.{function-at, result-type, future-and-handle, coming, new-types}
+use Rattle.calculus.specs.Owners.{owners-after, first-owners}
 use Rattle.bay_cases.specs.Cases.{Row, refused-row, computed, run-of, T3, T7}
 
 -- the tables, by what they are for
@@ -664,5 +665,5 @@ rows = made ++ kinds ++ refusals ++ twins ++ orders ++ walks ++ depths
 
 -- what is claimed is what is computed
 pairs : map computed rows ≡ rows
-unfolding computed verdict-of refusal bay-type-numbers bay-type-number number-in bay-terms bay-term cause-5 cause-6 cause-4 table-of type-table file-of joined pairs-of two-bytes word bays parts offset-of length-of part table-bytes term-bytes outside cause-1 opens edition-of cause-2 pairs-test table-length-test cause-3 cause-19 starting-nums starting-num starting-bytes exp-of leaf-exp leaf-forms two-exp two-forms nesting one-term of-edition forms-below read read-term form-of forms value-of tabulate each-below sum-below uses nodes test-entry entry-test entry-stands entries-test same-entry new-to distinct-test entry-is table-test on-function on-once-function on-cell is-many scoped-const scoped annotated-const annotated const-number on-number result-number applied-number lambda-number both-number case-number with-components type-number outside-many linear-variable linear every verdict starting-image renewed outcome-of out-after-step step-reply outcome-of-reply out-after-reply config-of decode components image-of encode terms-stand image-stands kind-test companion-test length-test head-agrees head-stands stand-from heads-stand names kind-at companion-at offset-in length-at expression-at encoded-at encoded-all head heads expressions image-bytes bytes const-bytes op-tag both-tag case-tag little-endian loaded bay-types with-type reply-of sum-in sum-all expression-test is-settled is-awaited handle-for component-test each-test limits-test image-test beside within place when-done step-call step-exchange step-meeting step-place step-redex step-case step-subject step-of substitute plug run-of nested steps loaded-of load-refusal out-after-load term-of function-at new-types coming result-type future-and-handle type-at read-deep read-at read-entry one-part two-parts
+unfolding computed verdict-of refusal bay-type-numbers bay-type-number number-in bay-terms bay-term cause-5 cause-6 cause-4 table-of type-table file-of joined pairs-of two-bytes word bays parts offset-of length-of part table-bytes term-bytes outside cause-1 opens edition-of cause-2 pairs-test table-length-test cause-3 cause-19 starting-nums starting-num starting-bytes exp-of leaf-exp leaf-forms two-exp two-forms nesting one-term of-edition forms-below read read-term form-of forms value-of tabulate each-below sum-below uses nodes test-entry entry-test entry-stands entries-test same-entry new-to distinct-test entry-is table-test on-function on-once-function on-cell is-many scoped-const scoped annotated-const annotated const-number on-number result-number applied-number lambda-number both-number case-number with-components type-number outside-many linear-variable linear every verdict starting-image renewed outcome-of out-after-step step-reply outcome-of-reply out-after-reply config-of decode components image-of encode terms-stand image-stands kind-test companion-test length-test head-agrees head-stands stand-from heads-stand names kind-at companion-at offset-in length-at expression-at encoded-at encoded-all head heads expressions image-bytes bytes const-bytes op-tag both-tag case-tag little-endian loaded bay-types with-type reply-of sum-in sum-all expression-test is-settled is-awaited handle-for component-test each-test limits-test image-test beside within place when-done step-call step-exchange step-meeting step-place step-redex step-case step-subject step-of substitute plug run-of nested steps loaded-of load-refusal out-after-load term-of function-at new-types coming result-type future-and-handle type-at read-deep read-at read-entry one-part two-parts owners-of owner-at owners-after encode-all first-owners
 pairs = refl

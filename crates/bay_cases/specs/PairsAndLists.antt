@@ -14,6 +14,7 @@ use Rattle.calculus.specs.Causes.{type-entry-cause, no-term-cause, scope-cause,
 use Rattle.calculus.specs.Kinds.{many-pair-kind, many-list-kind}
 use Rattle.calculus.specs.Types.{Multiplicity, once, many, LinType, pair-type, list-type, multiplicity, Holds}
 use Rattle.calculus.specs.Syntax.{Const, Shape, pair, list, Exp, var, name, const, lam, app, both, case-of, op, cell, exch, thread, handle, unit, num, Value, is-name, is-const, is-lam, is-exch, is-both, Component, thread-of, holds, open-for, used, awaited, Config, at}
+use Rattle.calculus.specs.Owners.{Owned, grown}
 use Rattle.calculus.specs.Typing.{TypeNumbers, Fig10, fig10-pair, fig10-list, of-op, Env, Split, split-nil, Derivation, d-const, d-name, d-app, d-both, d-case}
 use Rattle.calculus.specs.Reduction.{substitute, substitute-both, Context, in-first, in-second, Has, put, Rule, BETA, THREAD-NEW, FUTURE-DEREF, HANDLE-NEW, HANDLE-BIND, CELL-NEW, CELL-EXCH, CASE, number, Reduces, future-deref-case, case-both}
 use Rattle.calculus.specs.Step.{Redex, subject, meet, place, within, rule, wrong-kind, step-of, step-place, step-redex, step-case, step-subject, to-case, Unready}
@@ -93,9 +94,9 @@ abbrev Parted : (Env → Type 0) → (Env → Type 0) → Env → Type 0
 Parted P Q Γ = (Γ₁ : Env) × (Γ₂ : Env) × Split Γ Γ₁ Γ₂ × P Γ₁ × Q Γ₂
 
 -- rule 8 or 9 moves thread x of C, and the outcome has room and an image of this length
-abbrev TakesApart : Shape → ℕ → ℕ → Config → Type 0
-TakesApart s x size C = (F : Context) × (t : ℕ) × (v₁ : Exp) × (v₂ : Exp) × (e : Exp) × Value v₁ × Value v₂ × (Has C x F (case-of s (both s t v₁ v₂) e)) ×
-    WithinLimits (put C x F (substitute-both v₁ v₂ e)) × (size ≡ length (image-of (put C x F (substitute-both v₁ v₂ e))))
+abbrev TakesApart : Shape → ℕ → ℕ → Owned → Type 0
+TakesApart s x size I = (F : Context) × (t : ℕ) × (v₁ : Exp) × (v₂ : Exp) × (e : Exp) × Value v₁ × Value v₂ × (Has (I .config) x F (case-of s (both s t v₁ v₂) e)) ×
+    WithinLimits (put (I .config) x F (substitute-both v₁ v₂ e)) × (size ≡ length (image-of (grown I x (put (I .config) x F (substitute-both v₁ v₂ e)))))
 
 record PairsAndLists : Type 0 where
   -- "Edition 2 adds Fig. 10": four node forms and four kinds; it has all that there are
@@ -148,13 +149,13 @@ record PairsAndLists : Type 0 where
   rule-8 : (image : List ℕ) → Bytes image → (x size : ℕ) (out : List ℕ) → (outcome-of image x out ≡ Answers 8 size) ↔ Means image out (TakesApart pair x size)
   rule-9 : (image : List ℕ) → Bytes image → (x size : ℕ) (out : List ℕ) → (outcome-of image x out ≡ Answers 9 size) ↔ Means image out (TakesApart list x size)
   -- "and needs its subject's value as an exch does": waiting, and rule 3, after which the case stands with the value
-  waits : (image : List ℕ) → Bytes image → (C : Config) → ImageOf image C → (x y : ℕ) (out : List ℕ) → max-image-length ≤ length out →
-      (F : Context) (s : Shape) (e : Exp) → Has C x F (case-of s (name y) e) → Unready C y → outcome-of image x out ≡ Waiting y
+  waits : (image : List ℕ) → Bytes image → (I : Owned) → ImageOf image I → (x y : ℕ) (out : List ℕ) → max-image-length ≤ length out →
+      (F : Context) (s : Shape) (e : Exp) → Has (I .config) x F (case-of s (name y) e) → Unready (I .config) y → outcome-of image x out ≡ Waiting y
   follows : (C : Config) (x y : ℕ) (F : Context) (s : Shape) (w e : Exp) → Value w → Has C x F (case-of s (name y) e) → at C y ≡ some (thread-of w) →
       Reduces C x FUTURE-DEREF (put C x F (case-of s w e))
   -- "Images may hold the new forms, and a subject of another kind gives 17"
-  other-kind : (image : List ℕ) → Bytes image → (C : Config) → ImageOf image C → (x : ℕ) (out : List ℕ) → max-image-length ≤ length out →
-      (F : Context) (s : Shape) (v e : Exp) → Has C x F (case-of s v e) → OtherKind C s v → outcome-of image x out ≡ Refused wrong-kind-cause
+  other-kind : (image : List ℕ) → Bytes image → (I : Owned) → ImageOf image I → (x : ℕ) (out : List ℕ) → max-image-length ≤ length out →
+      (F : Context) (s : Shape) (v e : Exp) → Has (I .config) x F (case-of s v e) → OtherKind (I .config) s v → outcome-of image x out ≡ Refused wrong-kind-cause
   -- "Refusals 7 to 10 cover the new nodes", told by their places
   refusal-7 : {T : Table} → TableRule T → (es : List Exp) → (verdict T es ≡ scope-cause) ↔ Some (Cause7 T (length es)) es
   refusal-8 : {T : Table} → TableRule T → (es : List Exp) →
@@ -471,12 +472,12 @@ takes-apart : (s : Shape) (image : List ℕ) → Bytes image → (x size : ℕ) 
     (outcome-of image x out ≡ Answers (number (CASE s)) size) ↔ Means image out (TakesApart s x size)
 takes-apart s image b x size out = (
   λ h.
-      let (le, C, io, (by, C′, red, lim, n, z)) = second-demand .step image b x out .rule (number (CASE s)) size .0 h in
+      let (le, I, io, (by, C′, red, lim, n, z)) = second-demand .step image b x out .rule (number (CASE s)) size .0 h in
       let r : by ≡ CASE s = one-number by (CASE s) (sym n) in
       let (F, t, v₁, v₂, e, w, w′, p, q) = case-parts (rw r at red) in
-      (le, C, io, (F, t, v₁, v₂, e, w, w′, p, rw q at lim, rw q at z)),
-  λ (le, C, io, (F, t, v₁, v₂, e, w, w′, p, lim, z)).
-      second-demand .step image b x out .rule (number (CASE s)) size .1 (le, C, io, (CASE s, put C x F (substitute-both v₁ v₂ e), case-both F s t v₁ v₂ e w w′ p, lim, refl, z)),
+      (le, I, io, (F, t, v₁, v₂, e, w, w′, p, rw q at lim, rw q at z)),
+  λ (le, I, io, (F, t, v₁, v₂, e, w, w′, p, lim, z)).
+      second-demand .step image b x out .rule (number (CASE s)) size .1 (le, I, io, (CASE s, put (I .config) x F (substitute-both v₁ v₂ e), case-both F s t v₁ v₂ e w w′ p, lim, refl, z)),
 )
 
 -- a subject of another kind
@@ -525,10 +526,10 @@ pairs-and-lists = record {
   right-then = λ s t v e₂ w F r d p. rw (place-value w, p) refl;
   rule-8 = takes-apart pair;
   rule-9 = takes-apart list;
-  waits = λ image b C io x y out le F s e h u. second-demand .step image b x out .waiting y .1 (le, C, io, (to-case F s e h, u));
+  waits = λ image b I io x y out le F s e h u. second-demand .step image b x out .waiting y .1 (le, I, io, (to-case F s e h, u));
   follows = λ C x y F s w e v h g. future-deref-case F s y w e v h g;
-  other-kind = λ image b C io x out le F s v e h o.
-      second-demand .step image b x out .seventeen .1 (le, C, io, wrong-kind-iff C x (λ f g. io .rule .bound x (thread-of f) g) .0 (is-wrong C x F e s h o));
+  other-kind = λ image b I io x out le F s v e h o.
+      second-demand .step image b x out .seventeen .1 (le, I, io, wrong-kind-iff (I .config) x (λ f g. io .rule .bound x (thread-of f) g) .0 (is-wrong (I .config) x F e s h o));
   refusal-7 = λ R es. verdict-means R es .0;
   refusal-8 = λ R es. verdict-means R es .1;
   refusal-9 = λ R es. verdict-means R es .2;

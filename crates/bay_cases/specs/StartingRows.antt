@@ -30,9 +30,9 @@ use Rattle.calculus.specs.Step.{beside, within, place, when-done, step-call, st
 use Rattle.calculus.specs.Reply.{reply-of}
 use Rattle.calculus.specs.Recipe.{loaded, bay-types, with-type}
 use Rattle.image_layout.specs.Encoded.{head, heads, expressions, image-bytes}
-use Rattle.image_layout.specs.Slice.{names, kind-at, companion-at, offset-at as offset-in, length-at, expression-at, encoded-at, encoded-all}
+use Rattle.image_layout.specs.Slice.{names, kind-at, companion-at, offset-at as offset-in, length-at, expression-at, encoded-at, encoded-all, owner-at}
 use Rattle.image_layout.specs.Layout.{kind-test, companion-test, length-test, head-agrees, head-stands, stand-from, heads-stand}
-use Rattle.image.specs.Configuration.{encode, image-of, components, decode, config-of}
+use Rattle.image.specs.Configuration.{encode, image-of, components, decode, config-of, owners-of, encode-all}
 use Rattle.image.specs.Stands.{terms-stand, image-stands}
 use Rattle.load_spec.specs.Starting.{starting-image}
 use Rattle.step_spec.specs.declared.Outcome.{Outcome}
@@ -41,6 +41,7 @@ use Rattle.step_spec.specs.Stepping.{step-reply, outcome-of-reply, out-after-re
 use Rattle.runs.specs.Run.{steps, renewed}
 use Rattle.load_spec.specs.Loading.{loaded-of, load-refusal, out-after-load}
 use Rattle.calculus.specs.NewTypes.{function-at, result-type, future-and-handle, coming, new-types}
+use Rattle.calculus.specs.Owners.{first-owners, owners-after}
 use Rattle.run_spec.specs.declared.Ending.the-variants.{Turns, Idle}
 use Rattle.run_spec.specs.Course.{look-of, look, upward, going-round, looking-on, look-along, search-from, one-after, turning, take-turns, course-of}
 use Rattle.run_spec.specs.Ending.{run-refusal, ending-by, ran, unless-refused}
@@ -53,7 +54,7 @@ use Rattle.bay_cases.specs.HouseRuns.{HouseRun, computed-by, computed-ru
 use Rattle.bay_cases.specs.TestLoads.{LoadRow, Text, computed-load, input, load-row, prints-so, told}
 
 -- a file of edition 3: a type table, a starting part, the terms
-abbrev file-3 : List ℕ → List ℕ → List (List ℕ) → List ℕ
+abbrev pub file-3 : List ℕ → List ℕ → List (List ℕ) → List ℕ
 file-3 table starting terms = file-of edition-3 (table ∷ starting ∷ terms)
 
 -- an accepted row that makes no step
@@ -61,11 +62,11 @@ abbrev loads-row : List ℕ → List ℕ → List ℕ → Row
 loads-row file types starting = record { file = file; refusal = 0; types = types; threads = []; starting = starting; answers = []; images = [] }
 
 -- an accepted row with its steps
-abbrev steps-row : List ℕ → List ℕ → List ℕ → List ℕ → List Outcome → List (List ℕ) → Row
+abbrev pub steps-row : List ℕ → List ℕ → List ℕ → List ℕ → List Outcome → List (List ℕ) → Row
 steps-row file types threads starting answers images = record { file = file; refusal = 0; types = types; threads = threads; starting = starting; answers = answers; images = images }
 
 -- the terms of cases A and B
-abbrev unit-term : List ℕ
+abbrev pub unit-term : List ℕ
 unit-term = 0x03 ∷ []
 
 abbrev exch-250 : List ℕ
@@ -101,29 +102,29 @@ cases-3 =
 
 -- the image of two bays: the values of the settings; the length of bay 0's thread, and its expression; the offset of bay 1's, which is unit
 abbrev two-bays : List ℕ → ℕ → List ℕ → ℕ → List ℕ
-two-bays settings size expression at = (0x04 ∷ 0x00 ∷ 0x02 ∷ 0x00 ∷ 0x1A ∷ 0x00 ∷ 0x03 ∷ 0x00 ∷ 0x02 ∷ 0x00 ∷ 0x1D ∷ 0x00 ∷ 0x03 ∷ 0x00 ∷ 0x01 ∷ 0x00 ∷ 0x20 ∷ 0x00 ∷ size ∷ 0x00 ∷ 0x01 ∷ 0x00 ∷ at ∷ 0x00 ∷ 0x01 ∷ 0x00 ∷ settings) ++ expression ++ unit-term
+two-bays settings size expression at = (0x04 ∷ 0x00 ∷ 0x02 ∷ 0x00 ∷ 0x1A ∷ 0x00 ∷ 0x03 ∷ 0x00 ∷ 0x02 ∷ 0x01 ∷ 0x1D ∷ 0x00 ∷ 0x03 ∷ 0x00 ∷ 0x01 ∷ 0x00 ∷ 0x20 ∷ 0x00 ∷ size ∷ 0x00 ∷ 0x01 ∷ 0x01 ∷ at ∷ 0x00 ∷ 0x01 ∷ 0x00 ∷ settings) ++ expression ++ unit-term
 
--- a head: kind, the two bytes of the offset, length
-abbrev head-at : ℕ → ℕ → ℕ → ℕ → List ℕ → List ℕ
-head-at kind low high size rest = kind ∷ 0x00 ∷ low ∷ high ∷ size ∷ 0x00 ∷ rest
+-- a head: kind, owner, the two bytes of the offset, length
+abbrev head-at : ℕ → ℕ → ℕ → ℕ → ℕ → List ℕ → List ℕ
+head-at kind owner low high size rest = kind ∷ owner ∷ low ∷ high ∷ size ∷ 0x00 ∷ rest
 
 -- 32 names: the heads of 16 settings and of 16 threads, the first expression at 2 + 6 × 32 = 194
 abbrev heads-of-32 : List ℕ → List ℕ
-heads-of-32 rest = 0x20 ∷ 0x00 ∷ head-at 0x02 0xC2 0x00 0x03 (head-at 0x02 0xC5 0x00 0x03 (head-at 0x02 0xC8 0x00 0x03 (head-at 0x02 0xCB 0x00 0x03 (head-at 0x02 0xCE 0x00 0x03 (head-at 0x02 0xD1 0x00 0x03 (head-at 0x02 0xD4 0x00 0x03 (head-at 0x02 0xD7 0x00 0x03 (head-at 0x02 0xDA 0x00 0x03 (head-at 0x02 0xDD 0x00 0x03 (head-at 0x02 0xE0 0x00 0x03 (head-at 0x02 0xE3 0x00 0x03 (head-at 0x02 0xE6 0x00 0x03 (head-at 0x02 0xE9 0x00 0x03 (head-at 0x02 0xEC 0x00 0x03 (head-at 0x02 0xEF 0x00 0x03 (head-at 0x01 0xF2 0x00 0x01 (head-at 0x01 0xF3 0x00 0x01 (head-at 0x01 0xF4 0x00 0x01 (head-at 0x01 0xF5 0x00 0x01 (head-at 0x01 0xF6 0x00 0x01 (head-at 0x01 0xF7 0x00 0x01 (head-at 0x01 0xF8 0x00 0x01 (head-at 0x01 0xF9 0x00 0x01 (head-at 0x01 0xFA 0x00 0x01 (head-at 0x01 0xFB 0x00 0x01 (head-at 0x01 0xFC 0x00 0x01 (head-at 0x01 0xFD 0x00 0x01 (head-at 0x01 0xFE 0x00 0x01 (head-at 0x01 0xFF 0x00 0x01 (head-at 0x01 0x00 0x01 0x01 (head-at 0x01 0x01 0x01 0x01 rest)))))))))))))))))))))))))))))))
+heads-of-32 rest = 0x20 ∷ 0x00 ∷ head-at 0x02 0x00 0xC2 0x00 0x03 (head-at 0x02 0x01 0xC5 0x00 0x03 (head-at 0x02 0x02 0xC8 0x00 0x03 (head-at 0x02 0x03 0xCB 0x00 0x03 (head-at 0x02 0x04 0xCE 0x00 0x03 (head-at 0x02 0x05 0xD1 0x00 0x03 (head-at 0x02 0x06 0xD4 0x00 0x03 (head-at 0x02 0x07 0xD7 0x00 0x03 (head-at 0x02 0x08 0xDA 0x00 0x03 (head-at 0x02 0x09 0xDD 0x00 0x03 (head-at 0x02 0x0A 0xE0 0x00 0x03 (head-at 0x02 0x0B 0xE3 0x00 0x03 (head-at 0x02 0x0C 0xE6 0x00 0x03 (head-at 0x02 0x0D 0xE9 0x00 0x03 (head-at 0x02 0x0E 0xEC 0x00 0x03 (head-at 0x02 0x0F 0xEF 0x00 0x03 (head-at 0x01 0x00 0xF2 0x00 0x01 (head-at 0x01 0x01 0xF3 0x00 0x01 (head-at 0x01 0x02 0xF4 0x00 0x01 (head-at 0x01 0x03 0xF5 0x00 0x01 (head-at 0x01 0x04 0xF6 0x00 0x01 (head-at 0x01 0x05 0xF7 0x00 0x01 (head-at 0x01 0x06 0xF8 0x00 0x01 (head-at 0x01 0x07 0xF9 0x00 0x01 (head-at 0x01 0x08 0xFA 0x00 0x01 (head-at 0x01 0x09 0xFB 0x00 0x01 (head-at 0x01 0x0A 0xFC 0x00 0x01 (head-at 0x01 0x0B 0xFD 0x00 0x01 (head-at 0x01 0x0C 0xFE 0x00 0x01 (head-at 0x01 0x0D 0xFF 0x00 0x01 (head-at 0x01 0x0E 0x00 0x01 0x01 (head-at 0x01 0x0F 0x01 0x01 0x01 rest)))))))))))))))))))))))))))))))
 
 -- "two bytes for each bay, its starting num", several bays. Slips told here: the higher byte first; the first num for every bay; the bays in descending order; one byte each
 abbrev several : List Row
 several =
     -- the lower byte first: 256 is 00 01; bay 0 first; 65,535 is a num
-    loads-row (file-3 T3 (0x00 ∷ 0x01 ∷ 0xFF ∷ 0xFF ∷ []) (unit-term ∷ (0x04 ∷ 0x07 ∷ 0x00 ∷ []) ∷ [])) (0 ∷ 1 ∷ []) (0x04 ∷ 0x00 ∷ 0x02 ∷ 0x00 ∷ 0x1A ∷ 0x00 ∷ 0x03 ∷ 0x00 ∷ 0x02 ∷ 0x00 ∷ 0x1D ∷ 0x00 ∷ 0x03 ∷ 0x00 ∷ 0x01 ∷ 0x00 ∷ 0x20 ∷ 0x00 ∷ 0x01 ∷ 0x00 ∷ 0x01 ∷ 0x00 ∷ 0x21 ∷ 0x00 ∷ 0x03 ∷ 0x00 ∷ 0x04 ∷ 0x00 ∷ 0x01 ∷ 0x04 ∷ 0xFF ∷ 0xFF ∷ 0x03 ∷ 0x04 ∷ 0x07 ∷ 0x00 ∷ [])
+    loads-row (file-3 T3 (0x00 ∷ 0x01 ∷ 0xFF ∷ 0xFF ∷ []) (unit-term ∷ (0x04 ∷ 0x07 ∷ 0x00 ∷ []) ∷ [])) (0 ∷ 1 ∷ []) (0x04 ∷ 0x00 ∷ 0x02 ∷ 0x00 ∷ 0x1A ∷ 0x00 ∷ 0x03 ∷ 0x00 ∷ 0x02 ∷ 0x01 ∷ 0x1D ∷ 0x00 ∷ 0x03 ∷ 0x00 ∷ 0x01 ∷ 0x00 ∷ 0x20 ∷ 0x00 ∷ 0x01 ∷ 0x00 ∷ 0x01 ∷ 0x01 ∷ 0x21 ∷ 0x00 ∷ 0x03 ∷ 0x00 ∷ 0x04 ∷ 0x00 ∷ 0x01 ∷ 0x04 ∷ 0xFF ∷ 0xFF ∷ 0x03 ∷ 0x04 ∷ 0x07 ∷ 0x00 ∷ [])
     -- three bays: 258, 772 and 1,286
-    ∷ loads-row (file-3 T3 (0x02 ∷ 0x01 ∷ 0x04 ∷ 0x03 ∷ 0x06 ∷ 0x05 ∷ []) (unit-term ∷ unit-term ∷ unit-term ∷ [])) (0 ∷ 0 ∷ 0 ∷ []) (0x06 ∷ 0x00 ∷ 0x02 ∷ 0x00 ∷ 0x26 ∷ 0x00 ∷ 0x03 ∷ 0x00 ∷ 0x02 ∷ 0x00 ∷ 0x29 ∷ 0x00 ∷ 0x03 ∷ 0x00 ∷ 0x02 ∷ 0x00 ∷ 0x2C ∷ 0x00 ∷ 0x03 ∷ 0x00 ∷ 0x01 ∷ 0x00 ∷ 0x2F ∷ 0x00 ∷ 0x01 ∷ 0x00 ∷ 0x01 ∷ 0x00 ∷ 0x30 ∷ 0x00 ∷ 0x01 ∷ 0x00 ∷ 0x01 ∷ 0x00 ∷ 0x31 ∷ 0x00 ∷ 0x01 ∷ 0x00 ∷ 0x04 ∷ 0x02 ∷ 0x01 ∷ 0x04 ∷ 0x04 ∷ 0x03 ∷ 0x04 ∷ 0x06 ∷ 0x05 ∷ 0x03 ∷ 0x03 ∷ 0x03 ∷ [])
+    ∷ loads-row (file-3 T3 (0x02 ∷ 0x01 ∷ 0x04 ∷ 0x03 ∷ 0x06 ∷ 0x05 ∷ []) (unit-term ∷ unit-term ∷ unit-term ∷ [])) (0 ∷ 0 ∷ 0 ∷ []) (0x06 ∷ 0x00 ∷ 0x02 ∷ 0x00 ∷ 0x26 ∷ 0x00 ∷ 0x03 ∷ 0x00 ∷ 0x02 ∷ 0x01 ∷ 0x29 ∷ 0x00 ∷ 0x03 ∷ 0x00 ∷ 0x02 ∷ 0x02 ∷ 0x2C ∷ 0x00 ∷ 0x03 ∷ 0x00 ∷ 0x01 ∷ 0x00 ∷ 0x2F ∷ 0x00 ∷ 0x01 ∷ 0x00 ∷ 0x01 ∷ 0x01 ∷ 0x30 ∷ 0x00 ∷ 0x01 ∷ 0x00 ∷ 0x01 ∷ 0x02 ∷ 0x31 ∷ 0x00 ∷ 0x01 ∷ 0x00 ∷ 0x04 ∷ 0x02 ∷ 0x01 ∷ 0x04 ∷ 0x04 ∷ 0x03 ∷ 0x04 ∷ 0x06 ∷ 0x05 ∷ 0x03 ∷ 0x03 ∷ 0x03 ∷ [])
     -- "n runs from 3 to 18": 16 bays with sixteen different nums
     ∷ loads-row (file-3 T3 (0x00 ∷ 0x01 ∷ 0x01 ∷ 0x02 ∷ 0x02 ∷ 0x03 ∷ 0x03 ∷ 0x04 ∷ 0x04 ∷ 0x05 ∷ 0x05 ∷ 0x06 ∷ 0x06 ∷ 0x07 ∷ 0x07 ∷ 0x08 ∷ 0x08 ∷ 0x09 ∷ 0x09 ∷ 0x0A ∷ 0x0A ∷ 0x0B ∷ 0x0B ∷ 0x0C ∷ 0x0C ∷ 0x0D ∷ 0x0D ∷ 0x0E ∷ 0x0E ∷ 0x0F ∷ 0xFF ∷ 0xFF ∷ []) (replicate 16 unit-term)) (replicate 16 0) (heads-of-32 (0x04 ∷ 0x00 ∷ 0x01 ∷ 0x04 ∷ 0x01 ∷ 0x02 ∷ 0x04 ∷ 0x02 ∷ 0x03 ∷ 0x04 ∷ 0x03 ∷ 0x04 ∷ 0x04 ∷ 0x04 ∷ 0x05 ∷ 0x04 ∷ 0x05 ∷ 0x06 ∷ 0x04 ∷ 0x06 ∷ 0x07 ∷ 0x04 ∷ 0x07 ∷ 0x08 ∷ 0x04 ∷ 0x08 ∷ 0x09 ∷ 0x04 ∷ 0x09 ∷ 0x0A ∷ 0x04 ∷ 0x0A ∷ 0x0B ∷ 0x04 ∷ 0x0B ∷ 0x0C ∷ 0x04 ∷ 0x0C ∷ 0x0D ∷ 0x04 ∷ 0x0D ∷ 0x0E ∷ 0x04 ∷ 0x0E ∷ 0x0F ∷ 0x04 ∷ 0xFF ∷ 0xFF ∷ 0x03 ∷ 0x03 ∷ 0x03 ∷ 0x03 ∷ 0x03 ∷ 0x03 ∷ 0x03 ∷ 0x03 ∷ 0x03 ∷ 0x03 ∷ 0x03 ∷ 0x03 ∷ 0x03 ∷ 0x03 ∷ 0x03 ∷ 0x03 ∷ []))
     -- rule 7 twice: bay 1's num becomes a value in bay 0's thread, then bay 0's setting, and the thread ends as bay 0's num
     ∷ steps-row (file-3 T5 (0x2C ∷ 0x01 ∷ 0xBC ∷ 0x02 ∷ []) ((0x02 ∷ 0x02 ∷ 0x06 ∷ 0x04 ∷ 0x09 ∷ 0x00 ∷ 0x02 ∷ 0x02 ∷ 0x06 ∷ 0x04 ∷ 0x09 ∷ 0x01 ∷ 0x04 ∷ 0x05 ∷ 0x00 ∷ []) ∷ unit-term ∷ [])) (1 ∷ 0 ∷ []) (2 ∷ 2 ∷ []) (two-bays (0x04 ∷ 0x2C ∷ 0x01 ∷ 0x04 ∷ 0xBC ∷ 0x02 ∷ []) 0x0F (0x02 ∷ 0x02 ∷ 0x06 ∷ 0x04 ∷ 0x09 ∷ 0x00 ∷ 0x02 ∷ 0x02 ∷ 0x06 ∷ 0x04 ∷ 0x09 ∷ 0x01 ∷ 0x04 ∷ 0x05 ∷ 0x00 ∷ []) 0x2F) (Rule 7 42 ∷ Rule 7 36 ∷ []) (two-bays (0x04 ∷ 0x2C ∷ 0x01 ∷ 0x04 ∷ 0x05 ∷ 0x00 ∷ []) 0x09 (0x02 ∷ 0x02 ∷ 0x06 ∷ 0x04 ∷ 0x09 ∷ 0x00 ∷ 0x04 ∷ 0xBC ∷ 0x02 ∷ []) 0x29 ∷ two-bays (0x04 ∷ 0xBC ∷ 0x02 ∷ 0x04 ∷ 0x05 ∷ 0x00 ∷ []) 0x03 (0x04 ∷ 0x2C ∷ 0x01 ∷ []) 0x23 ∷ [])
     -- T5, and 5: cell at num. Rules 7 and 6: bay 1's num goes into a new cell of bay 0
-    ∷ steps-row (file-3 (T5 ++ (0x04 ∷ 0x01 ∷ 0x02 ∷ [])) (0x2C ∷ 0x01 ∷ 0xBC ∷ 0x02 ∷ []) ((0x02 ∷ 0x05 ∷ 0x05 ∷ 0x02 ∷ 0x02 ∷ 0x06 ∷ 0x04 ∷ 0x09 ∷ 0x01 ∷ 0x04 ∷ 0x00 ∷ 0x00 ∷ []) ∷ unit-term ∷ [])) (2 ∷ 0 ∷ []) (2 ∷ 2 ∷ []) (two-bays (0x04 ∷ 0x2C ∷ 0x01 ∷ 0x04 ∷ 0xBC ∷ 0x02 ∷ []) 0x0C (0x02 ∷ 0x05 ∷ 0x05 ∷ 0x02 ∷ 0x02 ∷ 0x06 ∷ 0x04 ∷ 0x09 ∷ 0x01 ∷ 0x04 ∷ 0x00 ∷ 0x00 ∷ []) 0x2C) (Rule 7 39 ∷ Rule 6 44 ∷ []) (two-bays (0x04 ∷ 0x2C ∷ 0x01 ∷ 0x04 ∷ 0x00 ∷ 0x00 ∷ []) 0x06 (0x02 ∷ 0x05 ∷ 0x05 ∷ 0x04 ∷ 0xBC ∷ 0x02 ∷ []) 0x26 ∷ (0x05 ∷ 0x00 ∷ 0x02 ∷ 0x00 ∷ 0x20 ∷ 0x00 ∷ 0x03 ∷ 0x00 ∷ 0x02 ∷ 0x00 ∷ 0x23 ∷ 0x00 ∷ 0x03 ∷ 0x00 ∷ 0x01 ∷ 0x00 ∷ 0x26 ∷ 0x00 ∷ 0x02 ∷ 0x00 ∷ 0x01 ∷ 0x00 ∷ 0x28 ∷ 0x00 ∷ 0x01 ∷ 0x00 ∷ 0x02 ∷ 0x00 ∷ 0x29 ∷ 0x00 ∷ 0x03 ∷ 0x00 ∷ 0x04 ∷ 0x2C ∷ 0x01 ∷ 0x04 ∷ 0x00 ∷ 0x00 ∷ 0x09 ∷ 0x04 ∷ 0x03 ∷ 0x04 ∷ 0xBC ∷ 0x02 ∷ []) ∷ [])
+    ∷ steps-row (file-3 (T5 ++ (0x04 ∷ 0x01 ∷ 0x02 ∷ [])) (0x2C ∷ 0x01 ∷ 0xBC ∷ 0x02 ∷ []) ((0x02 ∷ 0x05 ∷ 0x05 ∷ 0x02 ∷ 0x02 ∷ 0x06 ∷ 0x04 ∷ 0x09 ∷ 0x01 ∷ 0x04 ∷ 0x00 ∷ 0x00 ∷ []) ∷ unit-term ∷ [])) (2 ∷ 0 ∷ []) (2 ∷ 2 ∷ []) (two-bays (0x04 ∷ 0x2C ∷ 0x01 ∷ 0x04 ∷ 0xBC ∷ 0x02 ∷ []) 0x0C (0x02 ∷ 0x05 ∷ 0x05 ∷ 0x02 ∷ 0x02 ∷ 0x06 ∷ 0x04 ∷ 0x09 ∷ 0x01 ∷ 0x04 ∷ 0x00 ∷ 0x00 ∷ []) 0x2C) (Rule 7 39 ∷ Rule 6 44 ∷ []) (two-bays (0x04 ∷ 0x2C ∷ 0x01 ∷ 0x04 ∷ 0x00 ∷ 0x00 ∷ []) 0x06 (0x02 ∷ 0x05 ∷ 0x05 ∷ 0x04 ∷ 0xBC ∷ 0x02 ∷ []) 0x26 ∷ (0x05 ∷ 0x00 ∷ 0x02 ∷ 0x00 ∷ 0x20 ∷ 0x00 ∷ 0x03 ∷ 0x00 ∷ 0x02 ∷ 0x01 ∷ 0x23 ∷ 0x00 ∷ 0x03 ∷ 0x00 ∷ 0x01 ∷ 0x00 ∷ 0x26 ∷ 0x00 ∷ 0x02 ∷ 0x00 ∷ 0x01 ∷ 0x01 ∷ 0x28 ∷ 0x00 ∷ 0x01 ∷ 0x00 ∷ 0x02 ∷ 0x00 ∷ 0x29 ∷ 0x00 ∷ 0x03 ∷ 0x00 ∷ 0x04 ∷ 0x2C ∷ 0x01 ∷ 0x04 ∷ 0x00 ∷ 0x00 ∷ 0x09 ∷ 0x04 ∷ 0x03 ∷ 0x04 ∷ 0xBC ∷ 0x02 ∷ []) ∷ [])
     ∷ []
 
 -- "Its n runs from 3 to 18, else refusal 2". Slips told here: 2 to 17; 2 to 18; 3 to 17; 3 to 18 in every edition
@@ -228,7 +229,7 @@ zeros = file-3 readings (0x00 ∷ 0x00 ∷ 0x00 ∷ 0x00 ∷ []) (pair-term ∷ 
 
 -- their image: the two bytes of each setting's num
 abbrev pair-and-list : List ℕ → List ℕ → List ℕ
-pair-and-list n n′ = (0x04 ∷ 0x00 ∷ 0x02 ∷ 0x00 ∷ 0x1A ∷ 0x00 ∷ 0x03 ∷ 0x00 ∷ 0x02 ∷ 0x00 ∷ 0x1D ∷ 0x00 ∷ 0x03 ∷ 0x00 ∷ 0x01 ∷ 0x00 ∷ 0x20 ∷ 0x00 ∷ 0x11 ∷ 0x00 ∷ 0x01 ∷ 0x00 ∷ 0x31 ∷ 0x00 ∷ 0x0F ∷ 0x00 ∷ []) ++ (0x04 ∷ n) ++ (0x04 ∷ n′) ++ pair-term ++ list-term
+pair-and-list n n′ = (0x04 ∷ 0x00 ∷ 0x02 ∷ 0x00 ∷ 0x1A ∷ 0x00 ∷ 0x03 ∷ 0x00 ∷ 0x02 ∷ 0x01 ∷ 0x1D ∷ 0x00 ∷ 0x03 ∷ 0x00 ∷ 0x01 ∷ 0x00 ∷ 0x20 ∷ 0x00 ∷ 0x11 ∷ 0x00 ∷ 0x01 ∷ 0x01 ∷ 0x31 ∷ 0x00 ∷ 0x0F ∷ 0x00 ∷ []) ++ (0x04 ∷ n) ++ (0x04 ∷ n′) ++ pair-term ++ list-term
 
 -- "an edition 3 file of zeros loads the same image as its edition 2 twin", with edition 2's forms. Slips told here: edition 1's forms in edition 3; the twin's terms begin at part 2
 abbrev twins : List Row
@@ -267,7 +268,7 @@ runs =
     -- B with 100: its thread ends as num 100
     ∷ run-row (file-3 T5 (0x64 ∷ 0x00 ∷ []) (exch-250 ∷ [])) 100 (Idle 1 20) (1 ∷ []) (one-bay (0xFA ∷ 0x00 ∷ []) 0x03 (0x04 ∷ 0x64 ∷ 0x00 ∷ []))
     -- bay 0 puts 250 into setting 0, then bay 1 takes it and leaves num 5: the threads end as 300 and 250
-    ∷ run-row (file-3 T5 (0x2C ∷ 0x01 ∷ 0xBC ∷ 0x02 ∷ []) (exch-250 ∷ (0x02 ∷ 0x02 ∷ 0x06 ∷ 0x04 ∷ 0x09 ∷ 0x00 ∷ 0x04 ∷ 0x05 ∷ 0x00 ∷ []) ∷ [])) 100 (Idle 2 38) (2 ∷ 3 ∷ []) (0x04 ∷ 0x00 ∷ 0x02 ∷ 0x00 ∷ 0x1A ∷ 0x00 ∷ 0x03 ∷ 0x00 ∷ 0x02 ∷ 0x00 ∷ 0x1D ∷ 0x00 ∷ 0x03 ∷ 0x00 ∷ 0x01 ∷ 0x00 ∷ 0x20 ∷ 0x00 ∷ 0x03 ∷ 0x00 ∷ 0x01 ∷ 0x00 ∷ 0x23 ∷ 0x00 ∷ 0x03 ∷ 0x00 ∷ 0x04 ∷ 0x05 ∷ 0x00 ∷ 0x04 ∷ 0xBC ∷ 0x02 ∷ 0x04 ∷ 0x2C ∷ 0x01 ∷ 0x04 ∷ 0xFA ∷ 0x00 ∷ [])
+    ∷ run-row (file-3 T5 (0x2C ∷ 0x01 ∷ 0xBC ∷ 0x02 ∷ []) (exch-250 ∷ (0x02 ∷ 0x02 ∷ 0x06 ∷ 0x04 ∷ 0x09 ∷ 0x00 ∷ 0x04 ∷ 0x05 ∷ 0x00 ∷ []) ∷ [])) 100 (Idle 2 38) (2 ∷ 3 ∷ []) (0x04 ∷ 0x00 ∷ 0x02 ∷ 0x00 ∷ 0x1A ∷ 0x00 ∷ 0x03 ∷ 0x00 ∷ 0x02 ∷ 0x01 ∷ 0x1D ∷ 0x00 ∷ 0x03 ∷ 0x00 ∷ 0x01 ∷ 0x00 ∷ 0x20 ∷ 0x00 ∷ 0x03 ∷ 0x00 ∷ 0x01 ∷ 0x01 ∷ 0x23 ∷ 0x00 ∷ 0x03 ∷ 0x00 ∷ 0x04 ∷ 0x05 ∷ 0x00 ∷ 0x04 ∷ 0xBC ∷ 0x02 ∷ 0x04 ∷ 0x2C ∷ 0x01 ∷ 0x04 ∷ 0xFA ∷ 0x00 ∷ [])
     ∷ []
 
 -- test loads of edition 3
@@ -318,7 +319,7 @@ pub record StartingRows : Type 0 where
   any-num : (n : ℕ) → n < two-byte-values → computed (A-at (two-bytes n) (two-bytes n)) ≡ A-at (two-bytes n) (two-bytes n)
 
 pub starting-rows : StartingRows
-unfolding computed run-of steps renewed loaded-of load-refusal out-after-load outcome-of out-after-step out-after-reply function-at new-types coming result-type future-and-handle nums-bytes twin term-parts parts-from repeated outcome-of-reply type-number-in verdict-of refusal bay-type-numbers bay-type-number bay-terms bay-term cause-5 cause-6 cause-4 table-of type-table file-of joined pairs-of two-bytes word bays parts offset-of length-of part table-bytes term-bytes outside cause-1 opens edition-of cause-2 pairs-test table-length-test cause-3 cause-19 starting-nums starting-num starting-bytes exp-of leaf-exp leaf-forms two-exp two-forms nesting one-term of-edition forms-below read read-term form-of forms value-of tabulate each-below sum-below uses nodes test-entry entry-test entry-stands entries-test same-entry new-to distinct-test entry-is table-test on-function on-once-function on-cell is-many scoped-const scoped annotated-const annotated const-number on-number result-number applied-number lambda-number both-number case-number with-components type-number outside-many linear-variable linear every verdict starting-image step-reply config-of decode components image-of encode terms-stand image-stands kind-test companion-test length-test head-agrees head-stands stand-from heads-stand names kind-at companion-at offset-in length-at expression-at encoded-at encoded-all head heads expressions image-bytes bytes const-bytes op-tag both-tag case-tag little-endian loaded bay-types with-type reply-of sum-in sum-all expression-test is-settled is-awaited handle-for component-test each-test limits-test image-test beside within place when-done step-call step-exchange step-meeting step-place step-redex step-case step-subject step-of substitute plug term-of type-at read-deep read-at read-entry one-part two-parts
+unfolding computed run-of steps renewed loaded-of load-refusal out-after-load outcome-of out-after-step out-after-reply function-at new-types coming result-type future-and-handle nums-bytes twin term-parts parts-from repeated outcome-of-reply type-number-in verdict-of refusal bay-type-numbers bay-type-number bay-terms bay-term cause-5 cause-6 cause-4 table-of type-table file-of joined pairs-of two-bytes word bays parts offset-of length-of part table-bytes term-bytes outside cause-1 opens edition-of cause-2 pairs-test table-length-test cause-3 cause-19 starting-nums starting-num starting-bytes exp-of leaf-exp leaf-forms two-exp two-forms nesting one-term of-edition forms-below read read-term form-of forms value-of tabulate each-below sum-below uses nodes test-entry entry-test entry-stands entries-test same-entry new-to distinct-test entry-is table-test on-function on-once-function on-cell is-many scoped-const scoped annotated-const annotated const-number on-number result-number applied-number lambda-number both-number case-number with-components type-number outside-many linear-variable linear every verdict starting-image step-reply config-of decode components image-of encode terms-stand image-stands kind-test companion-test length-test head-agrees head-stands stand-from heads-stand names kind-at companion-at offset-in length-at expression-at encoded-at encoded-all head heads expressions image-bytes bytes const-bytes op-tag both-tag case-tag little-endian loaded bay-types with-type reply-of sum-in sum-all expression-test is-settled is-awaited handle-for component-test each-test limits-test image-test beside within place when-done step-call step-exchange step-meeting step-place step-redex step-case step-subject step-of substitute plug term-of type-at read-deep read-at read-entry one-part two-parts owners-of owner-at owners-after encode-all first-owners
 starting-rows = record {
   case-A = refl;
   twin-2 = refl;
@@ -337,5 +338,5 @@ pub record StartingRuns : Type 0 where
   texts-table : map (λ (t : Text). text-of (t .given)) texts ≡ map (λ (t : Text). t .prints) texts
 
 pub starting-runs : StartingRuns
-unfolding computed-run computed-by unless-refused ran run-refusal ending-by course-of take-turns turning one-after search-from look-along looking-on going-round upward look look-of computed-load input draw-refusal seed-in number-in draws image-after picked threads-below has-thread-kind drawn text-of lines line outcome-text number-of word-of decimal verdict-line repeated outcome-of-reply type-number-in verdict-of refusal bay-type-numbers bay-type-number bay-terms bay-term cause-5 cause-6 cause-4 table-of type-table file-of joined pairs-of two-bytes word bays parts offset-of length-of part table-bytes term-bytes outside cause-1 opens edition-of cause-2 pairs-test table-length-test cause-3 cause-19 starting-nums starting-num starting-bytes exp-of leaf-exp leaf-forms two-exp two-forms nesting one-term of-edition forms-below read read-term form-of forms value-of tabulate each-below sum-below uses nodes test-entry entry-test entry-stands entries-test same-entry new-to distinct-test entry-is table-test on-function on-once-function on-cell is-many scoped-const scoped annotated-const annotated const-number on-number result-number applied-number lambda-number both-number case-number with-components type-number outside-many linear-variable linear every verdict starting-image step-reply config-of decode components image-of encode terms-stand image-stands kind-test companion-test length-test head-agrees head-stands stand-from heads-stand names kind-at companion-at offset-in length-at expression-at encoded-at encoded-all head heads expressions image-bytes bytes const-bytes op-tag both-tag case-tag little-endian loaded bay-types with-type reply-of sum-in sum-all expression-test is-settled is-awaited handle-for component-test each-test limits-test image-test beside within place when-done step-call step-exchange step-meeting step-place step-redex step-case step-subject step-of substitute plug term-of type-at read-deep read-at read-entry one-part two-parts
+unfolding computed-run computed-by unless-refused ran run-refusal ending-by course-of take-turns turning one-after search-from look-along looking-on going-round upward look look-of computed-load input draw-refusal seed-in number-in draws image-after picked threads-below has-thread-kind drawn text-of lines line outcome-text number-of word-of decimal verdict-line repeated outcome-of-reply type-number-in verdict-of refusal bay-type-numbers bay-type-number bay-terms bay-term cause-5 cause-6 cause-4 table-of type-table file-of joined pairs-of two-bytes word bays parts offset-of length-of part table-bytes term-bytes outside cause-1 opens edition-of cause-2 pairs-test table-length-test cause-3 cause-19 starting-nums starting-num starting-bytes exp-of leaf-exp leaf-forms two-exp two-forms nesting one-term of-edition forms-below read read-term form-of forms value-of tabulate each-below sum-below uses nodes test-entry entry-test entry-stands entries-test same-entry new-to distinct-test entry-is table-test on-function on-once-function on-cell is-many scoped-const scoped annotated-const annotated const-number on-number result-number applied-number lambda-number both-number case-number with-components type-number outside-many linear-variable linear every verdict starting-image step-reply config-of decode components image-of encode terms-stand image-stands kind-test companion-test length-test head-agrees head-stands stand-from heads-stand names kind-at companion-at offset-in length-at expression-at encoded-at encoded-all head heads expressions image-bytes bytes const-bytes op-tag both-tag case-tag little-endian loaded bay-types with-type reply-of sum-in sum-all expression-test is-settled is-awaited handle-for component-test each-test limits-test image-test beside within place when-done step-call step-exchange step-meeting step-place step-redex step-case step-subject step-of substitute plug term-of type-at read-deep read-at read-entry one-part two-parts owners-of owner-at owners-after encode-all first-owners
 starting-runs = record { runs-table = refl; loads-table = refl; texts-table = refl }

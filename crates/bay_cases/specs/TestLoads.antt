@@ -29,10 +29,11 @@ use Rattle.calculus.specs.Reduction.{substitute, plug}
 use Rattle.calculus.specs.Step.{beside, within, place, when-done, step-call, step-exchange, step-meeting, step-place, step-redex, step-case, step-subject, step-of}
 use Rattle.calculus.specs.Reply.{reply-of}
 use Rattle.calculus.specs.Recipe.{loaded, bay-types, with-type}
+use Rattle.calculus.specs.Owners.{first-owners, owners-after}
 use Rattle.image_layout.specs.Encoded.{head, heads, expressions, image-bytes}
-use Rattle.image_layout.specs.Slice.{names, kind-at, companion-at, offset-at as offset-in, length-at, expression-at, encoded-at, encoded-all}
+use Rattle.image_layout.specs.Slice.{names, kind-at, companion-at, offset-at as offset-in, length-at, expression-at, encoded-at, encoded-all, owner-at}
 use Rattle.image_layout.specs.Layout.{kind-test, companion-test, length-test, head-agrees, head-stands, stand-from, heads-stand}
-use Rattle.image.specs.Configuration.{encode, image-of, components, decode, config-of}
+use Rattle.image.specs.Configuration.{encode, image-of, components, decode, config-of, owners-of, encode-all}
 use Rattle.image.specs.Stands.{terms-stand, image-stands}
 use Rattle.load_spec.specs.Starting.{starting-image}
 use Rattle.step_spec.specs.declared.Outcome.{Outcome}
@@ -152,9 +153,9 @@ crowded-image = (0x02 ∷ 0x00 ∷ 0x02 ∷ 0x00 ∷ 0x0E ∷ 0x00 ∷ 0x03 ∷ 
 abbrev waiting-image : List ℕ
 waiting-image = 0x04 ∷ 0x00 ∷ 0x02 ∷ 0x00 ∷ 0x1A ∷ 0x00 ∷ 0x03 ∷ 0x00 ∷ 0x01 ∷ 0x00 ∷ 0x1D ∷ 0x00 ∷ 0x0E ∷ 0x00 ∷ 0x05 ∷ 0x00 ∷ 0x2B ∷ 0x00 ∷ 0x00 ∷ 0x00 ∷ 0x03 ∷ 0x02 ∷ 0x2B ∷ 0x00 ∷ 0x00 ∷ 0x00 ∷ 0x04 ∷ 0x00 ∷ 0x00 ∷ 0x02 ∷ 0x01 ∷ 0x08 ∷ 0x02 ∷ 0x09 ∷ 0x03 ∷ 0x01 ∷ 0x03 ∷ 0x00 ∷ 0x00 ∷ 0x02 ∷ 0x09 ∷ 0x02 ∷ 0x03 ∷ []
 
--- an image of 112 names: cells 0 to 99, then threads, which wait for the last of them
+-- an image of 112 names: cells 0 to 99, then threads, which wait for the last of them; all are bay 0's
 unfoldable wide : List ℕ
-wide = image-of (replicate 100 (holds (const (num 0))) ++ replicate 12 (thread-of (app (name 111) (const unit))))
+wide = image-of (record { owners = replicate 112 0; config = replicate 100 (holds (const (num 0))) ++ replicate 12 (thread-of (app (name 111) (const unit))) })
 
 -- "1 step 4", "1 step 1", "1 step 1", "1 step 5", "2 done 0"
 abbrev text-C : List ℕ
@@ -239,7 +240,7 @@ pub record DrawsProved : Type 0 where
   wide-draws : telling (draws 2 1 wide) ≡ told 270369 109 (Waiting 111) ∷ told 67634689 101 (Waiting 111) ∷ []
 
 pub test-draws : DrawsProved
-unfolding wide computed-load input draw-refusal seed-in number-in draws image-after picked threads-below has-thread-kind drawn outcome-of-reply type-number-in repeated identities verdict-of refusal bay-type-numbers bay-type-number bay-terms bay-term cause-5 cause-6 cause-4 table-of type-table file-of joined pairs-of two-bytes word bays parts offset-of length-of part table-bytes term-bytes outside cause-1 opens edition-of cause-2 pairs-test table-length-test cause-3 cause-19 starting-nums starting-num starting-bytes exp-of leaf-exp leaf-forms two-exp two-forms nesting one-term of-edition forms-below read read-term form-of forms value-of tabulate each-below sum-below uses nodes test-entry entry-test entry-stands entries-test same-entry new-to distinct-test entry-is table-test on-function on-once-function on-cell is-many scoped-const scoped annotated-const annotated const-number on-number result-number applied-number lambda-number both-number case-number with-components type-number outside-many linear-variable linear every verdict starting-image step-reply config-of decode components image-of encode terms-stand image-stands kind-test companion-test length-test head-agrees head-stands stand-from heads-stand names kind-at companion-at offset-in length-at expression-at encoded-at encoded-all head heads expressions image-bytes bytes const-bytes op-tag both-tag case-tag little-endian loaded bay-types with-type reply-of sum-in sum-all expression-test is-settled is-awaited handle-for component-test each-test limits-test image-test beside within place when-done step-call step-exchange step-meeting step-place step-redex step-case step-subject step-of substitute plug term-of type-at read-deep read-at read-entry one-part two-parts
+unfolding wide computed-load input draw-refusal seed-in number-in draws image-after picked threads-below has-thread-kind drawn outcome-of-reply type-number-in repeated identities verdict-of refusal bay-type-numbers bay-type-number bay-terms bay-term cause-5 cause-6 cause-4 table-of type-table file-of joined pairs-of two-bytes word bays parts offset-of length-of part table-bytes term-bytes outside cause-1 opens edition-of cause-2 pairs-test table-length-test cause-3 cause-19 starting-nums starting-num starting-bytes exp-of leaf-exp leaf-forms two-exp two-forms nesting one-term of-edition forms-below read read-term form-of forms value-of tabulate each-below sum-below uses nodes test-entry entry-test entry-stands entries-test same-entry new-to distinct-test entry-is table-test on-function on-once-function on-cell is-many scoped-const scoped annotated-const annotated const-number on-number result-number applied-number lambda-number both-number case-number with-components type-number outside-many linear-variable linear every verdict starting-image step-reply config-of decode components image-of encode terms-stand image-stands kind-test companion-test length-test head-agrees head-stands stand-from heads-stand names kind-at companion-at offset-in length-at expression-at encoded-at encoded-all head heads expressions image-bytes bytes const-bytes op-tag both-tag case-tag little-endian loaded bay-types with-type reply-of sum-in sum-all expression-test is-settled is-awaited handle-for component-test each-test limits-test image-test beside within place when-done step-call step-exchange step-meeting step-place step-redex step-case step-subject step-of substitute plug term-of type-at read-deep read-at read-entry one-part two-parts owners-of owner-at owners-after encode-all first-owners
 test-draws = record { cases-table = refl; picks-table = refl; keeps-table = refl; images-of-C = refl; images-waiting = refl; images-refused = refl; wide-draws = refl }
 
 -- what is proved of texts
@@ -250,7 +251,7 @@ pub record TextsProved : Type 0 where
   wide-text : lines (draws 2 1 wide) ≡ text-wide
 
 pub test-texts : TextsProved
-unfolding text-of lines line outcome-text number-of word-of decimal verdict-line wide input draw-refusal seed-in number-in draws image-after picked threads-below has-thread-kind drawn outcome-of-reply type-number-in repeated identities verdict-of refusal bay-type-numbers bay-type-number bay-terms bay-term cause-5 cause-6 cause-4 table-of type-table file-of joined pairs-of two-bytes word bays parts offset-of length-of part table-bytes term-bytes outside cause-1 opens edition-of cause-2 pairs-test table-length-test cause-3 cause-19 starting-nums starting-num starting-bytes exp-of leaf-exp leaf-forms two-exp two-forms nesting one-term of-edition forms-below read read-term form-of forms value-of tabulate each-below sum-below uses nodes test-entry entry-test entry-stands entries-test same-entry new-to distinct-test entry-is table-test on-function on-once-function on-cell is-many scoped-const scoped annotated-const annotated const-number on-number result-number applied-number lambda-number both-number case-number with-components type-number outside-many linear-variable linear every verdict starting-image step-reply config-of decode components image-of encode terms-stand image-stands kind-test companion-test length-test head-agrees head-stands stand-from heads-stand names kind-at companion-at offset-in length-at expression-at encoded-at encoded-all head heads expressions image-bytes bytes const-bytes op-tag both-tag case-tag little-endian loaded bay-types with-type reply-of sum-in sum-all expression-test is-settled is-awaited handle-for component-test each-test limits-test image-test beside within place when-done step-call step-exchange step-meeting step-place step-redex step-case step-subject step-of substitute plug term-of type-at read-deep read-at read-entry one-part two-parts
+unfolding text-of lines line outcome-text number-of word-of decimal verdict-line wide input draw-refusal seed-in number-in draws image-after picked threads-below has-thread-kind drawn outcome-of-reply type-number-in repeated identities verdict-of refusal bay-type-numbers bay-type-number bay-terms bay-term cause-5 cause-6 cause-4 table-of type-table file-of joined pairs-of two-bytes word bays parts offset-of length-of part table-bytes term-bytes outside cause-1 opens edition-of cause-2 pairs-test table-length-test cause-3 cause-19 starting-nums starting-num starting-bytes exp-of leaf-exp leaf-forms two-exp two-forms nesting one-term of-edition forms-below read read-term form-of forms value-of tabulate each-below sum-below uses nodes test-entry entry-test entry-stands entries-test same-entry new-to distinct-test entry-is table-test on-function on-once-function on-cell is-many scoped-const scoped annotated-const annotated const-number on-number result-number applied-number lambda-number both-number case-number with-components type-number outside-many linear-variable linear every verdict starting-image step-reply config-of decode components image-of encode terms-stand image-stands kind-test companion-test length-test head-agrees head-stands stand-from heads-stand names kind-at companion-at offset-in length-at expression-at encoded-at encoded-all head heads expressions image-bytes bytes const-bytes op-tag both-tag case-tag little-endian loaded bay-types with-type reply-of sum-in sum-all expression-test is-settled is-awaited handle-for component-test each-test limits-test image-test beside within place when-done step-call step-exchange step-meeting step-place step-redex step-case step-subject step-of substitute plug term-of type-at read-deep read-at read-entry one-part two-parts owners-of owner-at owners-after encode-all first-owners
 test-texts = record { texts-table = refl; wide-text = refl }
 
 -- what is proved of states and of the input's front

@@ -55,7 +55,3 @@ used-handle-kind = 4
 
 abbrev pub future-kind : ℕ
 future-kind = 5
-
--- "Companions are 0 except for kind 3": a name has no owner
-abbrev pub no-owner : ℕ
-no-owner = 0

@@ -12,6 +12,7 @@ use Rattle.calculus.specs.Lowest.{Lowest}
 use Rattle.calculus.specs.Causes.{buffer-cause, image-cause, no-thread-cause, room-cause, used-handle-cause, wrong-kind-cause}
 use Rattle.calculus.specs.Types.{LinType}
 use Rattle.calculus.specs.Syntax.{Exp, Value, thread-of, Config, at, EachAll}
+use Rattle.calculus.specs.Owners.{Owned, grown, OwnersRule}
 use Rattle.calculus.specs.Typing.{TypeNumbers, Derivation}
 use Rattle.calculus.specs.Reduction.{HANDLE-BIND, Rule as RuleName, number, Reduces}
 use Rattle.calculus.specs.Step.{Needs, Unready, AppliesUsed, Meets}
@@ -62,50 +63,53 @@ pub record RecipeDemand (file : List ℕ) (T : Table) (ns : List ℕ) (es : List
   pub types-beyond : (bay : ℕ) → length es ≤ bay → getD (verdict-of file .types) bay 0 ≡ 0
   -- "loading also the image's length": what a check answers, and the starting image's length
   pub loaded-answer : (out : List ℕ) → max-image-length ≤ length out →
-      loaded-of file (length out) ≡ record { refusal = 0; bays = length es; types = verdict-of file .types; length = length (image-of (start T ns es .config)) }
+      loaded-of file (length out) ≡ record { refusal = 0; bays = length es; types = verdict-of file .types; length = length (image-of (start T ns es .owned)) }
   -- "After a load .. the out buffer holds the image in its first bytes and is unchanged beyond"
-  pub loaded-image : (out : List ℕ) → max-image-length ≤ length out → Written (image-of (start T ns es .config)) out (out-after-load file out)
+  pub loaded-image : (out : List ℕ) → max-image-length ≤ length out → Written (image-of (start T ns es .owned)) out (out-after-load file out)
 
--- a slice that is the image of a configuration, every rule and limit of "The image" kept
-pub record ImageOf (s : List ℕ) (C : Config) : Type 0 where
-  pub bytes : s ≡ image-of C
-  pub rule : ImageRule C
-  pub writable : EachAll Writable C
+-- a slice that is the image of a configuration whose names have owners, every rule and limit of "The image" kept
+pub record ImageOf (s : List ℕ) (I : Owned) : Type 0 where
+  pub bytes : s ≡ image-of I
+  pub rule : ImageRule (I .config)
+  pub owners : OwnersRule max-bays I
+  pub writable : EachAll Writable (I .config)
 
--- what an answer of a step to the slice s means, where P is what it says of the configuration: 12 and 13 do not fit
-abbrev pub Means : List ℕ → List ℕ → (Config → Type 0) → Type 0
-Means s out P = (max-image-length ≤ length out) × (C : Config) × ImageOf s C × P C
+-- what an answer of a step to the slice s means, where P is what it says of the configuration and its owners: 12 and 13 do not fit
+abbrev pub Means : List ℕ → List ℕ → (Owned → Type 0) → Type 0
+Means s out P = (max-image-length ≤ length out) × (I : Owned) × ImageOf s I × P I
 
 -- "a rule applies": Fig. 5 has a move of thread x by the rule with this number, to a configuration within the limits whose image has this length
-abbrev pub Moves : ℕ → ℕ → ℕ → Config → Type 0
-Moves x rule size C = (by : RuleName) × (C′ : Config) × Reduces C x by C′ × WithinLimits C′ × (rule ≡ number by) × (size ≡ length (image-of C′))
+abbrev pub Moves : ℕ → ℕ → ℕ → Owned → Type 0
+Moves x rule size I = (by : RuleName) × (C′ : Config) × Reduces (I .config) x by C′ × WithinLimits C′ × (rule ≡ number by) × (size ≡ length (image-of (grown I x C′)))
 
 -- "a rule applies, outcome above 256 names or 4,096 nodes"
-abbrev pub LacksRoom : ℕ → Config → Type 0
-LacksRoom x C = (by : RuleName) × (C′ : Config) × Reduces C x by C′ × ¬ WithinLimits C′
+abbrev pub LacksRoom : ℕ → Owned → Type 0
+LacksRoom x I = (by : RuleName) × (C′ : Config) × Reduces (I .config) x by C′ × ¬ WithinLimits C′
 
 -- "two values meet, neither a rule, nor waiting, nor 16"
-abbrev pub WrongKind : ℕ → Config → Type 0
-WrongKind x C = Meets C x × ((by : RuleName) (C′ : Config) → ¬ Reduces C x by C′) × ((y : ℕ) → ¬ (Needs C x y × Unready C y)) × ¬ AppliesUsed C x
+abbrev pub WrongKind : ℕ → Owned → Type 0
+WrongKind x I =
+    Meets (I .config) x × ((by : RuleName) (C′ : Config) → ¬ Reduces (I .config) x by C′) × ((y : ℕ) → ¬ (Needs (I .config) x y × Unready (I .config) y)) × ¬ AppliesUsed (I .config) x
 
 -- what a step of thread x of the slice s answers, and leaves in the out buffer
 pub record StepDemand (s : List ℕ) (x : ℕ) (out : List ℕ) : Type 0 where
   -- "A step answers with its rule and the new image's length"
   pub rule : (rule size : ℕ) → (outcome-of s x out ≡ Rule rule size) ↔ Means s out (Moves x rule size)
-  -- "After a .. step the out buffer holds the image in its first bytes and is unchanged beyond"
-  pub rule-image : (C C′ : Config) (by : RuleName) → ImageOf s C → Reduces C x by C′ → WithinLimits C′ → max-image-length ≤ length out → Written (image-of C′) out (out-after-step s x out)
+  -- "After a .. step the out buffer holds the image in its first bytes and is unchanged beyond"; a new name has the owner of the thread (T-08)
+  pub rule-image : (I : Owned) (C′ : Config) (by : RuleName) → ImageOf s I → Reduces (I .config) x by C′ → WithinLimits C′ → max-image-length ≤ length out →
+      Written (image-of (grown I x C′)) out (out-after-step s x out)
   -- "A thread whose expression is a value .. answers done"
-  pub done : (outcome-of s x out ≡ Done) ↔ Means s out (λ C. (v : Exp) × Value v × (at C x ≡ some (thread-of v)))
+  pub done : (outcome-of s x out ≡ Done) ↔ Means s out (λ I. (v : Exp) × Value v × (at (I .config) x ≡ some (thread-of v)))
   -- "A thread that needs the value of a thread not done, or of a future not bound, answers waiting with that name"
-  pub waiting : (y : ℕ) → (outcome-of s x out ≡ Waiting y) ↔ Means s out (λ C. Needs C x y × Unready C y)
+  pub waiting : (y : ℕ) → (outcome-of s x out ≡ Waiting y) ↔ Means s out (λ I. Needs (I .config) x y × Unready (I .config) y)
   -- 13: "image breaks a rule or limit under "The image""
-  pub thirteen : (outcome-of s x out ≡ Refused image-cause) ↔ ((max-image-length ≤ length out) × ((C : Config) → ¬ ImageOf s C))
+  pub thirteen : (outcome-of s x out ≡ Refused image-cause) ↔ ((max-image-length ≤ length out) × ((I : Owned) → ¬ ImageOf s I))
   -- 14: "number is no thread"
-  pub fourteen : (outcome-of s x out ≡ Refused no-thread-cause) ↔ Means s out (λ C. (e : Exp) → ¬ (at C x ≡ some (thread-of e)))
+  pub fourteen : (outcome-of s x out ≡ Refused no-thread-cause) ↔ Means s out (λ I. (e : Exp) → ¬ (at (I .config) x ≡ some (thread-of e)))
   -- 15: "a rule applies, outcome above 256 names or 4,096 nodes"
   pub fifteen : (outcome-of s x out ≡ Refused room-cause) ↔ Means s out (LacksRoom x)
   -- 16: "used handle applied"
-  pub sixteen : (outcome-of s x out ≡ Refused used-handle-cause) ↔ Means s out (λ C. AppliesUsed C x)
+  pub sixteen : (outcome-of s x out ≡ Refused used-handle-cause) ↔ Means s out (λ I. AppliesUsed (I .config) x)
   -- 17: "two values meet, neither a rule, nor waiting, nor 16"
   pub seventeen : (outcome-of s x out ≡ Refused wrong-kind-cause) ↔ Means s out (WrongKind x)
 

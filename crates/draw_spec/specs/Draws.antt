@@ -47,7 +47,7 @@ outcome d = outcome-of-reply (reply d)
 
 -- the image after a step: "A refused or idle draw keeps the image"
 unfoldable pub image-after : Reply → List ℕ → List ℕ
-image-after (moved rule C′) image = image-of C′
+image-after (moved rule I′) image = image-of I′
 image-after (waits y) image = image
 image-after finished image = image
 image-after (refuses number) image = image

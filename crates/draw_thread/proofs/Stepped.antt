@@ -39,7 +39,7 @@ module _ {image : List ℕ} {nodes : ℕ} (p : Present image nodes) where
   stepped-counts x {n} e = go (step-reply image x max-image-length) refl ∙ ap (λ (q : Reply). nodes-after q nodes) (sym (replied x max-image-length (omega arith))) ∙ sym e
     where
       go : (q : Reply) → step-reply image x max-image-length ≡ q → nodes-all (config-of (image-after q image)) ≡ nodes-after q nodes
-      go (moved k C′) h = ap nodes-all (moved-reads (p .alive) x h)
+      go (moved k I′) h = ap nodes-all (moved-reads (p .alive) x h)
       go (waits y) h = p .counted
       go finished h = p .counted
       go (refuses k) h = p .counted

@@ -109,7 +109,7 @@ step-row image thread room outcome new = record { image = image; thread = thread
 
 -- the bytes that a reply writes
 unfoldable pub new-image : Reply → List ℕ
-new-image (moved rule C′) = image-of C′
+new-image (moved rule I′) = image-of I′
 new-image (waits y) = []
 new-image finished = []
 new-image (refuses number) = []
@@ -130,7 +130,7 @@ pub record Steps (r : StepRow) : Type 0 where
 
 new-or-none : (reply : Reply) (out : List ℕ) → out-after-reply reply out ≡ written-to out (new-image reply)
 unfolding out-after-reply new-image
-new-or-none (moved rule C′) out = refl
+new-or-none (moved rule I′) out = refl
 new-or-none (waits y) out = refl
 new-or-none finished out = refl
 new-or-none (refuses number) out = refl

@@ -1,1 +1,1 @@
-// Images: configurations in bytes. The definitions and theorems stand in specs/.
+// Images: configurations and the owners of their names in bytes. The definitions and theorems stand in specs/.

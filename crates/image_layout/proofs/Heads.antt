@@ -4,10 +4,11 @@ use mathlib.Core.Bool.{Bool, true, false, and-true}
 use mathlib.Core.List.{List}
 use Prim.Native.Nat.{ℕ, _+_, _-_, _≤_, _<_}
 use native.Mathlib.Omega.{arith}
-use lib.Dec.{eqb, leb}
+use lib.Dec.{eqb, leb, ltb}
 use lib.ListN.{length}
 use borrow.Author.Tests.{leb-true, leb-false, lt-ltb, le-ltb, le-leb, lt-leb, eq-eqb, ne-eqb}
 use Rattle.calculus.specs.Kinds.{thread-kind, open-handle-kind, future-kind}
+use Rattle.calculus.specs.Limits.{max-bays}
 use Rattle.image_layout.specs.Slice.{kind-at, companion-at, offset-at, length-at}
 use Rattle.image_layout.specs.Layout.{kind-test, companion-test, length-test, head-agrees, head-stands}
 
@@ -22,7 +23,7 @@ module _ (kind companion size : ℕ) where
     kind-above h = rw (le-leb thread-kind kind low, lt-leb kind future-kind h)
 
     module _ (high : kind ≤ future-kind) where
-      pub with-expression : kind < open-handle-kind → eqb companion 0 ≡ head-agrees kind companion size
+      pub with-expression : kind < open-handle-kind → ltb companion max-bays ≡ head-agrees kind companion size
       unfolding head-agrees kind-test companion-test length-test
       with-expression h =
           let other : (kind ≡ open-handle-kind) → ⊥ = λ e. omega arith in
@@ -34,16 +35,16 @@ module _ (kind companion size : ℕ) where
           rw (le-leb thread-kind kind low, le-leb kind future-kind high, eq-eqb kind open-handle-kind e, le-ltb kind open-handle-kind (omega arith))
 
       module _ (from : open-handle-kind ≤ kind) (other : (kind ≡ open-handle-kind) → ⊥) where
-        pub companion-over : ((companion ≡ 0) → ⊥) → false ≡ head-agrees kind companion size
+        pub companion-over : max-bays ≤ companion → false ≡ head-agrees kind companion size
         unfolding head-agrees kind-test companion-test length-test
         companion-over h =
-            rw (le-leb thread-kind kind low, le-leb kind future-kind high, ne-eqb kind open-handle-kind other, ne-eqb companion 0 h)
+            rw (le-leb thread-kind kind low, le-leb kind future-kind high, ne-eqb kind open-handle-kind other, le-ltb companion max-bays h)
 
-        pub with-neither : companion ≡ 0 → eqb size 0 ≡ head-agrees kind companion size
+        pub with-neither : companion < max-bays → eqb size 0 ≡ head-agrees kind companion size
         unfolding head-agrees kind-test companion-test length-test
         with-neither e =
             rw
-            (le-leb thread-kind kind low, le-leb kind future-kind high, ne-eqb kind open-handle-kind other, eq-eqb companion 0 e, le-ltb kind open-handle-kind from)
+            (le-leb thread-kind kind low, le-leb kind future-kind high, ne-eqb kind open-handle-kind other, lt-ltb companion max-bays e, le-ltb kind open-handle-kind from)
 
 -- a sum against a bound, tested by what is left
 left-test : (size end n : ℕ) → end ≤ n → leb size (n - end) ≡ leb (end + size) n

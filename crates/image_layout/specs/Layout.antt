@@ -8,7 +8,8 @@ use Prim.Native.Nat.{ℕ, zero, suc, _+_, _≤_, _<_}
 use lib.Dec.{eqb, leb, ltb}
 use lib.ListN.{length}
 use Rattle.calculus.specs.Syntax.{at}
-use Rattle.calculus.specs.Kinds.{thread-kind, open-handle-kind, future-kind, no-owner}
+use Rattle.calculus.specs.Kinds.{thread-kind, open-handle-kind, future-kind}
+use Rattle.calculus.specs.Limits.{max-bays}
 use Rattle.image_layout.specs.Encoded.{Encoded, head-offset}
 use Rattle.image_layout.specs.Slice.{names, kind-at, companion-at, offset-at, length-at}
 
@@ -21,8 +22,8 @@ end-below s (suc k) = end-below s k + length-at s k
 pub record HeadRule (kind companion size : ℕ) : Type 0 where
   -- "Kinds: 1 thread .. 5 future not yet bound"
   pub kinds : (thread-kind ≤ kind) × (kind ≤ future-kind)
-  -- "Companions are 0 except for kind 3"
-  pub companions : ¬ (kind ≡ open-handle-kind) → companion ≡ no-owner
+  -- T-08, "An image with an owner not below 16 breaks the layout"
+  pub companions : ¬ (kind ≡ open-handle-kind) → companion < max-bays
   -- "Kinds 3, 4, 5 have length 0"
   pub lengths : open-handle-kind ≤ kind → size ≡ 0
 
@@ -46,9 +47,9 @@ EachHead E = (k : ℕ) (e : Encoded) → at E k ≡ some e → HeadRule (e .kind
 unfoldable pub kind-test : ℕ → Bool
 kind-test kind = leb thread-kind kind && leb kind future-kind
 
--- "Companions are 0 except for kind 3"
+-- T-08, "An image with an owner not below 16 breaks the layout"
 unfoldable pub companion-test : ℕ → ℕ → Bool
-companion-test kind companion = eqb kind open-handle-kind || eqb companion no-owner
+companion-test kind companion = eqb kind open-handle-kind || ltb companion max-bays
 
 -- "Kinds 3, 4, 5 have length 0"
 unfoldable pub length-test : ℕ → ℕ → Bool

@@ -1,8 +1,11 @@
 -- A slice read as an image: m, and the heads and expressions of its names. These compute for any slice; what they say of it is `Layout`'s.
+use mathlib.Core.Bool.{cond}
 use mathlib.Core.List.{List}
 use Prim.Native.Nat.{ℕ, _+_}
+use lib.Dec.{eqb}
 use lib.ListN.{getD, take, drop}
 use Rattle.calculus.specs.Bytes.{word}
+use Rattle.calculus.specs.Kinds.{open-handle-kind}
 use Rattle.calculus.specs.Lists.{tabulate}
 use Rattle.image_layout.specs.Encoded.{Encoded, head-offset}
 
@@ -16,6 +19,10 @@ kind-at s k = getD s (head-offset k) 0
 
 unfoldable pub companion-at : List ℕ → ℕ → ℕ
 companion-at s k = getD s (head-offset k + 1) 0
+
+-- T-08, "The companion byte of kinds 1, 2, 4 and 5 now holds the owning bay; an open handle has the owner of its future": the owner of name k
+unfoldable pub owner-at : List ℕ → ℕ → ℕ
+owner-at s k = companion-at s (cond (eqb (kind-at s k) open-handle-kind) (companion-at s k) k)
 
 unfoldable pub offset-at : List ℕ → ℕ → ℕ
 offset-at s k = word s (head-offset k + 2)

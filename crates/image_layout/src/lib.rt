@@ -3,6 +3,7 @@ use buffer::put_byte;
 use buffer::put_u16;
 use buffer::word_at;
 use numbers::Image;
+use numbers::Recipe;
 ghost use mathlib.Core.Path.{_≡_};
 ghost use Prim.Native.Nat.{_+_, _<_, _≤_};
 ghost use lib.ListN.{length};
@@ -10,9 +11,9 @@ ghost use Rattle.calculus.specs.Bytes.{two-byte-values};
 ghost use Rattle.calculus.specs.Limits.{first-head, head-length};
 ghost use Rattle.buffer.specs.Written.{Wrote};
 ghost use Rattle.image_layout.specs.Encoded.{head};
-ghost use Rattle.image_layout.specs.Slice.{names, kind-at, companion-at, offset-at, length-at, expression-at};
+ghost use Rattle.image_layout.specs.Slice.{names, kind-at, companion-at, owner-at, offset-at, length-at, expression-at};
 ghost use Rattle.image_layout.specs.Layout.{head-agrees, head-stands, heads-stand};
-ghost use Rattle.image_layout.specs.Readable.{HasHead, HasExpression};
+ghost use Rattle.image_layout.specs.Readable.{HasHead, HasOwner, HasExpression};
 
 // What the head of a name says, but for where its expression stands.
 pub struct Head {
@@ -49,6 +50,18 @@ pub fn companion_at(image: &[u8], k: usize) -> u8
     ensures { λ r. ⌜ r ≡ companion-at (now (image .entry)) k ⌝ }
 {
     image[Image::FIRST_HEAD + Image::HEAD_LENGTH * k + 1]
+}
+
+// The owner of name k: its companion byte, or its future's where it is an open handle.
+pub fn owner_at(image: &[u8], k: usize) -> u8
+    requires { ⌜ HasOwner (now image) k ⌝ }
+    ensures { λ r. ⌜ r ≡ owner-at (now (image .entry)) k ⌝ }
+{
+    let companion = companion_at(image, k);
+    if kind_at(image, k) == Image::OPEN_HANDLE {
+        return companion_at(image, companion as usize);
+    }
+    companion
 }
 
 // Where the expression of name k begins.
@@ -104,12 +117,12 @@ fn head_agrees(kind: u8, companion: u8, size: usize) -> bool
         return false;
     }
     if kind < Image::OPEN_HANDLE {
-        return companion == Image::NO_OWNER;
+        return (companion as usize) < Recipe::MAX_BAYS;
     }
     if kind == Image::OPEN_HANDLE {
         return size == 0;
     }
-    if companion != Image::NO_OWNER {
+    if Recipe::MAX_BAYS <= companion as usize {
         return false;
     }
     size == 0

@@ -15,7 +15,7 @@ use Rattle.recipe_file.specs.Starting.{starting-num}
 use Rattle.recipe_file.specs.FileRule.{FileRule}
 use Rattle.recipe_file.proofs.Inside.{few-parts, pairs-inside, term-is-part}
 use Rattle.check_spec.specs.Verdict.{refusal}
-use Rattle.check_spec.specs.Theory.Accepted.{getD-at}
+use Rattle.calculus.specs.Theory.Lists.{getD-at}
 use Rattle.buffer.specs.Written.{Wrote}
 use Rattle.buffer.specs.Theory.Writes.{then, known-as}
 use Rattle.calculus.specs.Kinds.{thread-kind, cell-kind}
@@ -24,7 +24,7 @@ use Rattle.image_layout.specs.Heads.{Says}
 use Rattle.image_layout.specs.Theory.Components.{expressions-append, so-far, so-far-none, so-far-next, length-tabulated}
 use Rattle.image_layout.specs.Theory.Turns.{Room, image-turns}
 use Rattle.load_spec.specs.Starting.{starting-image}
-use Rattle.load_image.specs.Starting.{first-term, setting, setting-length, bay-thread, starting-at, starting-names}
+use Rattle.load_image.specs.Starting.{first-term, setting, setting-bytes, setting-length, bay-thread, starting-at, starting-names}
 use Rattle.load_image.specs.Theory.Parts.{starting-parts, terms-are-end}
 use Rattle.load_spec.specs.Theory.Image.{laid, starting-fits}
 use Rattle.load_image.specs.Theory.Image.{starting-tabulated}
@@ -40,27 +40,27 @@ first-pair l =
     (omega (arith, h .below, few-parts l), omega (arith, h .below, pairs-inside l))
 
 -- what the head of name k says
-pub says-setting : (s : List ℕ) (k : ℕ) → k < bays s → Says (record { kind = cell-kind; companion = 0; size = setting-length }) (starting-at s k)
-unfolding starting-at setting two-bytes
+pub says-setting : (s : List ℕ) (k : ℕ) → k < bays s → Says (record { kind = cell-kind; companion = k; size = setting-length }) (starting-at s k)
+unfolding starting-at setting setting-bytes two-bytes
 says-setting s k l = rw (ltb-complete k (bays s) l) (record { kinds = refl; companions = refl; sizes = refl })
 
-pub says-thread : (s : List ℕ) (k : ℕ) {n size : ℕ} → n ≡ bays s → n ≤ k → size ≡ length (term-bytes s (k - n)) → Says (record { kind = thread-kind; companion = 0; size = size }) (starting-at s k)
+pub says-thread : (s : List ℕ) (k : ℕ) {n size : ℕ} → n ≡ bays s → n ≤ k → size ≡ length (term-bytes s (k - n)) → Says (record { kind = thread-kind; companion = k - n; size = size }) (starting-at s k)
 unfolding starting-at bay-thread
-says-thread s k e l p = rw (ltb-not k (bays s) (omega arith)) (record { kinds = refl; companions = refl; sizes = p ∙ ap (λ (n : ℕ). length (term-bytes s (k - n))) e })
+says-thread s k e l p = rw (ltb-not k (bays s) (omega arith)) (record { kinds = refl; companions = ap (λ (n : ℕ). k - n) e; sizes = p ∙ ap (λ (n : ℕ). length (term-bytes s (k - n))) e })
 
 -- three bytes for each setting, whatever the nums
-pub settings-length : (f : ℕ → ℕ) (n : ℕ) → so-far (λ k. setting (f k)) n ≡ setting-length * n
-unfolding setting two-bytes
-settings-length f zero = so-far-none (λ k. setting (f k))
-settings-length f (suc n) = omega (arith, so-far-next (λ k. setting (f k)) n, settings-length f n)
+pub settings-length : (f : ℕ → ℕ) (n : ℕ) → so-far (λ k. setting (f k) k) n ≡ setting-length * n
+unfolding setting setting-bytes two-bytes
+settings-length f zero = so-far-none (λ k. setting (f k) k)
+settings-length f (suc n) = omega (arith, so-far-next (λ k. setting (f k) k) n, settings-length f n)
 
 -- the nums that were read are those of the file
 pub settings-read : (s nums : List ℕ) {b : ℕ} → FileRule s → nums ≡ tabulate max-bays (starting-num s) → b ≡ bays s →
-    tabulate b (λ k. setting (getD nums k 0)) ≡ tabulate (bays s) (λ k. setting (starting-num s k))
+    tabulate b (λ k. setting (getD nums k 0) k) ≡ tabulate (bays s) (λ k. setting (starting-num s k) k)
 settings-read s nums l e f =
     rw f (tabulate-same (bays s) _ _ (λ k h.
     let m : k < max-bays = omega (arith, few-bays l) in
-    ap setting (ap (λ (x : List ℕ). getD x k 0) e ∙ getD-at (tabulate max-bays (starting-num s)) k (tabulate-at max-bays (starting-num s) k m))))
+    ap (λ (n : ℕ). setting n k) (ap (λ (x : List ℕ). getD x k 0) e ∙ getD-at (tabulate max-bays (starting-num s)) k (tabulate-at max-bays (starting-num s) k m))))
 
 module _ (s : List ℕ) (b : Bytes s) (accepted : refusal s ≡ 0) where
   -- there is room for the image
@@ -87,12 +87,12 @@ module _ (s : List ℕ) (b : Bytes s) (accepted : refusal s ≡ 0) where
   pub starting-wrote : {old a c d out : List ℕ} {first second third last : ℕ}
       → Wrote old 0 (two-bytes (starting-names s)) a first
       → Wrote a first (heads (head-offset (starting-names s)) (tabulate (starting-names s) (starting-at s))) c second
-      → Wrote c second (expressions (tabulate (bays s) (λ k. setting (starting-num s k)))) d third
+      → Wrote c second (expressions (tabulate (bays s) (λ k. setting (starting-num s k) k))) d third
       → Wrote d third (take (length s - offset-of s (first-term s)) (drop (offset-of s (first-term s)) s)) out last
       → Wrote old 0 (starting-image s) out last
   starting-wrote u h p t =
       let l = laid s b accepted in
       let all = take-all (length s - offset-of s (first-term s)) (drop (offset-of s (first-term s)) s) (omega (arith, length-drop (offset-of s (first-term s)) s)) in
-      let e : expressions (tabulate (bays s) (λ k. setting (starting-num s k))) ++ take (length s - offset-of s (first-term s)) (drop (offset-of s (first-term s)) s) ≡ expressions (tabulate (starting-names s) (starting-at s)) =
+      let e : expressions (tabulate (bays s) (λ k. setting (starting-num s k) k)) ++ take (length s - offset-of s (first-term s)) (drop (offset-of s (first-term s)) s) ≡ expressions (tabulate (starting-names s) (starting-at s)) =
       rw (all, ← (terms-are-end s l), starting-parts s, expressions-append) refl in
       known-as (image-turns (starting-names s) (starting-at s) u h (known-as (then p t) e)) (sym (starting-tabulated s b accepted))

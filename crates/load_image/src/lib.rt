@@ -26,7 +26,7 @@ ghost use Rattle.image_layout.specs.Encoded.{heads, head-offset, expressions};
 ghost use Rattle.image_layout.specs.Heads.{Says};
 ghost use Rattle.image_layout.specs.Theory.Turns.{Room};
 ghost use Rattle.load_spec.specs.Starting.{starting-image};
-ghost use Rattle.load_image.specs.Starting.{first-term, setting, setting-length, starting-at, starting-names};
+ghost use Rattle.load_image.specs.Starting.{first-term, setting, setting-bytes, setting-length, starting-at, starting-names};
 
 // The bytes of what a setting holds, a num.
 const SETTING_LENGTH: usize = 3;
@@ -39,7 +39,7 @@ fn first_term(recipe: &[u8], edition: Edition) -> usize
     offset_of(recipe, edition.terms)
 }
 
-// The head of name k.
+// The head of name k, which belongs to its bay.
 fn head_of(recipe: &[u8], edition: Edition, k: usize) -> Head
     requires { ⌜ FileRule (now recipe) × (k < starting-names (now recipe)) × (edition ≡ edition-of (now recipe)) ⌝ }
     ensures { λ r. ⌜ Says r (starting-at (now (recipe .entry)) k) ⌝ }
@@ -48,14 +48,15 @@ fn head_of(recipe: &[u8], edition: Edition, k: usize) -> Head
     if k < bays {
         return Head {
             kind: Image::CELL,
-            companion: Image::NO_OWNER,
+            companion: k as u8,
             size: SETTING_LENGTH,
         };
     }
+    let bay = k - bays;
     Head {
         kind: Image::THREAD,
-        companion: Image::NO_OWNER,
-        size: term_bytes(recipe, edition, k - bays).len(),
+        companion: bay as u8,
+        size: term_bytes(recipe, edition, bay).len(),
     }
 }
 
@@ -81,7 +82,7 @@ fn put_heads(out: &mut [u8], at: usize, recipe: &[u8], edition: Edition) -> usiz
 // Writes what a setting holds first: its bay's starting num.
 fn put_setting(out: &mut [u8], at: usize, num: u16) -> usize
     requires { ⌜ at + setting-length ≤ length (now out) ⌝ }
-    ensures { λ r. ⌜ Wrote (now (out .entry)) at (setting num .expression) (now (out .exit)) r ⌝ }
+    ensures { λ r. ⌜ Wrote (now (out .entry)) at (setting-bytes num) (now (out .exit)) r ⌝ }
 {
     let next = put_byte(out, at, Node::NUM);
     put_u16(out, next, num as usize)
@@ -90,7 +91,7 @@ fn put_setting(out: &mut [u8], at: usize, num: u16) -> usize
 // Writes that for the settings of all bays.
 fn put_settings(out: &mut [u8], at: usize, nums: [u16; Recipe::MAX_BAYS], bays: usize) -> usize
     requires { ⌜ (bays ≤ max-bays) × (at + setting-length * bays ≤ length (now out)) ⌝ }
-    ensures { λ r. ⌜ Wrote (now (out .entry)) at (expressions (tabulate bays (λ k. setting (getD nums k 0)))) (now (out .exit)) r ⌝ }
+    ensures { λ r. ⌜ Wrote (now (out .entry)) at (expressions (tabulate bays (λ k. setting (getD nums k 0) k))) (now (out .exit)) r ⌝ }
 {
     let mut next = at;
     let mut k = 0;

@@ -1,5 +1,5 @@
 -- Document 01, "Loading gives names 0 to b − 1 to the settings and b to 2b − 1 to the bays' threads; thread b + k holds bay k's term, byte for byte, and there
--- is no other name." T-07: a setting starts with its bay's starting num.
+-- is no other name." T-07: a setting starts with its bay's starting num. T-08: both belong to their bay.
 use mathlib.Core.List.{List}
 use Prim.Native.Nat.{ℕ}
 use Rattle.calculus.specs.State.{State}
@@ -15,4 +15,4 @@ starting-state s = start (type-table s) (starting-nums s) (bay-terms s)
 
 -- its image
 unfoldable pub starting-image : List ℕ → List ℕ
-starting-image s = image-of (starting-state s .config)
+starting-image s = image-of (starting-state s .owned)

@@ -40,7 +40,7 @@ pub record AcceptedIn (n : ℕ) (file : List ℕ) : Type 0 where
 
 -- the setting of a bay is loaded with the num n
 abbrev pub StartsWith : List ℕ → ℕ → ℕ → Type 0
-StartsWith file bay n = at (starting-state file .config) bay ≡ some (setting-with n)
+StartsWith file bay n = at (starting-state file .owned .config) bay ≡ some (setting-with n)
 
 -- the files are loaded with the same answer, and leave the same bytes in any buffer
 abbrev pub LoadsAlike : List ℕ → List ℕ → Type 0

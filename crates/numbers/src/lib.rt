@@ -2,7 +2,6 @@
 // is what the functions below say.
 ghost use mathlib.Core.Path.{_≡_};
 ghost use Rattle.calculus.specs.Limits.{byte-values};
-ghost use Rattle.calculus.specs.Kinds.{no-owner};
 ghost use Rattle.numbers.specs.Tables.{recipe-limits, image-limits, load-limits, type-kinds, type-entries, image-kinds, rules, causes};
 
 // A byte: how many values it has.
@@ -66,9 +65,6 @@ impl Image {
     pub const USED_HANDLE: u8 = 4;
 
     pub const FUTURE: u8 = 5;
-
-    // The companion of a name that is no open handle.
-    pub const NO_OWNER: u8 = 0;
 }
 
 // The input of a test load: the bytes of its seed, those in front of the recipe, and the most draws.
@@ -233,12 +229,6 @@ pub fn image_kinds() -> [u8; 5]
         Image::USED_HANDLE,
         Image::FUTURE,
     ]
-}
-
-pub fn no_owner() -> u8
-    ensures { λ r. ⌜ r ≡ no-owner ⌝ }
-{
-    Image::NO_OWNER
 }
 
 pub fn type_kinds() -> [u8; 9]

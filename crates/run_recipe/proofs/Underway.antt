@@ -8,20 +8,19 @@ use native.Mathlib.Omega.{arith}
 use lib.Dec.{eqb}
 use lib.ListN.{length, take}
 use lib.Seq.{take-all}
-use Rattle.calculus.specs.Syntax.{Config}
-use Rattle.calculus.specs.Step.{step-of}
+use Rattle.calculus.specs.Owners.{Owned}
 use Rattle.calculus.specs.Limits.{max-image-length}
 use Rattle.calculus.specs.Image.{nodes-all, within-limits}
-use Rattle.calculus.specs.Reply.{Reply, moved, reply-of}
+use Rattle.calculus.specs.Reply.{Reply, moved, reply-to}
 use Rattle.calculus.specs.Theory.ConfigRuns.{state-after, state-left}
 use Rattle.calculus.specs.Theory.Tests.{eqb-complete, eqb-differ}
 use Rattle.image_layout.specs.Slice.{names}
-use Rattle.image.specs.Configuration.{image-of}
+use Rattle.image.specs.Configuration.{image-of, owned-of}
 use Rattle.step_look.specs.Looked.{Stands}
 use Rattle.run_spec.specs.declared.Ending.the-variants.{Turns, Refused}
 use Rattle.run_spec.specs.Course.{Course, Search, Stop, all-turns, found, idle, met, no-room, nobody, one-after, stopped-by, search-from, stopped, take-turns, turning}
 use Rattle.run_spec.specs.Ending.{ending-by, ending-of, ends-in-first}
-use Rattle.demands.specs.Theory.Reached.{long-reply, reached-after, reached-names, reached-reads, reached-stands, stepping}
+use Rattle.demands.specs.Theory.Reached.{long-reply, reached-after, reached-names, reached-owned, reached-reads, reached-stands, stepping}
 use Rattle.run_spec.specs.Theory.ReachedLooks.{grows}
 use Rattle.run_spec.specs.Theory.Chain.{turn-goes}
 use Rattle.run_spec.specs.Theory.Fair.{goes-below}
@@ -56,13 +55,18 @@ held-inside n l image h e = elim (decLt (length l) n) [ yes p ↦ omega (arith, 
 
 module _ {at : At} {buffer : List ℕ} (p : Present at buffer) where
   present-inside : at .length ≤ length buffer
-  present-inside = held-inside (at .length) buffer (image-of (p .state .config)) (p .holds) (p .long)
+  present-inside = held-inside (at .length) buffer (image-of (p .state .owned)) (p .holds) (p .long)
 
   present-stands : Stands (take (at .length) buffer) (at .nodes)
   present-stands = rw (p .holds) (record { stands = reached-stands (p .reached); counted = ap nodes-all (reached-reads (p .reached)) ∙ sym (p .nodes) })
 
   present-below : at .next ≤ names (take (at .length) buffer)
   present-below = omega (arith, p .below, ap names (p .holds), reached-names (p .reached))
+
+  -- what the turn's step replies, from what the image says
+  moves-as : {at′ : At} {out : List ℕ} (w : Went (take (at .length) buffer) (at .next) at′ out) → reply-to within-limits (p .state .owned) (w .thread) ≡ moved (w .rule) (w .outcome)
+  moves-as w =
+      ap (λ (I : Owned). reply-to within-limits I (w .thread)) (sym (ap owned-of (p .holds) ∙ reached-owned (p .reached))) ∙ w .moves
 
   -- after a turn
   present-on : {at′ : At} {out : List ℕ} → Went (take (at .length) buffer) (at .next) at′ out → Present at′ out
@@ -71,17 +75,17 @@ module _ {at : At} {buffer : List ℕ} (p : Present at buffer) where
       let r = p .reached in
       let s = p .state in
       let x = w .thread in
-      let found-is : search-from (image-of (s .config)) (at .next) ≡ found x (image-of (w .outcome)) = rw (p .holds) at (w .found-is) in
-      let g = turn-goes (image-of (s .config)) (at .next) found-is in
-      let moves : reply-of within-limits (step-of (s .config) x) ≡ moved (w .rule) (w .outcome) = rw (p .holds, reached-reads r) at (w .moves) in
-      let is : state-after (p .numbers) s (stepping x) .config ≡ w .outcome = ap (λ (q : Reply). state-left (p .numbers) s x q .config) (long-reply r x max-image-length (omega arith) ∙ moves) in
+      let found-is : search-from (image-of (s .owned)) (at .next) ≡ found x (image-of (w .outcome)) = rw (p .holds) at (w .found-is) in
+      let g = turn-goes (image-of (s .owned)) (at .next) found-is in
+      let moves : reply-to within-limits (s .owned) x ≡ moved (w .rule) (w .outcome) = moves-as w in
+      let is : state-after (p .numbers) s (stepping x) .owned ≡ w .outcome = ap (λ (q : Reply). state-left (p .numbers) s x q .owned) (long-reply r x max-image-length (omega arith) ∙ moves) in
       record {
         numbers = p .numbers;
         state = state-after (p .numbers) s (stepping x);
         reached = reached-after r (stepping x);
         holds = w .holds ∙ ap image-of (sym is);
-        long = w .long ∙ ap (λ (C : Config). length (image-of C)) (sym is);
-        nodes = w .nodes ∙ ap nodes-all (sym is);
+        long = w .long ∙ ap (λ (I : Owned). length (image-of I)) (sym is);
+        nodes = w .nodes ∙ ap (λ (I : Owned). nodes-all (I .config)) (sym is);
         below = omega (arith, w .next-is, goes-below r x g, grows r x g max-image-length (omega arith));
       }
 

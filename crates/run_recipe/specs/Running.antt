@@ -29,10 +29,10 @@ pub record Present (at : At) (buffer : List ℕ) : Type 0 where
   pub numbers : TypeNumbers
   pub state : State
   pub reached : Reached numbers state
-  pub holds : take (at .length) buffer ≡ image-of (state .config)
-  pub long : at .length ≡ length (image-of (state .config))
-  pub nodes : at .nodes ≡ nodes-all (state .config)
-  pub below : at .next ≤ length (state .config)
+  pub holds : take (at .length) buffer ≡ image-of (state .owned)
+  pub long : at .length ≡ length (image-of (state .owned))
+  pub nodes : at .nodes ≡ nodes-all (state .owned .config)
+  pub below : at .next ≤ length (state .owned .config)
 
 pub record Starts (at : At) (first second : List ℕ) : Type 0 where
   pub present : Present at first

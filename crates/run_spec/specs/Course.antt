@@ -20,7 +20,7 @@ pub data Look : Type 0 where
 
 -- by the reply to its step: "lack of room only passes a thread over"; done, waiting and no thread are passed over; "It passes on the numbers .. where they arise"
 unfoldable pub look-of : Reply → Look
-look-of (moved rule C′) = goes (image-of C′)
+look-of (moved rule I′) = goes (image-of I′)
 look-of (waits y) = rests
 look-of finished = rests
 look-of (refuses number) = cond (eqb number room-cause) lacks-room (cond (eqb number no-thread-cause) rests (passes-on number))

@@ -43,7 +43,7 @@ module _ {s : List ℕ} (stands : image-stands s ≡ true) {x : ℕ} where
 
   by-reply : (q : Reply) → look s x ≡ look-of q → ((rule size : ℕ) → ¬ (outcome-of-reply q ≡ Rule rule size)) → Seen s x (sight-of (outcome-of-reply q))
   unfolding look-of outcome-of-reply sight-of
-  by-reply (moved rule C′) e n = absurd (n _ _ refl)
+  by-reply (moved rule I′) e n = absurd (n _ _ refl)
   by-reply (waits y) e n = rests e
   by-reply finished e n = rests e
   by-reply (refuses number) e n = by-refusal number e

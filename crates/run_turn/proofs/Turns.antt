@@ -7,6 +7,7 @@ use native.Mathlib.Decide.{decLt}
 use native.Mathlib.Omega.{arith}
 use lib.ListN.{drop, length, take}
 use lib.Seq.{take-append-seam}
+use Rattle.calculus.specs.Owners.{grown}
 use Rattle.calculus.specs.Reduction.{number}
 use Rattle.calculus.specs.Limits.{max-image-length, max-names}
 use Rattle.calculus.specs.Image.{limits-test}
@@ -18,9 +19,10 @@ use Rattle.calculus.specs.Theory.ImageTest.{limits-test-iff}
 use Rattle.buffer.specs.Written.{Wrote}
 use Rattle.buffer.specs.Theory.Writes.{beyond}
 use Rattle.image_layout.specs.Slice.{names}
-use Rattle.image.specs.Configuration.{config-of, image-of}
+use Rattle.image.specs.Configuration.{config-of, image-of, owned-of}
 use Rattle.image.specs.Stands.{image-stands}
-use Rattle.image.specs.Theory.Lengths.{length-config, within-length}
+use Rattle.image.specs.Theory.Exactly.{length-config}
+use Rattle.image.specs.Theory.Lengths.{within-length}
 use Rattle.image_check.specs.Theory.Whole.{whole-sound}
 use Rattle.step_rules.specs.declared.Step.{Step}
 use Rattle.step_rules.specs.Effects.{rule-of}
@@ -61,19 +63,20 @@ pub turn-went : {s : List ℕ} {next x : ℕ} {step : Step} {after : Size} (g : 
     (out : List ℕ) → max-image-length ≤ length out → (out′ : List ℕ) (size : ℕ) → Wrote out 0 (image-after s step) out′ size →
     Went s next (record { next = x + 1; length = size; nodes = after .nodes }) out′
 unfolding reply-of limits-test one-after
-turn-went {x = x} {step = step} g e out long out′ size w =
+turn-went {s} {x = x} {step = step} g e out long out′ size w =
     let S = g .stepped in
-    let v : Wrote out 0 (image-of (S .outcome)) out′ size = rw (S .written) at w in
-    let long-is : size ≡ length (image-of (S .outcome)) = omega (arith, v .ends) in
-    let b = beyond v (omega (arith, within-length (S .outcome) (limits-test-iff (S .outcome) .0 (g .fits)))) in
+    let I′ = grown (owned-of s) x (S .outcome) in
+    let v : Wrote out 0 (image-of I′) out′ size = rw (S .written) at w in
+    let long-is : size ≡ length (image-of I′) = omega (arith, v .ends) in
+    let b = beyond v (omega (arith, within-length I′ (limits-test-iff (S .outcome) .0 (g .fits)))) in
     record {
       thread = x;
       rule = number (rule-of (step .by));
-      outcome = S .outcome;
+      outcome = I′;
       found-is = e ∙ ap (found x) (S .written);
       moves = rw (S .steps, g .fits) refl;
       next-is = refl;
       long = long-is;
-      holds = ap (λ (i : ℕ). take i out′) long-is ∙ ap (take (length (image-of (S .outcome)))) b ∙ take-append-seam (image-of (S .outcome)) (drop (length (image-of (S .outcome))) out);
+      holds = ap (λ (i : ℕ). take i out′) long-is ∙ ap (take (length (image-of I′))) b ∙ take-append-seam (image-of I′) (drop (length (image-of I′)) out);
       nodes = g .counted;
     }

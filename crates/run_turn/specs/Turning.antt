@@ -6,7 +6,7 @@ use Prim.Native.Nat.{ℕ}
 use lib.Dec.{eqb}
 use lib.ListN.{length, take}
 use Rattle.calculus.specs.Causes.{no-thread-cause, room-cause}
-use Rattle.calculus.specs.Syntax.{Config}
+use Rattle.calculus.specs.Owners.{Owned}
 use Rattle.calculus.specs.Image.{nodes-all}
 use Rattle.calculus.specs.Reply.{moved}
 use Rattle.image.specs.Configuration.{image-of}
@@ -50,17 +50,17 @@ pub data Finds (s : List ℕ) (q : Search) : Found → Type 0 where
   finds-nobody : {lacked : Bool} → q ≡ nobody lacked → Finds s q (FoundNobody lacked)
   meets : {number : ℕ} → q ≡ met number → Finds s q (FoundMet number)
 
--- a turn from the image s: the configuration that the thread's step makes, where the run is then, and the new image in the first bytes of the out buffer
+-- a turn from the image s: what the thread's step makes of it, where the run is then, and the new image in the first bytes of the out buffer
 pub record Went (s : List ℕ) (next : ℕ) (at : At) (out : List ℕ) : Type 0 where
   pub thread : ℕ
   pub rule : ℕ
-  pub outcome : Config
+  pub outcome : Owned
   pub found-is : search-from s next ≡ found thread (image-of outcome)
   pub moves : reply-in s thread ≡ moved rule outcome
   pub next-is : at .next ≡ one-after thread
   pub long : at .length ≡ length (image-of outcome)
   pub holds : take (at .length) out ≡ image-of outcome
-  pub nodes : at .nodes ≡ nodes-all outcome
+  pub nodes : at .nodes ≡ nodes-all (outcome .config)
 
 pub data Took (s : List ℕ) (next : ℕ) : Taken → List ℕ → Type 0 where
   went : {at : At} {out : List ℕ} → Went s next at out → Took s next (On at) out

@@ -15,7 +15,7 @@ use Rattle.calculus.specs.Limits.{max-image-length}
 use Rattle.calculus.specs.Table.{type-at}
 use Rattle.calculus.specs.State.{ValuesTyped}
 use Rattle.recipe_table.specs.Entries.{type-table}
-use Rattle.image.specs.Configuration.{config-of}
+use Rattle.image.specs.Configuration.{config-of, owned-of}
 use Rattle.load_spec.specs.Starting.{starting-state}
 use Rattle.load_spec.specs.Loading.{loaded-of, out-after-load}
 use Rattle.step_spec.specs.declared.Outcome.{Outcome}
@@ -80,7 +80,7 @@ Goes (Refused cause) = cause ≡ room-cause
 
 -- "each cell and finished thread has a value of its type", names so typed
 abbrev pub ValuesTypedIn : TypeNumbers → List ℕ → List LinType → Type 0
-ValuesTypedIn τ image types = ValuesTyped τ (record { names = types; config = config-of image })
+ValuesTypedIn τ image types = ValuesTyped τ (record { names = types; owned = owned-of image })
 
 -- "The first step is handed the image that the load wrote, all of it and no byte beyond": of the recipe in the file, loaded into this out buffer
 abbrev pub image-loaded : List ℕ → List ℕ → List ℕ

@@ -5,19 +5,17 @@ use mathlib.Core.Option.{some}
 use mathlib.Core.List.{List}
 use Prim.Native.Nat.{ℕ, _≤_, _<_}
 use native.Mathlib.Omega.{arith}
-use Rattle.image.specs.Theory.Lengths.{length-config}
+use Rattle.image.specs.Theory.Exactly.{companion-is, kind-is, length-config}
 use Rattle.calculus.specs.Bytes.{Bytes}
 use Rattle.calculus.specs.Syntax.{Exp, Component, thread-of, holds, open-for, used, awaited, at}
 use Rattle.calculus.specs.Theory.Lists.{at-below}
 use Rattle.calculus.specs.Kinds.{thread-kind, cell-kind, open-handle-kind, used-handle-kind, future-kind}
-use Rattle.image_layout.specs.Encoded.{Encoded}
-use Rattle.image_layout.specs.Slice.{names, kind-at, companion-at}
-use Rattle.image_layout.specs.Theory.Slice.{encoded-kind, encoded-companion}
+use Rattle.image_layout.specs.Slice.{names, kind-at, companion-at, owner-at}
 use Rattle.image_layout.specs.Readable.{HasHead}
 use Rattle.image_layout.specs.Theory.Reading.{has-head}
 use Rattle.image.specs.Configuration.{encode, config-of}
 use Rattle.image.specs.Stands.{image-stands}
-use Rattle.step_rules.specs.Theory.Reading.{encoded-is, heads-do}
+use Rattle.step_rules.specs.Theory.Reading.{heads-do}
 
 -- what a name's head says, and its component
 pub data Kind (s : List ℕ) (y : ℕ) : ℕ → Type 0 where
@@ -31,7 +29,7 @@ module _ (s : List ℕ) (b : Bytes s) (stands : image-stands s ≡ true) (y : �
   pub head-there : HasHead s y
   head-there = has-head s (heads-do s b stands) y below
 
-  kind-of : (c : Component) → at (config-of s) y ≡ some c → kind-at s y ≡ encode c .kind → companion-at s y ≡ encode c .companion → Kind s y (kind-at s y)
+  kind-of : (c : Component) → at (config-of s) y ≡ some c → kind-at s y ≡ encode c (owner-at s y) .kind → companion-at s y ≡ encode c (owner-at s y) .companion → Kind s y (kind-at s y)
   unfolding encode
   kind-of (thread-of e) h k n = rw k (a-thread e h)
   kind-of (holds e) h k n = rw k (a-cell e h)
@@ -42,8 +40,7 @@ module _ (s : List ℕ) (b : Bytes s) (stands : image-stands s ≡ true) (y : �
   pub kind-there : Kind s y (kind-at s y)
   kind-there =
       let (c, h) = at-below (config-of s) y (omega (arith, length-config s)) in
-      let e = encoded-is s b stands y h in
-      kind-of c h (sym (encoded-kind s y) ∙ ap (λ (x : Encoded). x .kind) (sym e)) (sym (encoded-companion s y) ∙ ap (λ (x : Encoded). x .companion) (sym e))
+      kind-of c h (kind-is s b stands y h) (companion-is s b stands y h)
 
 -- by the number of its kind
 module _ {s : List ℕ} {y : ℕ} where

@@ -22,15 +22,14 @@ use Rattle.calculus.specs.Theory.Tests.{and-parts, and-true, clash, eqb-complet
 use Rattle.calculus.specs.Theory.Step.{no-thread-iff}
 use Rattle.term.specs.Expressions.{term-at}
 use Rattle.term.proofs.Expressions.{found-at}
-use Rattle.image_layout.specs.Encoded.{Encoded}
 use Rattle.image_layout.specs.Slice.{kind-at, names, offset-at}
-use Rattle.image_layout.specs.Theory.Slice.{encoded-kind}
 use Rattle.image.specs.Configuration.{config-of, encode}
 use Rattle.image.specs.Stands.{image-stands}
 use Rattle.step_rules.specs.declared.Step.{Step}
 use Rattle.step_rules.specs.Moves.{nodes-after}
 use Rattle.step_rules.specs.Stepped.{Stepped}
-use Rattle.step_rules.specs.Theory.Reading.{encoded-is, rules, thread-stands}
+use Rattle.image.specs.Theory.Exactly.{kind-is}
+use Rattle.step_rules.specs.Theory.Reading.{rules, thread-stands}
 use Rattle.step_decide.proofs.Names.{as-thread, kind-there}
 use Rattle.step_decide.specs.declared.Decision.{Decision}
 use Rattle.step_decide.specs.declared.Decision.the-variants.{Goes}
@@ -67,7 +66,7 @@ module _ (s : List ℕ) (x : ℕ) where
 module _ (s : List ℕ) (b : Bytes s) (stands : image-stands s ≡ true) (x : ℕ) where
   thread-kind-is : {e : Exp} → at (config-of s) x ≡ some (thread-of e) → kind-at s x ≡ thread-kind
   unfolding encode
-  thread-kind-is h = sym (encoded-kind s x) ∙ ap (λ (c : Encoded). c .kind) (sym (encoded-is s b stands x h))
+  thread-kind-is h = kind-is s b stands x h
 
   pub no-thread-there : is-thread s x ≡ false → step-of (config-of s) x ≡ no-thread
   unfolding is-thread

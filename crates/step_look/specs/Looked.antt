@@ -4,12 +4,11 @@ use mathlib.Core.Bool.{Bool, _&&_, true}
 use mathlib.Core.List.{List}
 use Prim.Native.Nat.{ℕ}
 use lib.Dec.{eqb, ltb}
-use Rattle.calculus.specs.Step.{step-of}
 use Rattle.calculus.specs.Image.{limits-test, nodes-all, within-limits}
 use Rattle.calculus.specs.Kinds.{thread-kind}
-use Rattle.calculus.specs.Reply.{Reply, reply-of}
+use Rattle.calculus.specs.Reply.{Reply, reply-to}
 use Rattle.image_layout.specs.Slice.{kind-at, names}
-use Rattle.image.specs.Configuration.{config-of}
+use Rattle.image.specs.Configuration.{config-of, owned-of}
 use Rattle.image.specs.Stands.{image-stands}
 use Rattle.step_rules.specs.declared.Step.{Step}
 use Rattle.step_rules.specs.Stepped.{Stepped}
@@ -40,7 +39,7 @@ stays (Refuses number) = Refused number
 
 -- the calculus's reply to a step of thread x
 abbrev pub reply-in : List ℕ → ℕ → Reply
-reply-in s x = reply-of within-limits (step-of (config-of s) x)
+reply-in s x = reply-to within-limits (owned-of s) x
 
 -- the thread goes by this step, and the outcome is within the limits; what the writer is handed, and how many nodes there are then
 pub record Going (s : List ℕ) (x : ℕ) (step : Step) (after : Size) : Type 0 where

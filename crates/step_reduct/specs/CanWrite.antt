@@ -7,6 +7,8 @@ use lib.ListN.{length}
 use Rattle.calculus.specs.Bytes.{two-byte-values}
 use Rattle.calculus.specs.Limits.{max-names}
 use Rattle.image_layout.specs.Layout.{heads-stand}
+use Rattle.image_layout.specs.Readable.{HasOwner}
+use Rattle.image_layout.specs.Slice.{names}
 use Rattle.step_rules.specs.declared.Step.{Step}
 use Rattle.step_rules.specs.Moves.{names-after}
 use Rattle.step_rules.specs.Stepped.{Movable}
@@ -17,6 +19,8 @@ pub record CanWrite (s : List ℕ) (step : Step) : Type 0 where
   pub movable : Movable s step
   -- the image keeps its layout, and its limit of bytes
   pub stands : heads-stand s ≡ true
+  -- T-08: each name's owner can be read
+  pub owners : (k : ℕ) → k < names s → HasOwner s k
   pub short : length s < two-byte-values
   -- "At most 256 names"
   pub few : names-after s step ≤ max-names

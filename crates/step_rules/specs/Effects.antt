@@ -1,17 +1,16 @@
--- Fig. 5 in bytes, and T-03's rules 8 and 9, a clause for each rule.
+-- Fig. 5 in bytes, and T-03's rules 8 and 9, a clause for each rule. Who owns the names is said once, of all rules (`Moves`).
 use mathlib.Core.List.{List, [], _∷_, _++_}
 use Prim.Native.Nat.{ℕ, _+_, _-_}
 use lib.ListN.{drop, take}
 use Rattle.calculus.specs.Image.{nodes}
 use Rattle.calculus.specs.Reduction.{substitute, substitute-both, Rule, BETA, THREAD-NEW, FUTURE-DEREF, HANDLE-NEW, HANDLE-BIND, CELL-NEW, CELL-EXCH, CASE}
 use Rattle.calculus.specs.Syntax.{Exp, pair, list}
-use Rattle.calculus.specs.Kinds.{no-owner}
 use Rattle.term.specs.Expressions.{bytes, term-at}
 use Rattle.term.specs.Forms.{application-tag, unit-tag, name-tag}
 use Rattle.term_redex.specs.declared.Meeting.{Meeting}
 use Rattle.image_layout.specs.Encoded.{Encoded}
 use Rattle.image_layout.specs.Slice.{names}
-use Rattle.image.specs.Owned.{thread-holding, cell-holding, handle-open, handle-used, future-awaited}
+use Rattle.image.specs.Holding.{thread-holding, cell-holding, handle-open, handle-used, future-awaited}
 use Rattle.step_rules.specs.declared.Move.{Move}
 use Rattle.step_rules.specs.declared.Move.the-variants.{Beta, ThreadNew, FutureDeref, HandleNew, HandleBind, CellNew, CellExch, CasePair, CaseList}
 use Rattle.step_rules.specs.Positions.{name-length, to-body, to-component}
@@ -44,12 +43,16 @@ name-bytes k = name-tag ∷ k ∷ []
 abbrev pub started-bytes : List ℕ → Meeting → List ℕ
 started-bytes s m = application-tag ∷ (argument-bytes s m ++ name-bytes (names s))
 
+-- a component, but for its owner
+abbrev pub Unowned : Type 0
+Unowned = ℕ → Encoded
+
 -- a name with its component
 pub record Named : Type 0 where
   pub name : ℕ
-  pub component : Encoded
+  pub component : Unowned
 
-abbrev pub named : ℕ → Encoded → Named
+abbrev pub named : ℕ → Unowned → Named
 named k c = record { name = k; component = c }
 
 -- what a move makes of an image
@@ -60,7 +63,7 @@ pub record Effect : Type 0 where
   pub gained : ℕ
   pub lost : ℕ
   -- the components of the new names, from m on
-  pub new : List Encoded
+  pub new : List Unowned
   -- the other names that change
   pub changed : List Named
 
@@ -85,7 +88,7 @@ effect-of s m ThreadNew =
       redex = name-bytes (names s);
       gained = 1;
       lost = 0;
-      new = thread-holding no-owner (started-bytes s m) ∷ [];
+      new = thread-holding (started-bytes s m) ∷ [];
       changed = [];
     }
 -- FUTURE.DEREF: Ef[y] | y ⇐ w → Ef[w] | y ⇐ w. The name y stands right before the argument, or the body of a case.
@@ -103,7 +106,7 @@ effect-of s m HandleNew =
       redex = application-tag ∷ application-tag ∷ (argument-bytes s m ++ name-bytes (names s) ++ name-bytes (names s + 1));
       gained = 2;
       lost = 0;
-      new = future-awaited no-owner ∷ handle-open no-owner (names s) ∷ [];
+      new = future-awaited ∷ handle-open (names s) ∷ [];
       changed = [];
     }
 -- HANDLE.BIND: E[z v] | z h y → E[unit] | y ⇐ v | z h •
@@ -113,7 +116,7 @@ effect-of s m (HandleBind handle future) =
       gained = 0;
       lost = 1;
       new = [];
-      changed = named handle (handle-used no-owner) ∷ named future (thread-holding no-owner (argument-bytes s m)) ∷ [];
+      changed = named handle handle-used ∷ named future (thread-holding (argument-bytes s m)) ∷ [];
     }
 -- CELL.NEW: E[cell v] → (νy)(E[y] | y c v)
 effect-of s m CellNew =
@@ -121,7 +124,7 @@ effect-of s m CellNew =
       redex = name-bytes (names s);
       gained = 0;
       lost = 1;
-      new = cell-holding no-owner (argument-bytes s m) ∷ [];
+      new = cell-holding (argument-bytes s m) ∷ [];
       changed = [];
     }
 -- CELL.EXCH: E[exch y v₁] | y c v₂ → E[v₂] | y c v₁
@@ -131,7 +134,7 @@ effect-of s m (CellExch cell from to) =
       gained = 0;
       lost = 4;
       new = [];
-      changed = named cell (cell-holding no-owner (argument-bytes s m)) ∷ [];
+      changed = named cell (cell-holding (argument-bytes s m)) ∷ [];
     }
 effect-of s m (CasePair rest) = taken-apart s m rest
 effect-of s m (CaseList rest) = taken-apart s m rest

@@ -2,15 +2,14 @@
 use mathlib.Core.Bool.{cond}
 use mathlib.Core.List.{List, [], _∷_, _++_}
 use Prim.Native.Nat.{ℕ, _+_, _-_}
-use lib.Dec.{eqb}
+use lib.Dec.{eqb, ltb}
 use lib.ListN.{length}
 use Rattle.calculus.specs.Lists.{tabulate}
-use Rattle.calculus.specs.Kinds.{no-owner}
 use Rattle.image_layout.specs.Encoded.{Encoded, image-bytes}
-use Rattle.image_layout.specs.Slice.{names, offset-at, length-at, encoded-at}
-use Rattle.image.specs.Owned.{thread-holding}
+use Rattle.image_layout.specs.Slice.{names, owner-at, offset-at, length-at, encoded-at}
+use Rattle.image.specs.Holding.{thread-holding}
 use Rattle.step_rules.specs.declared.Step.{Step}
-use Rattle.step_rules.specs.Effects.{bytes-between, Named, named, Effect, effect-of}
+use Rattle.step_rules.specs.Effects.{bytes-between, Unowned, Named, named, Effect, effect-of}
 
 -- what a step makes of the image s
 abbrev pub effect : List ℕ → Step → Effect
@@ -23,23 +22,28 @@ expression-after s step =
     ++ effect s step .redex
     ++ bytes-between s (step .meeting .end) (offset-at s (step .thread) + length-at s (step .thread))
 
--- the component that a list has for name k, and c where it has none
-unfoldable pub look-up : List Named → ℕ → Encoded → Encoded
-look-up [] k c = c
-look-up (n ∷ l) k c = cond (eqb k (n .name)) (n .component) (look-up l k c)
+-- T-08, "a new name to the creating thread's bay, and a future or handle keeps its owner when used": the owner of name k after a step of thread x
+unfoldable pub owner-after : List ℕ → ℕ → ℕ → ℕ
+owner-after s x k = cond (ltb k (names s)) (owner-at s k) (owner-at s x)
+
+-- the component that a list has for name k of this owner, and c where it has none
+unfoldable pub look-up : List Named → ℕ → ℕ → Encoded → Encoded
+look-up [] k owner c = c
+look-up (n ∷ l) k owner c = cond (eqb k (n .name)) (n .component owner) (look-up l k owner c)
 
 -- components with their names, from m on
-unfoldable pub from-name : ℕ → List Encoded → List Named
+unfoldable pub from-name : ℕ → List Unowned → List Named
 from-name m [] = []
 from-name m (c ∷ l) = named m c ∷ from-name (m + 1) l
 
 -- the component of any name k but the thread's: changed, new, or as it was
 unfoldable pub other-after : List ℕ → Step → ℕ → Encoded
-other-after s step k = look-up (effect s step .changed) k (look-up (from-name (names s) (effect s step .new)) k (encoded-at s k))
+other-after s step k =
+    look-up (effect s step .changed) k (owner-after s (step .thread) k) (look-up (from-name (names s) (effect s step .new)) k (owner-after s (step .thread) k) (encoded-at s k))
 
 -- the component of name k after the step
 unfoldable pub component-after : List ℕ → Step → ℕ → Encoded
-component-after s step k = cond (eqb k (step .thread)) (thread-holding no-owner (expression-after s step)) (other-after s step k)
+component-after s step k = cond (eqb k (step .thread)) (thread-holding (expression-after s step) (owner-after s (step .thread) k)) (other-after s step k)
 
 -- the names after the step
 unfoldable pub names-after : List ℕ → Step → ℕ

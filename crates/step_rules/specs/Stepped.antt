@@ -4,6 +4,7 @@ use mathlib.Core.List.{List}
 use Prim.Native.Nat.{ℕ, _+_, _≤_, _<_}
 use lib.ListN.{length}
 use Rattle.calculus.specs.Syntax.{Config}
+use Rattle.calculus.specs.Owners.{grown}
 use Rattle.calculus.specs.Step.{rule, step-of}
 use Rattle.calculus.specs.Image.{Closed, nodes, nodes-all}
 use Rattle.calculus.specs.Limits.{max-nodes}
@@ -11,7 +12,7 @@ use Rattle.term.specs.Reader.{end-at, GoodAt}
 use Rattle.term.specs.Expressions.{term-at}
 use Rattle.term_redex.specs.declared.Meeting.{Meeting}
 use Rattle.image_layout.specs.Slice.{names, offset-at, length-at}
-use Rattle.image.specs.Configuration.{config-of, image-of}
+use Rattle.image.specs.Configuration.{config-of, image-of, owned-of}
 use Rattle.step_rules.specs.declared.Move.{Move}
 use Rattle.step_rules.specs.declared.Move.the-variants.{Beta, ThreadNew, FutureDeref, HandleNew, HandleBind, CellNew, CellExch, CasePair, CaseList}
 use Rattle.step_rules.specs.declared.Step.{Step}
@@ -71,7 +72,7 @@ pub record Movable (s : List ℕ) (step : Step) : Type 0 where
 pub record Stepped (s : List ℕ) (x : ℕ) (step : Step) : Type 0 where
   pub outcome : Config
   pub steps : step-of (config-of s) x ≡ rule (rule-of (step .by)) outcome
-  pub written : image-after s step ≡ image-of outcome
+  pub written : image-after s step ≡ image-of (grown (owned-of s) x outcome)
   pub counted : nodes-all outcome ≡ nodes-after (nodes-all (config-of s)) s step
   pub named : length outcome ≡ names-after s step
   pub movable : Movable s step

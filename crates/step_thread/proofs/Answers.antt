@@ -5,6 +5,7 @@ use mathlib.Core.List.{List}
 use Prim.Native.Nat.{_<_, _≤_, ℕ}
 use native.Mathlib.Omega.{arith}
 use lib.ListN.{length}
+use Rattle.calculus.specs.Owners.{grown}
 use Rattle.calculus.specs.Reduction.{number}
 use Rattle.calculus.specs.Limits.{max-image-length}
 use Rattle.calculus.specs.Image.{limits-test}
@@ -14,7 +15,7 @@ use Rattle.calculus.specs.Theory.Tests.{ltb-complete, ltb-not}
 use Rattle.calculus.specs.Theory.ImageTest.{limits-test-iff}
 use Rattle.buffer.specs.Written.{Wrote}
 use Rattle.buffer.specs.Theory.Writes.{beyond}
-use Rattle.image.specs.Configuration.{image-of}
+use Rattle.image.specs.Configuration.{image-of, owned-of}
 use Rattle.image.specs.Stands.{image-stands}
 use Rattle.image.specs.Theory.Lengths.{within-length}
 use Rattle.step_rules.specs.declared.Step.{Step}
@@ -34,7 +35,7 @@ Answers s x out nodes r out′ nodes′ = (r ≡ outcome-of-reply (reply-in s x)
 -- only a rule writes
 unwritten : (q : Reply) (out : List ℕ) (nodes : ℕ) → ((rule size : ℕ) → ¬ (outcome-of-reply q ≡ Rule rule size)) → (out ≡ out-after-reply q out) × (nodes ≡ nodes-after q nodes)
 unfolding outcome-of-reply out-after-reply nodes-after
-unwritten (moved rule C′) out nodes n = absurd (n _ _ refl)
+unwritten (moved rule I′) out nodes n = absurd (n _ _ refl)
 unwritten (waits y) out nodes n = (refl, refl)
 unwritten finished out nodes n = (refl, refl)
 unwritten (refuses number) out nodes n = (refl, refl)
@@ -50,9 +51,10 @@ module _ {s : List ℕ} {x : ℕ} (out : List ℕ) (nodes : ℕ) where
       let S = g .stepped in
       let e = S .steps in
       let l = g .fits in
-      let v : Wrote out 0 (image-of (S .outcome)) out′ n = rw (S .written) at w in
-      let size : n ≡ length (image-of (S .outcome)) = omega (arith, v .ends) in
-      (rw (e, l, numbered, size) refl, (rw (e, l) (beyond v (omega (arith, within-length (S .outcome) (limits-test-iff (S .outcome) .0 l)))), rw (e, l) (g .counted)))
+      let I′ = grown (owned-of s) x (S .outcome) in
+      let v : Wrote out 0 (image-of I′) out′ n = rw (S .written) at w in
+      let size : n ≡ length (image-of I′) = omega (arith, v .ends) in
+      (rw (e, l, numbered, size) refl, (rw (e, l) (beyond v (omega (arith, within-length I′ (limits-test-iff (S .outcome) .0 l)))), rw (e, l) (g .counted)))
 
 -- the whole step
 module _ (s : List ℕ) (x : ℕ) (out : List ℕ) where

@@ -7,7 +7,8 @@ use lib.ListN.{length}
 use Rattle.calculus.specs.Bytes.{Bytes}
 use Rattle.calculus.specs.Limits.{max-image-length, max-nodes}
 use Rattle.calculus.specs.Causes.{room-cause}
-use Rattle.calculus.specs.Syntax.{Shape, Exp, var, lam, app, both, case-of, Value, Config}
+use Rattle.calculus.specs.Syntax.{Shape, Exp, var, lam, app, both, case-of, Value}
+use Rattle.calculus.specs.Owners.{Owned, grown}
 use Rattle.calculus.specs.Reduction.{substitute, substitute-both, Context, Has, put, Rule, BETA, CASE, number}
 use Rattle.calculus.specs.Names.{uses}
 use Rattle.calculus.specs.Image.{nodes, nodes-all}
@@ -40,8 +41,8 @@ for-each-place f k e (v ∷ values) = uses k e * f v + for-each-place f (suc k) 
 abbrev pub weighed : Exp → List Exp → ℕ
 weighed body values = nodes body + for-each-place (λ v. nodes v - 1) 0 body values
 
--- thread x of C goes by the rule with this number, and what is written is C with the outcome in place of the application or case
-pub record PutIn (image : List ℕ) (x : ℕ) (out : List ℕ) (rule : ℕ) (C : Config) : Type 0 where
+-- thread x of the image goes by the rule with this number, and what is written is the image with the outcome in place of the application or case
+pub record PutIn (image : List ℕ) (x : ℕ) (out : List ℕ) (rule : ℕ) (I : Owned) : Type 0 where
   pub by : Rule
   pub context : Context
   pub redex : Exp
@@ -49,9 +50,9 @@ pub record PutIn (image : List ℕ) (x : ℕ) (out : List ℕ) (rule : ℕ) (C :
   pub values : List Exp
   pub outcome : Exp
   pub is-rule : rule ≡ number by
-  pub thread : Has C x context redex
+  pub thread : Has (I .config) x context redex
   pub puts : PutsIn by redex body values outcome
-  pub written : Written (image-of (put C x context outcome)) out (out-after-step image x out)
+  pub written : Written (image-of (grown I x (put (I .config) x context outcome))) out (out-after-step image x out)
   -- "the outcome has the body's nodes plus, for each place, its value's nodes less one"
   pub nodes-are : nodes outcome ≡ weighed body values
   -- the same of bytes, of which a variable has two: each place's come, and the variable's go
@@ -62,9 +63,9 @@ pub record WeighedFirst : Type 0 where
   pub outcome : (image : List ℕ) → Bytes image → (x : ℕ) (out : List ℕ) (rule size : ℕ) → PutsValues rule →
       outcome-of image x out ≡ Answers rule size → Means image out (PutIn image x out rule)
   -- "and decide room in rules 1, 8 and 9 by that": there is room exactly where the nodes of all names, with what is so told in place of the application or case, are within the limit
-  pub room : (image : List ℕ) → Bytes image → (C : Config) → ImageOf image C → (x : ℕ) (out : List ℕ) → max-image-length ≤ length out →
-      {by : Rule} (F : Context) {redex body e : Exp} {values : List Exp} → Has C x F redex → PutsIn by redex body values e →
-      (outcome-of image x out ≡ Answers (number by) (length (image-of (put C x F e)))) ↔ (nodes-all C + weighed body values ≤ max-nodes + nodes redex)
-  pub no-room : (image : List ℕ) → Bytes image → (C : Config) → ImageOf image C → (x : ℕ) (out : List ℕ) → max-image-length ≤ length out →
-      {by : Rule} (F : Context) {redex body e : Exp} {values : List Exp} → Has C x F redex → PutsIn by redex body values e →
-      (outcome-of image x out ≡ Refused room-cause) ↔ (max-nodes + nodes redex < nodes-all C + weighed body values)
+  pub room : (image : List ℕ) → Bytes image → (I : Owned) → ImageOf image I → (x : ℕ) (out : List ℕ) → max-image-length ≤ length out →
+      {by : Rule} (F : Context) {redex body e : Exp} {values : List Exp} → Has (I .config) x F redex → PutsIn by redex body values e →
+      (outcome-of image x out ≡ Answers (number by) (length (image-of (grown I x (put (I .config) x F e))))) ↔ (nodes-all (I .config) + weighed body values ≤ max-nodes + nodes redex)
+  pub no-room : (image : List ℕ) → Bytes image → (I : Owned) → ImageOf image I → (x : ℕ) (out : List ℕ) → max-image-length ≤ length out →
+      {by : Rule} (F : Context) {redex body e : Exp} {values : List Exp} → Has (I .config) x F redex → PutsIn by redex body values e →
+      (outcome-of image x out ≡ Refused room-cause) ↔ (max-nodes + nodes redex < nodes-all (I .config) + weighed body values)

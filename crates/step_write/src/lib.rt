@@ -9,6 +9,7 @@ use image_layout::expression_at;
 use image_layout::kind_at;
 use image_layout::length_at;
 use image_layout::names_of;
+use image_layout::owner_at;
 use image_layout::put_head;
 use numbers::Image;
 use step_reduct::put_argument;
@@ -34,19 +35,20 @@ ghost use Rattle.image_layout.specs.Heads.{Says};
 ghost use Rattle.image_layout.specs.Theory.Turns.{Room};
 ghost use Rattle.step_rules.specs.Positions.{application-length, name-length};
 ghost use Rattle.step_rules.specs.Effects.{started-bytes};
-ghost use Rattle.step_rules.specs.Moves.{component-after, expression-after, names-after, image-after};
+ghost use Rattle.step_rules.specs.Moves.{component-after, expression-after, owner-after, names-after, image-after};
 ghost use Rattle.step_room.specs.Counting.{Handed};
 ghost use Rattle.step_reduct.specs.CanWrite.{CanWrite};
 ghost use Rattle.step_write.specs.Changes.{Becomes};
 
-// What a step makes of a name: it stays, it is the thread that goes or a new thread (rule 2), it is of a kind and holds the argument, or it is of a kind, has a
-// companion and holds nothing.
+// What a step makes of a name: it stays, it is the thread that goes or a new thread (rule 2), it is of a kind and holds the argument, it is an open handle for a
+// future, or it is of a kind and holds nothing.
 pub enum Change {
     Kept,
     Goes,
     Starts,
     Holds(u8),
-    Bare(u8, u8),
+    Opens(u8),
+    Bare(u8),
 }
 
 // This change, or another.
@@ -68,7 +70,6 @@ fn change_of(image: &[u8], step: Step, k: usize) -> Change
         return Change::Goes;
     }
     let names = names_of(image);
-    let owner = Image::NO_OWNER;
     let kept = Change::Kept;
     let by = step.by;
     match by {
@@ -77,16 +78,12 @@ fn change_of(image: &[u8], step: Step, k: usize) -> Change
         Move::FutureDeref(_, _) => kept,
         Move::HandleNew => {
             let future = names as u8;
-            let handle = when(
-                k == names + 1,
-                Change::Bare(Image::OPEN_HANDLE, future),
-                kept,
-            );
-            when(k == names, Change::Bare(Image::FUTURE, owner), handle)
+            let handle = when(k == names + 1, Change::Opens(future), kept);
+            when(k == names, Change::Bare(Image::FUTURE), handle)
         }
         Move::HandleBind(handle, future) => {
             let bound = when(k == future, Change::Holds(Image::THREAD), kept);
-            when(k == handle, Change::Bare(Image::USED_HANDLE, owner), bound)
+            when(k == handle, Change::Bare(Image::USED_HANDLE), bound)
         }
         Move::CellNew => when(k == names, Change::Holds(Image::CELL), kept),
         Move::CellExch(cell, _, _) => when(k == cell, Change::Holds(Image::CELL), kept),
@@ -126,7 +123,8 @@ fn put_expression_after(out: &mut [u8], at: usize, image: &[u8], step: Step, k: 
         Change::Goes => put_thread_after(out, at, image, step),
         Change::Starts => put_started(out, at, image, step),
         Change::Holds(_) => put_argument(out, at, image, step),
-        Change::Bare(_, _) => at,
+        Change::Opens(_) => at,
+        Change::Bare(_) => at,
     }
 }
 
@@ -152,12 +150,23 @@ fn holding(kind: u8, owner: u8, size: usize) -> Head
     }
 }
 
+// The owner of name k after the step: its own, or, of a new name, that of the thread that goes.
+fn owner_after(image: &[u8], step: Step, k: usize) -> u8
+    requires { ⌜ CanWrite (now image) step ⌝ }
+    ensures { λ r. ⌜ r ≡ owner-after (now (image .entry)) (step .thread) k ⌝ }
+{
+    if k < names_of(image) {
+        return owner_at(image, k);
+    }
+    owner_at(image, step.thread)
+}
+
 // The head of name k, where the expression of the thread that goes has so many bytes.
 fn head_after(image: &[u8], step: Step, thread: usize, k: usize) -> Head
     requires { ⌜ CanWrite (now image) step × ((thread ≡ length (expression-after (now image) step)) × (k < names-after (now image) step)) ⌝ }
     ensures { λ r. ⌜ Says r (component-after (now (image .entry)) step k) ⌝ }
 {
-    let owner = Image::NO_OWNER;
+    let owner = owner_after(image, step, k);
     let change = change_of(image, step, k);
     match change {
         Change::Kept => Head {
@@ -168,7 +177,8 @@ fn head_after(image: &[u8], step: Step, thread: usize, k: usize) -> Head
         Change::Goes => holding(Image::THREAD, owner, thread),
         Change::Starts => holding(Image::THREAD, owner, started_size(step.meeting)),
         Change::Holds(kind) => holding(kind, owner, argument_size(step.meeting)),
-        Change::Bare(kind, companion) => bare(kind, companion),
+        Change::Opens(future) => bare(Image::OPEN_HANDLE, future),
+        Change::Bare(kind) => bare(kind, owner),
     }
 }
 

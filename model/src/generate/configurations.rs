@@ -229,7 +229,8 @@ pub fn configuration_of(draw: &mut Draw, names: usize, fuel: usize) -> Configura
         components.push(component);
     }
     give_handles(draw, &mut components);
-    Configuration { components }
+    let owners = owners(draw, &components);
+    Configuration { components, owners }
 }
 
 /// Every future gets one open handle, in place of another component; a last one is given up.
@@ -253,6 +254,22 @@ fn give_handles(draw: &mut Draw, components: &mut [Component]) {
     }
 }
 
+/// An owner for each component: all of one bay, the bays of a recipe, or any, gaps among them; also the
+/// highest that there may be. "an open handle has the owner of its future".
+fn owners(draw: &mut Draw, components: &[Component]) -> Vec<u8> {
+    let bays = draw.pick(&[1, 2, 3, limits::MAX_BAYS, limits::MAX_BAYS]);
+    let last = draw.pick(&[bays, limits::MAX_BAYS]) - 1;
+    let drawn = components
+        .iter()
+        .map(|_| (last - draw.below(bays)) as u8)
+        .collect::<Vec<u8>>();
+    let owner = |(component, owner): (&Component, &u8)| match component {
+        Component::OpenHandle(future) => drawn[usize::from(*future)],
+        _ => *owner,
+    };
+    components.iter().zip(&drawn).map(owner).collect()
+}
+
 /// Small ones, larger ones, and now and then many names.
 pub fn configuration(draw: &mut Draw) -> Configuration {
     let names = match draw.below(20) {
@@ -269,17 +286,83 @@ pub fn configuration(draw: &mut Draw) -> Configuration {
     configuration_of(draw, names, fuel)
 }
 
+fn threads_of(configuration: &Configuration) -> Vec<usize> {
+    (0..configuration.names())
+        .filter(|name| matches!(configuration.components[*name], Component::Thread(_)))
+        .collect()
+}
+
+/// A configuration whose threads, most of them, are about to bind, to exchange or to make a name, with
+/// names that other bays may own.
+pub fn meeting_names(draw: &mut Draw) -> Configuration {
+    let names = draw.pick(&[3, 4, 6, 20]);
+    let mut configuration = configuration_of(draw, names, 3);
+    for thread in threads_of(&configuration) {
+        if draw.below(3) > 0 {
+            let meeting = tree(&meeting_a_name(draw, &configuration));
+            configuration.components[thread] = Component::Thread(meeting);
+        }
+    }
+    configuration
+}
+
+/// z v, exch y v or c x, for an open handle z, a cell y, a constant c that makes names and any name x.
+fn meeting_a_name(draw: &mut Draw, configuration: &Configuration) -> Vec<Node> {
+    let form = draw.below(4);
+    let name = some_name(draw, configuration, |component| match form {
+        0 => matches!(component, Component::OpenHandle(_)),
+        1 => matches!(component, Component::Cell(_)),
+        _ => true,
+    });
+    let mut maker = Maker::new(draw, configuration.names(), 3);
+    maker.nodes.push(Node::Application);
+    match form {
+        0 => maker.nodes.push(name),
+        1 => {
+            maker.exch();
+            maker.nodes.push(name);
+        }
+        _ => {
+            let c = maker.draw.pick(&MAKING_CONSTANTS);
+            let constant = Node::Constant(c, maker.draw.byte());
+            maker.nodes.extend([constant, name]);
+            return maker.nodes;
+        }
+    }
+    maker.value();
+    maker.nodes
+}
+
+/// The constants that make names.
+const MAKING_CONSTANTS: [Constant; 3] = [Constant::Cell, Constant::Thread, Constant::Handle];
+
+/// Some name whose component fits; any name where none does.
+fn some_name(
+    draw: &mut Draw,
+    configuration: &Configuration,
+    fits: impl Fn(&Component) -> bool,
+) -> Node {
+    let all = (0..configuration.names()).map(|name| name as u8);
+    let fitting: Vec<u8> = all.filter(|name| fits(configuration.get(*name))).collect();
+    match fitting.len() {
+        0 => Node::Name(draw.below(configuration.names()) as u8),
+        _ => Node::Name(draw.pick(&fitting)),
+    }
+}
+
 /// A configuration in which some rule's outcome has 4,094 to 4,098 nodes.
 pub fn outcome_at_limit(draw: &mut Draw) -> Configuration {
     let names = draw.between(2, 6);
     let mut configuration = configuration_of(draw, names, 8);
-    let first = configuration.components.first();
-    if matches!(first, Some(Component::Thread(_))) && draw.one_in(2) {
-        let grows = draw.pick(&[growing, growing_case]);
-        configuration.components[0] = Component::Thread(tree(&grows(draw)));
+    let threads = threads_of(&configuration);
+    if !threads.is_empty() && draw.below(3) > 0 {
+        let makers: [fn(&mut Draw) -> Vec<Node>; 2] = [growing, growing_case];
+        let grows = draw.pick(&makers);
+        let thread = draw.pick(&threads);
+        configuration.components[thread] = Component::Thread(tree(&grows(draw)));
     }
-    let outcomes: Vec<usize> = (0..names)
-        .filter(|name| matches!(configuration.components[*name], Component::Thread(_)))
+    let outcomes: Vec<usize> = threads
+        .into_iter()
         .filter_map(|thread| match move_of(&configuration, thread) {
             Move::Rule(_, next) => Some(next.nodes()),
             _ => None,
@@ -291,8 +374,8 @@ pub fn outcome_at_limit(draw: &mut Draw) -> Configuration {
     let wanted = draw.between(limits::MAX_NODES - 2, limits::MAX_NODES + 2);
     let filler = wanted - draw.pick(&outcomes).min(wanted - 1);
     let expression = tree(&large(draw, names, filler));
-    configuration.components.push(Component::Thread(expression));
-    configuration
+    let owner = draw.below(limits::MAX_BAYS) as u8;
+    configuration.and(Component::Thread(expression), owner)
 }
 
 /// (λx. x (x .. unit)) v, with a value large enough that rule 1 adds nodes.
@@ -341,9 +424,7 @@ pub fn configuration_at_limits(draw: &mut Draw) -> Configuration {
 
 /// Brings the nodes to that number by a large expression in one of the threads.
 fn grow(draw: &mut Draw, configuration: &mut Configuration, wanted: usize) {
-    let threads: Vec<usize> = (0..configuration.names())
-        .filter(|name| matches!(configuration.components[*name], Component::Thread(_)))
-        .collect();
+    let threads = threads_of(configuration);
     if threads.is_empty() {
         return;
     }

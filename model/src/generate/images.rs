@@ -1,19 +1,24 @@
 //! Random images: sound ones, ones at the limits, and damaged ones; and what a step is called with.
 
 use crate::draw::Draw;
-use crate::generate::configurations::{configuration, configuration_at_limits, outcome_at_limit};
+use crate::generate::configurations::{
+    configuration, configuration_at_limits, meeting_names, outcome_at_limit,
+};
 use crate::image::{names_of_kind, write_image};
 use crate::kinds;
 use crate::limits;
 
 /// A slice to step: mostly an image, sometimes a damaged one.
 pub fn image(draw: &mut Draw) -> Vec<u8> {
-    let mut made = match draw.below(14) {
+    let mut made = match draw.below(16) {
         0 => write_image(&configuration_at_limits(draw)),
         1 => write_image(&outcome_at_limit(draw)),
+        2 | 3 => write_image(&meeting_names(draw)),
         _ => write_image(&configuration(draw)),
     };
-    if draw.one_in(3) {
+    if draw.one_in(10) {
+        change_companion(&mut made, draw);
+    } else if draw.one_in(3) {
         for _ in 0..draw.pick(&[1, 1, 2, 4]) {
             damage(&mut made, draw);
         }
@@ -27,8 +32,9 @@ pub fn damage(image: &mut Vec<u8>, draw: &mut Draw) {
         return;
     }
     let at = draw.below(image.len());
-    match draw.below(12) {
+    match draw.below(13) {
         10 | 11 => open_a_used_handle(image, draw),
+        12 => change_companion(image, draw),
         0 => image[at] = draw.byte(),
         1 => image[at] ^= 1 << draw.below(8),
         2 => image[at] = image[at].wrapping_add(1),
@@ -40,6 +46,27 @@ pub fn damage(image: &mut Vec<u8>, draw: &mut Draw) {
         8 => image[at] = draw.below(15) as u8,
         _ => lengthen(image, draw),
     }
+}
+
+/// Owners about the limit of bays: the highest that there may be, and the first that breaks the layout.
+pub const EDGE_OWNERS: [u8; 2] = [limits::MAX_BAYS as u8 - 1, limits::MAX_BAYS as u8];
+
+/// Another companion for a name of some kind that there is: an owner about the limit, or any byte. An open
+/// handle's is no owner.
+fn change_companion(image: &mut [u8], draw: &mut Draw) {
+    let of_kinds = (kinds::THREAD..=kinds::FUTURE).map(|kind| names_of_kind(image, kind));
+    let of_kinds: Vec<Vec<u64>> = of_kinds.filter(|names| !names.is_empty()).collect();
+    if of_kinds.is_empty() {
+        return;
+    }
+    let kind = draw.below(of_kinds.len());
+    let name = draw.pick(&of_kinds[kind]) as usize;
+    let head = limits::FIRST_HEAD + limits::HEAD_LENGTH * name;
+    image[head + 1] = match draw.below(4) {
+        0 => draw.byte(),
+        1 => u8::MAX,
+        _ => draw.pick(&EDGE_OWNERS),
+    };
 }
 
 /// A used handle becomes an open one, of a future that has a handle or of any name.

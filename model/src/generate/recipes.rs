@@ -3,6 +3,7 @@
 use crate::draw::Draw;
 use crate::editions::{FIRST, SECOND, THIRD};
 use crate::format::Recipe;
+use crate::generate::bays;
 use crate::generate::growth::{grow_to_nesting, grow_to_nodes};
 use crate::generate::mutants;
 use crate::generate::starts;
@@ -225,7 +226,7 @@ pub fn largest(draw: &mut Draw) -> Recipe {
 
 /// A file of the corpus: about half of them well-typed recipes, the others with a fault.
 pub fn file(draw: &mut Draw) -> Vec<u8> {
-    match draw.below(106) {
+    match draw.below(112) {
         0..=44 => well_typed(draw).write(),
         45 => at_a_limit(draw).write(),
         46..=51 => careless(draw).write(),
@@ -236,6 +237,7 @@ pub fn file(draw: &mut Draw) -> Vec<u8> {
         63..=83 => mutants::of_recipe(draw, well_typed),
         84..=87 => mutants::of_recipe(draw, several_careless_bays),
         88..=99 => mutants::of_bytes(draw, well_typed),
-        _ => starts::file(draw),
+        100..=105 => starts::file(draw),
+        _ => bays::recipe(draw).write(),
     }
 }

@@ -34,7 +34,8 @@ fn in_edition_3(draw: &mut Draw, make: fn(&mut Draw) -> Recipe) -> Recipe {
 
 /// A file about the starting part: its length, the number of bays, the edition beside it.
 pub fn file(draw: &mut Draw) -> Vec<u8> {
-    let make = draw.pick(&[well_typed, small, small, several_careless_bays]);
+    let makers: [fn(&mut Draw) -> Recipe; 4] = [well_typed, small, small, several_careless_bays];
+    let make = draw.pick(&makers);
     let mut recipe = in_edition_3(draw, make);
     match draw.below(10) {
         0 => return with_another_edition(draw, &recipe),

@@ -23,6 +23,14 @@ impl<'a> PlainImage<'a> {
         self.bytes[head(name) + 1]
     }
 
+    /// The owning bay; an open handle's is its future's.
+    pub fn owner(self, name: usize) -> u8 {
+        match self.kind(name) {
+            kinds::OPEN_HANDLE => self.companion(usize::from(self.companion(name))),
+            _ => self.companion(name),
+        }
+    }
+
     pub fn offset(self, name: usize) -> usize {
         number_at(self.bytes, head(name) + 2)
     }
@@ -76,9 +84,11 @@ fn check_heads(image: PlainImage) -> Option<()> {
         let length = number_at(image.bytes, head(name) + 4);
         let (kind, companion) = (image.kind(name), image.companion(name));
         let sound = match kind {
-            kinds::THREAD | kinds::CELL => companion == 0,
+            kinds::THREAD | kinds::CELL => usize::from(companion) < limits::MAX_BAYS,
             kinds::OPEN_HANDLE => length == 0 && usize::from(companion) < image.names,
-            kinds::USED_HANDLE | kinds::FUTURE => length == 0 && companion == 0,
+            kinds::USED_HANDLE | kinds::FUTURE => {
+                length == 0 && usize::from(companion) < limits::MAX_BAYS
+            }
             _ => false,
         };
         if !sound || image.offset(name) != end {

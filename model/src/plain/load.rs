@@ -21,16 +21,16 @@ pub fn load(file: &[u8], out: &mut [u8]) -> (Answer, usize) {
     let mut end = limits::FIRST_HEAD + limits::HEAD_LENGTH * 2 * bays;
     out[..2].copy_from_slice(&(2 * bays as u16).to_le_bytes());
     for name in 0..2 * bays {
+        let bay = name % bays;
         let num;
-        let (kind, expression) = match name.checked_sub(bays) {
-            None => {
-                num = setting(starting, name);
-                (kinds::CELL, &num[..])
-            }
-            Some(bay) => (kinds::THREAD, parts.term(bay)),
+        let (kind, expression) = if name < bays {
+            num = setting(starting, bay);
+            (kinds::CELL, &num[..])
+        } else {
+            (kinds::THREAD, parts.term(bay))
         };
         let head = limits::FIRST_HEAD + limits::HEAD_LENGTH * name;
-        out[head..head + 2].copy_from_slice(&[kind, 0]);
+        out[head..head + 2].copy_from_slice(&[kind, bay as u8]);
         out[head + 2..head + 4].copy_from_slice(&(end as u16).to_le_bytes());
         out[head + 4..head + 6].copy_from_slice(&(expression.len() as u16).to_le_bytes());
         out[end..end + expression.len()].copy_from_slice(expression);

@@ -122,13 +122,13 @@ pub fn write(
         let start = writer.end;
         let (kind, companion) = if name == thread {
             write_thread(&mut writer, image, expression, place, change);
-            (kinds::THREAD, 0)
+            (kinds::THREAD, image.owner(thread))
         } else {
             write_other(&mut writer, image, name, value, change)
         };
         writer.head(name, kind, companion, start);
     }
-    write_new(&mut writer, image.names, value, change);
+    write_new(&mut writer, image.names, image.owner(thread), value, change);
     writer.end
 }
 
@@ -171,7 +171,8 @@ fn write_thread(
     writer.put(&expression[place.end..]);
 }
 
-/// Any other name: the future bound, the handle used, the cell exchanged, or as it was.
+/// Any other name: the future bound, the handle used, the cell exchanged, or as it was; its kind and
+/// companion. Whoever steps, it keeps its owner.
 fn write_other(
     writer: &mut Writer,
     image: PlainImage,
@@ -182,12 +183,14 @@ fn write_other(
     match change {
         Change::HandleBind { future, .. } if usize::from(future) == name => {
             writer.put(value);
-            (kinds::THREAD, 0)
+            (kinds::THREAD, image.owner(name))
         }
-        Change::HandleBind { handle, .. } if usize::from(handle) == name => (kinds::USED_HANDLE, 0),
+        Change::HandleBind { handle, .. } if usize::from(handle) == name => {
+            (kinds::USED_HANDLE, image.owner(name))
+        }
         Change::CellExch { cell } if usize::from(cell) == name => {
             writer.put(value);
-            (kinds::CELL, 0)
+            (kinds::CELL, image.owner(name))
         }
         _ => {
             writer.put(image.expression(name));
@@ -196,8 +199,8 @@ fn write_other(
     }
 }
 
-/// The new names: a thread, a cell, or a future and its handle.
-fn write_new(writer: &mut Writer, first: usize, value: &[u8], change: Change) {
+/// The new names, of that bay: a thread, a cell, or a future and its handle.
+fn write_new(writer: &mut Writer, first: usize, owner: u8, value: &[u8], change: Change) {
     let start = writer.end;
     let new = first as u8;
     match change {
@@ -205,14 +208,14 @@ fn write_new(writer: &mut Writer, first: usize, value: &[u8], change: Change) {
             writer.put(&[tags::APPLICATION]);
             writer.put(value);
             writer.put(&[tags::NAME, new]);
-            writer.head(first, kinds::THREAD, 0, start);
+            writer.head(first, kinds::THREAD, owner, start);
         }
         Change::CellNew => {
             writer.put(value);
-            writer.head(first, kinds::CELL, 0, start);
+            writer.head(first, kinds::CELL, owner, start);
         }
         Change::HandleNew => {
-            writer.head(first, kinds::FUTURE, 0, start);
+            writer.head(first, kinds::FUTURE, owner, start);
             writer.head(first + 1, kinds::OPEN_HANDLE, new, start);
         }
         _ => {}

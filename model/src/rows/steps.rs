@@ -1,14 +1,17 @@
 //! Rows of a step: images of runs, drawn ones, damaged ones and ones at the limits, with every answer,
-//! and cases of every subject.
+//! cases of every subject, and steps that tell whose a name is.
 
+use crate::across::{across, Across};
 use crate::answers::{Implementation, Model, SteppedAnswer, DONE, REFUSED, RULE, WAITING};
 use crate::causes;
 use crate::config::{Component, Configuration};
 use crate::draw::Draw;
 use crate::expression::Expression;
+use crate::format::Recipe;
 use crate::generate::configurations::configuration_of;
-use crate::generate::{images, recipes};
-use crate::image::{read_image, write_image};
+use crate::generate::{bays, images, recipes};
+use crate::image::{names_of_kind, read_image, write_image};
+use crate::kinds;
 use crate::limits;
 use crate::nodes::Node;
 use crate::rows::quota::fill;
@@ -33,7 +36,13 @@ enum Origin {
     Keeping,
     /// a run whose thread is at a case
     RunAtCase,
+    /// a run of several bays, whose thread is of another bay than 0
+    Elsewhere,
     Drawn,
+    /// a drawn image whose thread meets what another bay owns
+    Across(Across),
+    /// a drawn image in which a name of this kind has an owner about the limit
+    EdgeOwner(u8),
     /// a drawn image whose thread is at a case of this tag, with this subject
     AtCase(u8, Subject),
     Damaged,
@@ -56,6 +65,23 @@ pub struct StepRow {
     pub answer: SteppedAnswer,
     pub new: Vec<u8>,
 }
+
+/// What a thread may meet that another bay owns, and the rule.
+const ACROSS: [(Across, u8); 5] = [
+    (Across::Binds, rules::HANDLE_BIND),
+    (Across::Exchanges, rules::CELL_EXCH),
+    (Across::Makes(Constant::Thread), rules::THREAD_NEW),
+    (Across::Makes(Constant::Handle), rules::HANDLE_NEW),
+    (Across::Makes(Constant::Cell), rules::CELL_NEW),
+];
+
+/// The kinds whose companion is an owner.
+const OWNED_KINDS: [u8; 4] = [
+    kinds::THREAD,
+    kinds::CELL,
+    kinds::USED_HANDLE,
+    kinds::FUTURE,
+];
 
 fn wanted() -> BTreeMap<Class, usize> {
     let mut wanted = BTreeMap::new();
@@ -83,6 +109,22 @@ fn wanted() -> BTreeMap<Class, usize> {
     for rule in [rules::BETA, rules::CELL_EXCH] {
         wanted.insert((Origin::Keeping, RULE, u32::from(rule)), 3);
     }
+    for rule in [
+        rules::THREAD_NEW,
+        rules::HANDLE_NEW,
+        rules::HANDLE_BIND,
+        rules::CELL_NEW,
+        rules::CELL_EXCH,
+    ] {
+        wanted.insert((Origin::Elsewhere, RULE, u32::from(rule)), 2);
+    }
+    for (what, rule) in ACROSS {
+        wanted.insert((Origin::Across(what), RULE, u32::from(rule)), 2);
+    }
+    for kind in OWNED_KINDS {
+        wanted.insert((Origin::EdgeOwner(kind), REFUSED, causes::IMAGE), 1);
+        wanted.insert((Origin::EdgeOwner(kind), DONE, 0), 1);
+    }
     wanted.insert((Origin::Damaged, REFUSED, causes::IMAGE), 14);
     wanted.insert((Origin::Copying, REFUSED, causes::ROOM), 8);
     wanted.insert((Origin::Crowded, REFUSED, causes::ROOM), 1);
@@ -102,9 +144,9 @@ fn answer_at(tag: u8, subject: Subject) -> (u32, u32) {
     }
 }
 
-/// The image after some turns of a small recipe.
-fn of_a_run(draw: &mut Draw) -> Option<(Origin, Vec<u8>)> {
-    let file = recipes::small(draw).write();
+/// The image after some turns of such a recipe.
+fn of_a_run(draw: &mut Draw, recipe: fn(&mut Draw) -> Recipe) -> Option<(Origin, Vec<u8>)> {
+    let file = recipe(draw).write();
     let mut out = vec![FILLER; limits::MAX_IMAGE];
     let loaded = Model.load(&file, &mut out)?;
     let mut image = out[..loaded.length as usize].to_vec();
@@ -130,6 +172,21 @@ fn of_a_configuration(draw: &mut Draw) -> Vec<u8> {
     write_image(&configuration_of(draw, names, fuel))
 }
 
+/// A drawn image with an owner about the limit, of a name of some kind.
+fn with_edge_owner(draw: &mut Draw) -> Option<(Origin, Vec<u8>)> {
+    let mut image = of_a_configuration(draw);
+    let kind = draw.pick(&OWNED_KINDS);
+    let names = names_of_kind(&image, kind);
+    let name = (!names.is_empty()).then(|| draw.pick(&names) as usize)?;
+    let head = limits::FIRST_HEAD + limits::HEAD_LENGTH * name;
+    image[head + 1] = draw.pick(&images::EDGE_OWNERS);
+    Some((Origin::EdgeOwner(kind), image))
+}
+
+fn some_bay(draw: &mut Draw) -> u8 {
+    draw.below(limits::MAX_BAYS) as u8
+}
+
 /// (λx. x (x .. unit)) v: as small as it is, the outcome of rule 1 is just above the limit of nodes.
 fn copying(draw: &mut Draw) -> Vec<u8> {
     let uses = draw.between(40, 90);
@@ -143,7 +200,7 @@ fn copying(draw: &mut Draw) -> Vec<u8> {
     term.push(Node::Unit);
     let thread = Component::Thread(Rc::new(Expression::of_nodes(&term)));
     let components = vec![Component::UsedHandle, thread];
-    write_image(&Configuration { components })
+    write_image(&Configuration::of_bay(some_bay(draw), components))
 }
 
 /// case (v, w) of (x, y) ⇒ (x, (y, .. unit)): the same by rule 8 or 9.
@@ -167,7 +224,7 @@ fn copying_case(draw: &mut Draw) -> Vec<u8> {
     term.push(Node::Unit);
     let thread = Component::Thread(Rc::new(Expression::of_nodes(&term)));
     let components = vec![Component::UsedHandle, thread];
-    write_image(&Configuration { components })
+    write_image(&Configuration::of_bay(some_bay(draw), components))
 }
 
 /// One name less than there may be, and a thread that asks for a handle and its future. Such an image
@@ -182,7 +239,7 @@ fn crowded(draw: &mut Draw) -> Vec<u8> {
     let mut components = vec![Component::UsedHandle; names];
     let thread = Component::Thread(Rc::new(Expression::of_nodes(&term)));
     components[draw.below(names)] = thread;
-    write_image(&Configuration { components })
+    write_image(&Configuration::of_bay(some_bay(draw), components))
 }
 
 fn drawn(draw: &mut Draw) -> Option<Call> {
@@ -190,8 +247,10 @@ fn drawn(draw: &mut Draw) -> Option<Call> {
         0 if draw.one_in(2) => (Origin::CopyingCase, copying_case(draw)),
         0 => (Origin::Copying, copying(draw)),
         1 => (Origin::Crowded, crowded(draw)),
-        2..=20 => of_a_run(draw)?,
-        21..=30 => {
+        2..=15 => of_a_run(draw, recipes::small)?,
+        16..=20 => of_a_run(draw, bays::small)?,
+        21 => with_edge_owner(draw)?,
+        22..=30 => {
             let mut image = of_a_configuration(draw);
             images::damage(&mut image, draw);
             (Origin::Damaged, image)
@@ -200,7 +259,7 @@ fn drawn(draw: &mut Draw) -> Option<Call> {
     };
     let thread = images::thread_number(draw, &image);
     let room = images::out_length(draw);
-    let origin = at_case(origin, &image, thread, room);
+    let origin = told_apart(origin, &image, thread, room);
     let at_a_limit = matches!(
         origin,
         Origin::Copying | Origin::CopyingCase | Origin::Crowded
@@ -209,19 +268,40 @@ fn drawn(draw: &mut Draw) -> Option<Call> {
     fits.then_some((origin, image, thread, room))
 }
 
-/// The origin told apart where the thread is at a case, and the buffer is long enough to tell.
-fn at_case(origin: Origin, image: &[u8], thread: u64, room: usize) -> Origin {
-    if room < limits::MAX_IMAGE {
-        return origin;
+/// The origin told apart by what the thread is at, if the buffer is long enough to tell.
+fn told_apart(origin: Origin, image: &[u8], thread: u64, room: usize) -> Origin {
+    match read_image(image) {
+        Some(now) if room >= limits::MAX_IMAGE => {
+            between_bays(at_case(origin, &now, thread), &now, thread)
+        }
+        _ => origin,
     }
-    let found = read_image(image).and_then(|now| {
-        let case = subjects::case_at(&now, thread)?;
-        let tag = Node::Case(case.shape).tag();
-        Some((tag, subjects::subject_of(&now, &case)))
-    });
-    match (origin, found) {
-        (Origin::Run, Some(_)) => Origin::RunAtCase,
-        (Origin::Drawn, Some((tag, subject))) => Origin::AtCase(tag, subject),
+}
+
+/// At a case.
+fn at_case(origin: Origin, now: &Configuration, thread: u64) -> Origin {
+    let case = match subjects::case_at(now, thread) {
+        Some(case) => case,
+        None => return origin,
+    };
+    match origin {
+        Origin::Run => Origin::RunAtCase,
+        Origin::Drawn => {
+            let tag = Node::Case(case.shape).tag();
+            Origin::AtCase(tag, subjects::subject_of(now, &case))
+        }
+        _ => origin,
+    }
+}
+
+/// At what another bay owns, or itself of another bay than 0.
+fn between_bays(origin: Origin, now: &Configuration, thread: u64) -> Origin {
+    let owner = usize::try_from(thread)
+        .ok()
+        .and_then(|thread| now.owners.get(thread));
+    match (origin, across(now, thread)) {
+        (Origin::Drawn, Some(what)) => Origin::Across(what),
+        (Origin::Run, _) if owner.map_or(false, |owner| *owner > 0) => Origin::Elsewhere,
         _ => origin,
     }
 }

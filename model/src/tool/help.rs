@@ -66,14 +66,14 @@ one without as edition 1 or 2, the least that has all its types and terms:
 const RUN: &str = "\
 recipe run FILE [--turns N] [--seed S | --order 1,2,..] [--svg OUT [--force]] [--progress]
 
-Checks, loads and steps the recipe, and prints for each turn the thread, its answer and the
-settings, up to 1000 in tenths of a percent; at the end why it stopped, how the threads stand, and
-the vents.
+Checks, loads and steps the recipe, and prints for each turn the thread, the bay that it belongs to,
+its answer and the settings, up to 1000 in tenths of a percent; at the end why it stopped, how the
+threads of each bay stand and for whose names they wait, and the vents.
 
   --turns N       at most N turns (1000)
   --seed S        threads by chance, the same for the same S
   --order 1,2,1   these threads, over and over
-  --svg OUT       draws the vents and the threads over the turns into the file OUT
+  --svg OUT       draws the vents and the threads of each bay over the turns into the file OUT
   --force         writes over OUT
   --progress      tells on standard error how far it is; on a terminal it does so anyway
 

@@ -18,6 +18,7 @@ use crate::tool::svg;
 use history::History;
 use image_view::ImageView;
 use order::Order;
+use report::Columns;
 use runner::{Ending, Runner};
 use std::ffi::OsString;
 use std::io::Write;
@@ -102,16 +103,18 @@ fn run(
     let mut runner = Runner::new(&Judge, image);
     let mut history = History::start(bays, &runner.image);
     let start = ImageView(&runner.image).vents(bays);
+    let columns = Columns::of(&order);
     writeln!(out, "{}", report::SIGNS)?;
-    write!(out, "{}", report::heading(bays))?;
-    write!(out, "{}", report::line(0, None, "loaded", &start))?;
+    write!(out, "{}", columns.heading(bays))?;
+    write!(out, "{}", columns.loaded(&start))?;
     let (runs, most) = (&mut runner, (turns, &mut order));
     let ending = take_turns(out, runs, &mut history, most, progress)?;
     history.finish();
     let threads = ImageView(&runner.image).threads();
     let threads: Vec<_> = threads.iter().map(|t| (*t, runner.answer(*t))).collect();
-    let last = ImageView(&runner.image).vents(bays);
-    write!(out, "\n{}", report::ending(history.turns, ending, &threads))?;
+    let view = ImageView(&runner.image);
+    write!(out, "\n{}", report::ending(history.turns, ending))?;
+    write!(out, "{}", report::standings(&threads, view))?;
     if let (true, Ok(turns)) = (order.passes_over(), u16::try_from(turns)) {
         let steps = (ending, history.turns, &runner.image[..]);
         write!(
@@ -120,7 +123,7 @@ fn run(
             report::one_call(&one_call(recipe, turns, steps)?)
         )?;
     }
-    write!(out, "\n{}", report::vents(&last))?;
+    write!(out, "\n{}", report::vents(view, bays))?;
     Ok(history)
 }
 
@@ -132,7 +135,7 @@ fn take_turns<I: Implementation>(
     (turns, order): (u64, &mut Order),
     mut progress: Progress,
 ) -> Result<Ending, Problem> {
-    let bays = history.vents.len();
+    let (bays, columns) = (history.vents.len(), Columns::of(order));
     for number in 1..=turns {
         let turn = runner.turn(order);
         history.note(&turn, &runner.image);
@@ -143,9 +146,12 @@ fn take_turns<I: Implementation>(
                 return Ok(ending);
             }
         };
-        let vents = ImageView(&runner.image).vents(bays);
-        let line = report::line(number, Some(thread), &answer.to_string(), &vents);
-        write!(out, "{line}")?;
+        let view = ImageView(&runner.image);
+        write!(
+            out,
+            "{}",
+            columns.turn((number, thread, answer), view, bays)
+        )?;
         progress.say(|| format!("turn {number} of {turns}"));
     }
     progress.end(&format!("{turns} turns"));

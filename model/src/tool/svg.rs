@@ -14,11 +14,11 @@ const LEFT: f64 = 120.0;
 /// The width of both drawings.
 const WIDTH: f64 = 760.0;
 /// The space to the right, for the key of the bays and the ends of the threads.
-const RIGHT: f64 = 220.0;
+const RIGHT: f64 = 270.0;
 const TOP: f64 = 50.0;
 const GAP: f64 = 80.0;
 /// The space below, for the axis and the keys of the threads.
-const BOTTOM: f64 = 110.0;
+const BOTTOM: f64 = 130.0;
 
 /// The picture of a run, as SVG.
 pub fn picture(title: &str, history: &History) -> String {

@@ -146,9 +146,9 @@ pub fn image_after(image: &[u8], thread: u64) -> (u8, Vec<u8>) {
     }
 }
 
+/// The image of these components, all of bay 0.
 pub fn image_of(components: &[Component]) -> Vec<u8> {
-    let components = components.to_vec();
-    write_image(&Configuration { components })
+    write_image(&Configuration::of_bay(0, components.to_vec()))
 }
 
 pub fn expression(nodes: &[Node]) -> Rc<Expression> {

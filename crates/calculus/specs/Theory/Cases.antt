@@ -72,7 +72,7 @@ call x = record { thread = x; buffer = max-image-length }
 
 -- a rule's number, or a cause's; 0 for done and waiting
 abbrev pub answer-number : Reply → ℕ
-answer-number (moved r C′) = r
+answer-number (moved r I′) = r
 answer-number (waits y) = 0
 answer-number finished = 0
 answer-number (refuses k) = k
@@ -102,7 +102,7 @@ computed r = record {
   type-numbers = if-accepted (verdict (r .table) (r .terms)) (map (λ e. type-number (r .table) [] e) (r .terms));
   threads = r .threads;
   rules = map answered (config-steps (type-at (r .table)) (start (r .table) (zeros (r .terms)) (r .terms)) (map call (r .threads)));
-  last = if-accepted (verdict (r .table) (r .terms)) (end (type-at (r .table)) (start (r .table) (zeros (r .terms)) (r .terms)) (map call (r .threads)) .config);
+  last = if-accepted (verdict (r .table) (r .terms)) (end (type-at (r .table)) (start (r .table) (zeros (r .terms)) (r .terms)) (map call (r .threads)) .owned .config);
 }
 
 abbrev pub refused-row : Table → Exp → ℕ → Row
@@ -137,7 +137,7 @@ unfolding computed end verdict every scoped scoped-const annotated annotated-con
 cases = refl
 
 -- case A's image has 18 bytes, as document 01 shows it
-case-A-length : image-length (start T3 (0 ∷ []) (const unit ∷ []) .config) ≡ 18
+case-A-length : image-length (start T3 (0 ∷ []) (const unit ∷ []) .owned .config) ≡ 18
 unfolding loaded sum-all sum-in size const-size
 case-A-length = refl
 

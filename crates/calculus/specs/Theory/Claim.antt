@@ -5,13 +5,13 @@ use mathlib.Core.List.{List, [], _∷_}
 use Prim.Native.Nat.{suc, ℕ}
 use lib.ListN.{length}
 use Rattle.calculus.specs.Types.{many, LinType, multiplicity}
-use Rattle.calculus.specs.Syntax.{Exp, at, EachAll}
+use Rattle.calculus.specs.Syntax.{Exp, at}
 use Rattle.calculus.specs.Typing.{NameTypes, Derivation}
-use Rattle.calculus.specs.Image.{ImageRule, Writable}
 use Rattle.calculus.specs.Theory.ConfigRuns.{ConfigCall, state-after, ConfigStep, config-steps, ConfigDemand}
 use Rattle.calculus.specs.Table.{Table, TableRule, type-at}
 use Rattle.calculus.specs.Verdict.{type-number, verdict}
 use Rattle.calculus.specs.Recipe.{with-type, bay-types, start, Admitted}
+use Rattle.calculus.specs.Theory.Images.{Kept}
 use Rattle.calculus.specs.Theory.Recipes.{Bays, no-bay, bay, BaysTyped, recipe-loaded, recipe-images, recipe-demand}
 use Rattle.calculus.specs.Theory.Verdict.{accepted-iff, verdict-iff}
 
@@ -34,12 +34,11 @@ module _ {T : Table} {ns : List ℕ} {es : List Exp} (a : Admitted T ns es) (run
   pub demand : ConfigDemand (type-at T) (start T ns es) run
   demand = recipe-demand (bays-typed (a .table) es (a .accepted)) (a .starts) (a .written) (a .bays) (a .size) run
 
-  -- every image, that loaded and those that steps are handed and leave, breaks no rule and no limit, and the node forms can write its indices, type
-  -- numbers and nums
-  pub image-loaded : ImageRule (start T ns es .config) × EachAll Writable (start T ns es .config)
+  -- every image, that loaded and those that steps are handed and leave, breaks no rule and no limit, the node forms can write its indices, type
+  -- numbers and nums, and its owners are bays of the recipe
+  pub image-loaded : Kept (length es) (start T ns es .owned)
   image-loaded = recipe-loaded (bays-typed (a .table) es (a .accepted)) (a .starts) (a .written) (a .bays) (a .size) run
 
   pub images : (i : ℕ) (n : ConfigStep) → at (config-steps (type-at T) (start T ns es) run) i ≡ some n →
-      (ImageRule (n .before .config) × EachAll Writable (n .before .config)) ×
-      (ImageRule (state-after (type-at T) (n .before) (n .call) .config) × EachAll Writable (state-after (type-at T) (n .before) (n .call) .config))
+      Kept (length es) (n .before .owned) × Kept (length es) (state-after (type-at T) (n .before) (n .call) .owned)
   images = recipe-images (bays-typed (a .table) es (a .accepted)) (a .starts) (a .written) (a .bays) (a .size) run

@@ -7,13 +7,13 @@ use mathlib.Core.List.{List, [], _++_, _∷_}
 use Prim.Native.Nat.{_<_, ℕ}
 use lib.Dec.{ltb}
 use Rattle.calculus.specs.Syntax.{Exp, name, thread-of, open-for, Config, at}
+use Rattle.calculus.specs.Owners.{Owned, grown}
 use Rattle.calculus.specs.Typing.{TypeNumbers}
-use Rattle.calculus.specs.Step.{step-of}
 use Rattle.calculus.specs.NewTypes.{function-at, new-types}
 use Rattle.calculus.specs.Limits.{max-image-length}
 use Rattle.calculus.specs.Image.{image-test, within-limits}
 use Rattle.calculus.specs.State.{State, ValuesTyped}
-use Rattle.calculus.specs.Reply.{Reply, moved, waits, finished, refuses, reply-of}
+use Rattle.calculus.specs.Reply.{Reply, moved, waits, finished, refuses, reply-to}
 
 -- document 01, "Each step has any thread number and any out buffer, of any length"
 pub record ConfigCall : Type 0 where
@@ -21,21 +21,24 @@ pub record ConfigCall : Type 0 where
   pub buffer : ℕ
 
 -- document 01, "The lowest number that fits wins": 12, 13, then the others
-unfoldable pub config-reply : Config → ConfigCall → Reply
-config-reply C a = cond (ltb (a .buffer) max-image-length) (refuses 12) (cond (image-test C) (reply-of within-limits (step-of C (a .thread))) (refuses 13))
+unfoldable pub config-reply : Owned → ConfigCall → Reply
+config-reply I a = cond (ltb (a .buffer) max-image-length) (refuses 12) (cond (image-test (I .config)) (reply-to within-limits I (a .thread)) (refuses 13))
 
 -- document 01, "the new image if that answered a rule, else the same image again". New names have their types.
+abbrev pub state-with : TypeNumbers → State → ℕ → Owned → State
+state-with τ s x I′ = record { names = s .names ++ new-types τ (s .owned .config) x; owned = I′ }
+
 abbrev pub state-grown : TypeNumbers → State → ℕ → Config → State
-state-grown τ s x C′ = record { names = s .names ++ new-types τ (s .config) x; config = C′ }
+state-grown τ s x C′ = state-with τ s x (grown (s .owned) x C′)
 
 unfoldable pub state-left : TypeNumbers → State → ℕ → Reply → State
-state-left τ s x (moved r C′) = state-grown τ s x C′
+state-left τ s x (moved r I′) = state-with τ s x I′
 state-left τ s x (waits y) = s
 state-left τ s x finished = s
 state-left τ s x (refuses k) = s
 
 abbrev pub state-after : TypeNumbers → State → ConfigCall → State
-state-after τ s a = state-left τ s (a .thread) (config-reply (s .config) a)
+state-after τ s a = state-left τ s (a .thread) (config-reply (s .owned) a)
 
 -- document 01, "Each later one is handed what the step before it left": the steps of a run, each with the state handed to it
 pub record ConfigStep : Type 0 where
@@ -48,23 +51,23 @@ config-steps τ s (a ∷ rest) = record { before = s; call = a } ∷ config-step
 
 -- what a step of a run answers
 abbrev pub config-replied : ConfigStep → Reply
-config-replied n = config-reply (n .before .config) (n .call)
+config-replied n = config-reply (n .before .owned) (n .call)
 
 -- document 01, "A step that answers rule 5 applies the handle whose name is the function at its place"
 abbrev pub ConfigApplies : ConfigStep → ℕ → Type 0
-ConfigApplies n z = (C′ : Config) × (config-replied n ≡ moved 5 C′) × (function-at (n .before .config) (n .call .thread) ≡ some (name z))
+ConfigApplies n z = (I′ : Owned) × (config-replied n ≡ moved 5 I′) × (function-at (n .before .owned .config) (n .call .thread) ≡ some (name z))
 
 -- document 01, "and binds the future that is this handle's companion in the image handed in"
 abbrev pub ConfigBinds : ConfigStep → ℕ → Type 0
-ConfigBinds n y = (z : ℕ) × ConfigApplies n z × (at (n .before .config) z ≡ some (open-for y))
+ConfigBinds n y = (z : ℕ) × ConfigApplies n z × (at (n .before .owned .config) z ≡ some (open-for y))
 
 -- document 01, "its number is .. [a] thread of the image handed in"
 abbrev pub ConfigIsThread : ConfigStep → Type 0
-ConfigIsThread n = (e : Exp) × (at (n .before .config) (n .call .thread) ≡ some (thread-of e))
+ConfigIsThread n = (e : Exp) × (at (n .before .owned .config) (n .call .thread) ≡ some (thread-of e))
 
 -- document 01, "a rule, done, waiting or 15"
 abbrev pub ReplyGoes : Reply → Type 0
-ReplyGoes (moved r C′) = Unit {0}
+ReplyGoes (moved r I′) = Unit {0}
 ReplyGoes (waits y) = Unit {0}
 ReplyGoes finished = Unit {0}
 ReplyGoes (refuses k) = k ≡ 15

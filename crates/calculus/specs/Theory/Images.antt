@@ -3,13 +3,15 @@ use mathlib.Core.Path.{_≡_, refl}
 use mathlib.Core.Logic.{_⊎_, inl, inr}
 use mathlib.Core.Option.{some}
 use mathlib.Core.List.{List, [], _∷_}
-use Prim.Native.Nat.{_*_, _≤_, ℕ}
+use Prim.Native.Nat.{_*_, _<_, _≤_, ℕ}
 use native.Mathlib.Omega.{arith}
+use lib.ListN.{length}
 use Rattle.calculus.specs.Types.{once, LinType, multiplicity, list-type}
 use Rattle.calculus.specs.Syntax.{Const, unit, num, op, Exp, var, name, const, lam, app, Component, thread-of, holds, open-for, used, awaited, Config, at, EachAll, In, sum-in, sum-all, both, case-of, Value, is-name, is-const, is-exch, is-both}
 use Rattle.calculus.specs.Typing.{TypeNumbers, of-op, fig10-list, split-nil, Derivation, d-const, d-name, d-app, d-both}
 use Rattle.calculus.specs.Reduction.{Rule, Reduces}
 use Rattle.calculus.specs.Names.{OnceName}
+use Rattle.calculus.specs.Owners.{Owned, OwnersRule}
 use Rattle.calculus.specs.State.{State}
 use Rattle.calculus.specs.Theory.ConfigRuns.{ConfigCall, state-grown, state-after, ConfigStep, config-steps}
 use Rattle.calculus.specs.Limits.{max-image-length}
@@ -18,6 +20,7 @@ use Rattle.calculus.specs.Theory.Tests.{clash}
 use Rattle.calculus.specs.Theory.Lists.{at-bound, at-below}
 use Rattle.calculus.specs.Theory.Expressions.{derivation-closed}
 use Rattle.calculus.specs.Theory.Sound.{Fits, Sound, absent-of}
+use Rattle.calculus.specs.Theory.Owners.{more-bays, owners-kept}
 use Rattle.calculus.specs.Theory.Replies.{after-keeps, run-keeps}
 use Rattle.calculus.specs.Theory.Runs.{SoundState}
 use Rattle.calculus.specs.Theory.Each.{each-step}
@@ -102,19 +105,32 @@ sum-bound (c ∷ C) = omega (arith, sum-in-bound c, sum-bound C)
 pub image-fits : (C : Config) → WithinLimits C → image-length C ≤ max-image-length
 image-fits C w = omega (arith, sum-bound C, w .few-names, w .few-nodes)
 
+-- an image of a house of b bays that keeps its rules and can be written
+pub record Kept (b : ℕ) (I : Owned) : Type 0 where
+  pub keeps : ImageRule (I .config)
+  pub writable : EachAll Writable (I .config)
+  pub owns : OwnersRule b I
+
+pub kept-more : {b d : ℕ} {I : Owned} → b ≤ d → Kept b I → Kept d I
+kept-more l k = record { keeps = k .keeps; writable = k .writable; owns = more-bays l (k .owns) }
+
 -- what is kept all through a run
-abbrev pub Good : TypeNumbers → State → Type 0
-Good τ s = SoundState τ s × EachAll Writable (s .config) × WithinLimits (s .config)
+abbrev pub Good : ℕ → TypeNumbers → State → Type 0
+Good b τ s = SoundState τ s × EachAll Writable (s .owned .config) × WithinLimits (s .owned .config) × OwnersRule b (s .owned)
 
-pub good-image : {τ : TypeNumbers} {s : State} → Good τ s → ImageRule (s .config) × EachAll Writable (s .config)
-good-image (d, a, w) = (sound-image d w, a)
+pub good-image : {b : ℕ} {τ : TypeNumbers} {s : State} → Good b τ s → Kept b (s .owned)
+good-image (d, a, w, o) = record { keeps = sound-image d w; writable = a; owns = o }
 
-good-kept : (τ : TypeNumbers) (s : State) → Good τ s → (x : ℕ) (r : Rule) (C′ : Config) → Reduces (s .config) x r C′ → WithinLimits C′ → Good τ (state-grown τ s x C′)
-good-kept τ s g x r C′ d w = (preservation (g .0) d, each-step Writable tt (g .1) d, w)
+-- the future of an open handle is a name
+futures-there : {τ : TypeNumbers} {S : List LinType} {C : Config} → Sound τ S C → WithinLimits C → (z y : ℕ) → at C z ≡ some (open-for y) → y < length C
+futures-there {C = C} d w z y h = at-bound C y (sound-image d w .companions z y h)
+
+good-kept : (b : ℕ) (τ : TypeNumbers) (s : State) → Good b τ s → (x : ℕ) (r : Rule) (C′ : Config) → Reduces (s .owned .config) x r C′ → WithinLimits C′ → Good b τ (state-grown τ s x C′)
+good-kept b τ s (sound, each, within, owns) x r C′ d w = (preservation sound d, each-step Writable tt each d, w, owners-kept owns (futures-there sound within) d)
 
 -- every step of a run is handed an image that keeps its rules, which can be written, and leaves one
-pub run-images : (τ : TypeNumbers) (s : State) → Good τ s → (run : List ConfigCall) (i : ℕ) (n : ConfigStep) → at (config-steps τ s run) i ≡ some n →
-    (ImageRule (n .before .config) × EachAll Writable (n .before .config)) × (ImageRule (state-after τ (n .before) (n .call) .config) × EachAll Writable (state-after τ (n .before) (n .call) .config))
-run-images τ s g run i n h =
-    let b = run-keeps τ (Good τ) (good-kept τ) s g run i n h in
-    (good-image b, good-image (after-keeps τ (Good τ) (good-kept τ) (n .before) b (n .call)))
+pub run-images : (b : ℕ) (τ : TypeNumbers) (s : State) → Good b τ s → (run : List ConfigCall) (i : ℕ) (n : ConfigStep) → at (config-steps τ s run) i ≡ some n →
+    Kept b (n .before .owned) × Kept b (state-after τ (n .before) (n .call) .owned)
+run-images b τ s g run i n h =
+    let p = run-keeps τ (Good b τ) (good-kept b τ) s g run i n h in
+    (good-image p, good-image (after-keeps τ (Good b τ) (good-kept b τ) (n .before) p (n .call)))

@@ -11,10 +11,11 @@ use Rattle.calculus.specs.Types.{many, LinType, num-type, ref, multiplic
 use Rattle.calculus.specs.Syntax.{num, Exp, is-const, Component, thread-of, holds, open-for, used, at, Allowed, Each, each-const, EachAll, sum-in, sum-all}
 use Rattle.calculus.specs.Typing.{TypeNumbers, NameTypes, of-num, no-once-nil, Derivation, d-const}
 use Rattle.calculus.specs.Names.{OnceName}
+use Rattle.calculus.specs.Owners.{OwnersRule}
 use Rattle.calculus.specs.Theory.ConfigRuns.{ConfigCall, state-after, ConfigStep, config-steps, ConfigDemand}
 use Rattle.calculus.specs.Recipe.{setting-types, setting-with, loaded, Starts}
 use Rattle.calculus.specs.Limits.{max-bays, max-recipe-nodes}
-use Rattle.calculus.specs.Image.{nodes, nodes-all, WithinLimits, ImageRule, Writable}
+use Rattle.calculus.specs.Image.{nodes, nodes-all, WithinLimits, Writable}
 use Rattle.calculus.specs.Theory.Tests.{clash}
 use Rattle.calculus.specs.Theory.Lists.{append-below, append-right, append-cases, at-bound, replicate-at}
 use Rattle.calculus.specs.Theory.Expressions.{more-names}
@@ -22,7 +23,8 @@ use Rattle.calculus.specs.Theory.Configurations.{types-more, sum-append}
 use Rattle.calculus.specs.Theory.Sound.{Fits}
 use Rattle.calculus.specs.Theory.Runs.{SoundState, run-demand}
 use Rattle.calculus.specs.Theory.Each.{each-append}
-use Rattle.calculus.specs.Theory.Images.{Good, good-image, run-images}
+use Rattle.calculus.specs.Theory.Owners.{first-owners-rule}
+use Rattle.calculus.specs.Theory.Images.{Good, Kept, good-image, run-images}
 
 -- the terms es have the types αs, each of multiplicity many, names being typed by Σ
 pub data Bays (τ : TypeNumbers) (Σ : NameTypes) : List Exp → List LinType → Type 0 where
@@ -60,7 +62,7 @@ setting-at (n ∷ ns) zero h = (n, cc, refl)
 setting-at (n ∷ ns) (suc k) h = setting-at ns k h
 
 start-each : (Q : Allowed) (ns : List ℕ) → ((i n : ℕ) → at ns i ≡ some n → Q .constant (num n)) → (es : List Exp) (αs : List LinType) → ((i : ℕ) (e : Exp) → at es i ≡ some e → Each Q e) →
-    EachAll Q (loaded ns es αs .config)
+    EachAll Q (loaded ns es αs .owned .config)
 unfolding loaded
 start-each Q ns nums es αs f = each-append Q (map setting-with ns) (map thread-of es)
     (λ k c h. let (n, p, q) = setting-at ns k h in rw p (each-const (nums k n q))) (each-at Q es f)
@@ -72,7 +74,7 @@ nodes-settings [] = refl
 nodes-settings (n ∷ ns) = omega (arith, nodes-settings ns)
 
 start-within : (ns : List ℕ) (es : List Exp) (αs : List LinType) → length ns ≡ length es → length es ≤ max-bays → nodes-all (map thread-of es) ≤ max-recipe-nodes →
-    WithinLimits (loaded ns es αs .config)
+    WithinLimits (loaded ns es αs .owned .config)
 unfolding loaded
 start-within ns es αs m p q = record {
   few-names = rw (length-append (map setting-with ns) (map thread-of es), length-map, length-map) (omega arith);
@@ -94,7 +96,7 @@ module _ {τ : TypeNumbers} {ns : List ℕ} {es : List Exp} {αs : List LinType}
         clash (cc)
   ]
 
-  start-at : (k : ℕ) (c : Component) → at (loaded ns es αs .config) k ≡ some c →
+  start-at : (k : ℕ) (c : Component) → at (loaded ns es αs .owned .config) k ≡ some c →
       ((k < length es) × (n : ℕ) × (c ≡ setting-with n)) ⊎
       ((i : ℕ) × (e : Exp) × (α : LinType) × (c ≡ thread-of e) × (k ≡ length es + i) × (at αs i ≡ some α) × (multiplicity α ≡ many) × Derivation τ (setting-types (length es)) [] e α)
   unfolding loaded
@@ -104,7 +106,7 @@ module _ {τ : TypeNumbers} {ns : List ℕ} {es : List Exp} {αs : List LinType}
         inr (q .0, r .0, r .1, r .2, (q .1 ∙ rw (length-map, starts .one-each)), r .3, r .4, r .5)
   ]
 
-  start-fits : (k : ℕ) (c : Component) → at (loaded ns es αs .config) k ≡ some c → Fits τ (setting-types (length es) ++ αs) (loaded ns es αs .config) k c
+  start-fits : (k : ℕ) (c : Component) → at (loaded ns es αs .owned .config) k ≡ some c → Fits τ (setting-types (length es) ++ αs) (loaded ns es αs .owned .config) k c
   start-fits k c h = elim (start-at k c h) [
     | inl q ↦ rw (q .2) (
       num-type,
@@ -121,16 +123,16 @@ module _ {τ : TypeNumbers} {ns : List ℕ} {es : List Exp} {αs : List LinType}
     )
   ]
 
-  start-plain : (k : ℕ) (c : Component) → at (loaded ns es αs .config) k ≡ some c → ((v : Exp) × (c ≡ holds v)) ⊎ ((e : Exp) × (c ≡ thread-of e))
+  start-plain : (k : ℕ) (c : Component) → at (loaded ns es αs .owned .config) k ≡ some c → ((v : Exp) × (c ≡ holds v)) ⊎ ((e : Exp) × (c ≡ thread-of e))
   start-plain k c h = elim (start-at k c h) [ inl q ↦ inl (_, q .2) | inr q ↦ inr (q .1, q .3) ]
 
-  no-handle : (z y : ℕ) → ¬ (at (loaded ns es αs .config) z ≡ some (open-for y))
+  no-handle : (z y : ℕ) → ¬ (at (loaded ns es αs .owned .config) z ≡ some (open-for y))
   no-handle z y h = elim (start-plain z (open-for y) h) [
     | inl q ↦ let e = q .1 in clash (cc)
     | inr q ↦ let e = q .1 in clash (cc)
   ]
 
-  none-used : (z : ℕ) → ¬ (at (loaded ns es αs .config) z ≡ some used)
+  none-used : (z : ℕ) → ¬ (at (loaded ns es αs .owned .config) z ≡ some used)
   none-used z h = elim (start-plain z used h) [
     | inl q ↦ let e = q .1 in clash (cc)
     | inr q ↦ let e = q .1 in clash (cc)
@@ -147,19 +149,23 @@ module _ {τ : TypeNumbers} {ns : List ℕ} {es : List Exp} {αs : List LinType}
     gone = λ k h. absurd (none-used k h);
   }
 
+  pub start-owners : OwnersRule (length es) (loaded ns es αs .owned)
+  unfolding loaded
+  start-owners = first-owners-rule (length es) (loaded ns es αs .owned .config) (simp (length-append, length-map) (rw (starts .one-each) refl)) no-handle
+
   -- document 01's third demand, of terms that can be written and are not too many; and every step is handed an image that breaks no rule and that can
   -- be written
   module _ (written : (i : ℕ) (e : Exp) → at es i ≡ some e → Each Writable e) (bays : length es ≤ max-bays) (size : nodes-all (map thread-of es) ≤ max-recipe-nodes)
       (run : List ConfigCall) where
-    start-good : Good τ (loaded ns es αs)
-    start-good = (start-sound, start-each Writable ns (starts .two-byte) es αs written, start-within ns es αs (starts .one-each) bays size)
+    start-good : Good (length es) τ (loaded ns es αs)
+    start-good = (start-sound, start-each Writable ns (starts .two-byte) es αs written, start-within ns es αs (starts .one-each) bays size, start-owners)
 
-    pub recipe-loaded : ImageRule (loaded ns es αs .config) × EachAll Writable (loaded ns es αs .config)
+    pub recipe-loaded : Kept (length es) (loaded ns es αs .owned)
     recipe-loaded = good-image start-good
 
     pub recipe-images : (i : ℕ) (n : ConfigStep) → at (config-steps τ (loaded ns es αs) run) i ≡ some n →
-        (ImageRule (n .before .config) × EachAll Writable (n .before .config)) × (ImageRule (state-after τ (n .before) (n .call) .config) × EachAll Writable (state-after τ (n .before) (n .call) .config))
-    recipe-images = run-images τ (loaded ns es αs) start-good run
+        Kept (length es) (n .before .owned) × Kept (length es) (state-after τ (n .before) (n .call) .owned)
+    recipe-images = run-images (length es) τ (loaded ns es αs) start-good run
 
     pub recipe-demand : ConfigDemand τ (loaded ns es αs) run
-    recipe-demand = run-demand (loaded ns es αs) start-sound run (λ i n h. recipe-images i n h .0 .0)
+    recipe-demand = run-demand (loaded ns es αs) start-sound run (λ i n h. recipe-images i n h .0 .keeps)

@@ -27,7 +27,7 @@ use Rattle.calculus.specs.Theory.Progress.{Proper, progress}
 use Rattle.calculus.specs.Theory.Replies.{moved-means, after-keeps, run-keeps, only-causes, twelve-iff, fourteen-iff, goes}
 
 abbrev pub SoundState : TypeNumbers → State → Type 0
-SoundState τ s = Sound τ (s .names) (s .config)
+SoundState τ s = Sound τ (s .names) (s .owned .config)
 
 -- the names of a sound state have values of their types
 once-names-once : {τ : TypeNumbers} {S : List LinType} {C : Config} → Sound τ S C → (x : ℕ) (c : Component) (v : Exp) → at C x ≡ some c →
@@ -122,17 +122,17 @@ later {C = C} {x = x} s (case-both F s′ t v₁ v₂ e w₁ w₂ h) = later-thr
 -- every state of a run is sound, and later than the first
 module _ {τ : TypeNumbers} (s : State) (d : SoundState τ s) where
   SoundLater : State → Type 0
-  SoundLater u = SoundState τ u × Later (s .config) (u .config)
+  SoundLater u = SoundState τ u × Later (s .owned .config) (u .owned .config)
 
-  kept : (u : State) → SoundLater u → (x : ℕ) (r : Rule) (C′ : Config) → Reduces (u .config) x r C′ → WithinLimits C′ → SoundLater (state-grown τ u x C′)
+  kept : (u : State) → SoundLater u → (x : ℕ) (r : Rule) (C′ : Config) → Reduces (u .owned .config) x r C′ → WithinLimits C′ → SoundLater (state-grown τ u x C′)
   unfolding SoundLater
   kept u p x r C′ q w = (preservation (p .0) q, later-trans (p .1) (later (p .0) q))
 
-  after-sound-later : (a : ConfigCall) → SoundState τ (state-after τ s a) × Later (s .config) (state-after τ s a .config)
+  after-sound-later : (a : ConfigCall) → SoundState τ (state-after τ s a) × Later (s .owned .config) (state-after τ s a .owned .config)
   unfolding SoundLater
   after-sound-later a = after-keeps τ SoundLater kept s (d, later-same) a
 
-  sound-later : (run : List ConfigCall) (i : ℕ) (n : ConfigStep) → at (config-steps τ s run) i ≡ some n → SoundState τ (n .before) × Later (s .config) (n .before .config)
+  sound-later : (run : List ConfigCall) (i : ℕ) (n : ConfigStep) → at (config-steps τ s run) i ≡ some n → SoundState τ (n .before) × Later (s .owned .config) (n .before .owned .config)
   unfolding SoundLater
   sound-later run i n h = run-keeps τ SoundLater kept s (d, later-same) run i n h
 
@@ -144,13 +144,13 @@ after-sound s d a = after-sound-later s d a .0
 
 -- of two, the second is handed something later than the first leaves
 steps-later : (τ : TypeNumbers) (s : State) → SoundState τ s → (run : List ConfigCall) (i j : ℕ) (m n : ConfigStep) → i < j →
-    at (config-steps τ s run) i ≡ some m → at (config-steps τ s run) j ≡ some n → Later (state-after τ (m .before) (m .call) .config) (n .before .config)
+    at (config-steps τ s run) i ≡ some m → at (config-steps τ s run) j ≡ some n → Later (state-after τ (m .before) (m .call) .owned .config) (n .before .owned .config)
 unfolding config-steps
 steps-later τ s d [] i j m n l p q = absurd (clash (cc))
 steps-later τ s d (a ∷ run) i zero m n l p q = absurd (omega arith)
 steps-later τ s d (a ∷ run) zero (suc j) m n l p q =
     let e : record { before = s; call = a } ≡ m = cc in
-    subst (λ (b : ConfigStep). Later (state-after τ (b .before) (b .call) .config) (n .before .config)) e
+    subst (λ (b : ConfigStep). Later (state-after τ (b .before) (b .call) .owned .config) (n .before .owned .config)) e
     (sound-later (state-after τ s a) (after-sound s d a) run j n q .1)
 steps-later τ s d (a ∷ run) (suc i) (suc j) m n l p q = steps-later τ (state-after τ s a) (after-sound s d a) run i j m n (omega arith) p q
 
@@ -171,14 +171,14 @@ binding s (case-both F pair t v₁ v₂ e w₁ w₂ h) r = absurd (omega arith)
 binding s (case-both F list t v₁ v₂ e w₁ w₂ h) r = absurd (omega arith)
 
 applied-uses-up : (τ : TypeNumbers) (n : ConfigStep) → SoundState τ (n .before) → (z : ℕ) → ConfigApplies n z →
-    (y : ℕ) × (v : Exp) × (at (n .before .config) z ≡ some (open-for y)) ×
-    (at (state-after τ (n .before) (n .call) .config) z ≡ some used) × (at (state-after τ (n .before) (n .call) .config) y ≡ some (thread-of v))
+    (y : ℕ) × (v : Exp) × (at (n .before .owned .config) z ≡ some (open-for y)) ×
+    (at (state-after τ (n .before) (n .call) .owned .config) z ≡ some used) × (at (state-after τ (n .before) (n .call) .owned .config) y ≡ some (thread-of v))
 unfolding state-left
-applied-uses-up τ n d z (C′, e, f) =
-    let (r, k, q, w) = moved-means (n .before .config) (n .call) e in
+applied-uses-up τ n d z (I′, e, f) =
+    let (r, k, q, w, g) = moved-means (n .before .owned) (n .call) e in
     let b = binding d q k in
     let q : b .0 ≡ z = let f′ = b .3 in cc in
-    let c : state-after τ (n .before) (n .call) .config ≡ C′ = rw e in
+    let c : state-after τ (n .before) (n .call) .owned .config ≡ I′ .config = rw e in
     (b .1, b .2, rw q at (b .4), rw c (rw q at (b .5)), rw c (b .6))
 
 compare-at : (i j : ℕ) → (i ≡ j) ⊎ ((i < j) ⊎ (j < i))
@@ -205,11 +205,11 @@ module _ {τ : TypeNumbers} (s : State) (d : SoundState τ s) (run : List Config
       clash (cc)
 
   -- no step meets a used handle or a wrong kind, whatever the contents of cells
-  run-proper : (i : ℕ) (n : ConfigStep) → at (config-steps τ s run) i ≡ some n → Proper (step-of (n .before .config) (n .call .thread))
+  run-proper : (i : ℕ) (n : ConfigStep) → at (config-steps τ s run) i ≡ some n → Proper (step-of (n .before .owned .config) (n .call .thread))
   run-proper i n p = progress (step-sound-state τ s d run i n p) (n .call .thread)
 
   -- the claim about the whole list, where every step is handed an image that keeps its rules
-  pub run-demand : ((i : ℕ) (n : ConfigStep) → at (config-steps τ s run) i ≡ some n → ImageRule (n .before .config)) → ConfigDemand τ s run
+  pub run-demand : ((i : ℕ) (n : ConfigStep) → at (config-steps τ s run) i ≡ some n → ImageRule (n .before .owned .config)) → ConfigDemand τ s run
   run-demand kept = record {
     one-application = λ z i j m n p q am an. elim (compare-at i j) [
       | inl e ↦ e
@@ -222,13 +222,13 @@ module _ {τ : TypeNumbers} (s : State) (d : SoundState τ s) (run : List Config
       | inr (inr l) ↦ absurd (bound-then-not y j i n m q p l bn bm)
     ];
     no-13-16-17 = λ i n p. (
-      (λ e. none-of 13 (only-causes (n .before .config) (kept i n p) (n .call) (run-proper i n p) 13 e) (omega arith) (omega arith) (omega arith)),
-      (λ e. none-of 16 (only-causes (n .before .config) (kept i n p) (n .call) (run-proper i n p) 16 e) (omega arith) (omega arith) (omega arith)),
-      (λ e. none-of 17 (only-causes (n .before .config) (kept i n p) (n .call) (run-proper i n p) 17 e) (omega arith) (omega arith) (omega arith)),
+      (λ e. none-of 13 (only-causes (n .before .owned) (kept i n p) (n .call) (run-proper i n p) 13 e) (omega arith) (omega arith) (omega arith)),
+      (λ e. none-of 16 (only-causes (n .before .owned) (kept i n p) (n .call) (run-proper i n p) 16 e) (omega arith) (omega arith) (omega arith)),
+      (λ e. none-of 17 (only-causes (n .before .owned) (kept i n p) (n .call) (run-proper i n p) 17 e) (omega arith) (omega arith) (omega arith)),
     );
-    twelve = λ i n p. twelve-iff (n .before .config) (kept i n p) (n .call) (run-proper i n p);
-    fourteen = λ i n p. fourteen-iff (n .before .config) (kept i n p) (n .call) (run-proper i n p);
-    otherwise = λ i n p. goes (n .before .config) (kept i n p) (n .call) (run-proper i n p);
+    twelve = λ i n p. twelve-iff (n .before .owned) (kept i n p) (n .call) (run-proper i n p);
+    fourteen = λ i n p. fourteen-iff (n .before .owned) (kept i n p) (n .call) (run-proper i n p);
+    otherwise = λ i n p. goes (n .before .owned) (kept i n p) (n .call) (run-proper i n p);
     typed-loaded = sound-typed d;
     typed-after = λ i n p. sound-typed (after-sound (n .before) (step-sound-state τ s d run i n p) (n .call));
   }

@@ -4,8 +4,8 @@ use mathlib.Core.Path.{_∙_, _≡_, ap, refl, sym}
 use mathlib.Core.Logic.{_↔_}
 use mathlib.Core.Bool.{Bool, cond, false, not, true}
 use mathlib.Core.Option.{some}
-use mathlib.Core.List.{List, [], _++_, _∷_}
-use Prim.Native.Nat.{_*_, _+_, _<_, _≤_, suc, zero, ℕ}
+use mathlib.Core.List.{List, [], _++_}
+use Prim.Native.Nat.{_*_, _+_, _<_, _≤_, ℕ}
 use native.Mathlib.Omega.{arith}
 use borrow.Author.Tests.{not-false}
 use lib.Dec.{leb, ltb}
@@ -21,8 +21,8 @@ use Rattle.calculus.specs.Table.{Table, TableRule, type-at}
 use Rattle.calculus.specs.Lowest.{first-cause}
 use Rattle.calculus.specs.Verdict.{type-causes, verdict}
 use Rattle.calculus.specs.Recipe.{setting-types, Admitted, Starts}
-use Rattle.calculus.specs.Theory.Tests.{clash, eqb-complete, leb-sound, leb-complete, ltb-complete, ltb-false, ltb-not}
-use Rattle.calculus.specs.Theory.Lists.{at-bound, at-below, at-replicate}
+use Rattle.calculus.specs.Theory.Tests.{eqb-complete, leb-sound, leb-complete, ltb-complete, ltb-false, ltb-not}
+use Rattle.calculus.specs.Theory.Lists.{at-bound, at-below, at-replicate, getD-at}
 use Rattle.calculus.specs.Theory.Tabulate.{length-tabulate, replicate-tabulated, tabulate-same, tabulate-at, tabulate-parts, tabulate-is, each-below-sound, each-below-complete, nodes-tabulate}
 use Rattle.calculus.specs.Theory.Lowest.{first-cause-parts, first-cause-rest, none-first, none-fits}
 use Rattle.calculus.specs.Theory.TableTest.{KindsBelow, table-test-iff}
@@ -230,11 +230,6 @@ accepted-exactly s b = (
 -- a file says one recipe
 pub one-recipe : {s : List ℕ} {T T′ : Table} {ns ns′ : List ℕ} {es es′ : List Exp} → Recipe s T ns es → Recipe s T′ ns′ es′ → (T ≡ T′) × (ns ≡ ns′) × (es ≡ es′)
 one-recipe r r′ = (sym (table-is r) ∙ table-is r′, sym (nums-are r) ∙ nums-are r′, sym (terms-are r) ∙ terms-are r′)
-
-pub getD-at : (l : List ℕ) (k : ℕ) {n : ℕ} → at l k ≡ some n → getD l k 0 ≡ n
-getD-at [] k h = absurd (clash (cc))
-getD-at (m ∷ l) zero h = cc
-getD-at (m ∷ l) (suc k) h = getD-at l k h
 
 -- the type number answered for a bay is that of the one type that its term has
 pub type-answered : {s : List ℕ} {T : Table} {ns : List ℕ} {es : List Exp} → Recipe s T ns es → (bay : ℕ) (e : Exp) → at es bay ≡ some e →

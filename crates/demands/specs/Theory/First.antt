@@ -9,11 +9,13 @@ use native.Mathlib.Omega.{arith}
 use lib.ListN.{length}
 use Rattle.calculus.specs.Limits.{max-image-length}
 use Rattle.calculus.specs.Causes.{buffer-cause, wrong-kind-cause}
+use Rattle.calculus.specs.Syntax.{Config}
+use Rattle.calculus.specs.Owners.{Owned, grown}
 use Rattle.calculus.specs.Step.{Answer, step-of}
 use Rattle.calculus.specs.Reply.{Reply, moved, waits, finished, refuses}
 use Rattle.check_spec.specs.Verdict.{refusal, refused, verdict-of}
 use Rattle.check_spec.specs.Theory.Answers.{refusal-is, refused-is, lowest-cause, not-12}
-use Rattle.image.specs.Configuration.{config-of}
+use Rattle.image.specs.Configuration.{config-of, owned-of}
 use Rattle.image.specs.Stands.{image-stands}
 use Rattle.load_spec.specs.Loading.{loaded-of, not-loaded}
 use Rattle.load_spec.specs.Theory.Answers.{short, long, load-refusal-is, not-loaded-is, left-alone}
@@ -37,7 +39,7 @@ load-number : (file out : List ℕ) → ¬ (length out < max-image-length) → l
 load-number file out n = load-refusal-is file (length out) ∙ long file (length out) (omega arith) ∙ sym (refusal-is file)
 
 -- a step's number: 12 or 13, or that of the calculus's answer
-told-number : {a : Answer} {n : ℕ} → Told a (Refused n) → (14 ≤ n) × (n ≤ wrong-kind-cause)
+told-number : {left : Config → Owned} {a : Answer} {n : ℕ} → Told left a (Refused n) → (14 ≤ n) × (n ≤ wrong-kind-cause)
 told-number (told-room e) = (omega arith, omega arith)
 told-number told-no-thread = (omega arith, omega arith)
 told-number told-used = (omega arith, omega arith)
@@ -61,7 +63,7 @@ module _ (image : List ℕ) (x : ℕ) (out : List ℕ) where
           (omega arith, omega arith)
       go true q =
           let p = sym (ap outcome-of-reply (reply-stands image x (length out) l q)) ∙ e in
-          let (a, b) = told-number (rw p at (tells (step-of (config-of image) x))) in
+          let (a, b) = told-number (rw p at (tells (grown (owned-of image) x) (step-of (config-of image) x))) in
           (omega arith, b)
 
   step-12 : (outcome-of image x out ≡ Refused buffer-cause) ↔ (length out < max-image-length)
@@ -82,7 +84,7 @@ module _ (image : List ℕ) (x : ℕ) (out : List ℕ) where
   step-writes-nothing n = go (step-reply image x (length out)) n
     where
       go : (q : Reply) → ((rule size : ℕ) → ¬ (outcome-of-reply q ≡ Rule rule size)) → out-after-reply q out ≡ out
-      go (moved rule C′) n = absurd (n _ _ refl)
+      go (moved rule I′) n = absurd (n _ _ refl)
       go (waits y) n = refl
       go finished n = refl
       go (refuses cause) n = refl

@@ -1,23 +1,22 @@
 -- An image that a run of an accepted recipe comes to: what the claim about every run says of it.
-use mathlib.Core.Path.{_∙_, _≡_, ap, refl, sym}
+use mathlib.Core.Path.{_∙_, _≡_, refl}
 use mathlib.Core.Bool.{true}
 use mathlib.Core.List.{List, [], _∷_}
 use Prim.Native.Nat.{ℕ, suc, _≤_}
 use native.Mathlib.Omega.{arith}
 use lib.ListN.{length}
 use Rattle.calculus.specs.Bytes.{Bytes}
-use Rattle.calculus.specs.Syntax.{EachAll}
 use Rattle.calculus.specs.Typing.{TypeNumbers}
-use Rattle.calculus.specs.Step.{step-of}
-use Rattle.calculus.specs.Limits.{max-image-length}
-use Rattle.calculus.specs.Image.{ImageRule, within-limits, Writable}
+use Rattle.calculus.specs.Limits.{max-bays, max-image-length}
+use Rattle.calculus.specs.Image.{ImageRule, within-limits}
 use Rattle.calculus.specs.State.{State}
-use Rattle.calculus.specs.Reply.{refuses, reply-of}
+use Rattle.calculus.specs.Reply.{refuses, reply-to}
 use Rattle.calculus.specs.Causes.{image-cause, used-handle-cause, wrong-kind-cause}
 use Rattle.calculus.specs.Table.{type-at}
 use Rattle.calculus.specs.Theory.Tests.{ltb-not}
 use Rattle.calculus.specs.Theory.ImageTest.{image-test-iff}
 use Rattle.calculus.specs.Theory.ConfigRuns.{ConfigCall, ConfigDemand, config-reply, config-steps, state-after}
+use Rattle.calculus.specs.Theory.Images.{Kept}
 use Rattle.calculus.specs.Theory.Claim.{demand}
 use Rattle.recipe_table.specs.Entries.{type-table}
 use Rattle.check_spec.specs.Verdict.{refusal}
@@ -25,11 +24,10 @@ use Rattle.check_spec.specs.Theory.Accepted.{admitted}
 use Rattle.load_spec.specs.Starting.{starting-state}
 use Rattle.load_spec.specs.Theory.Image.{says}
 use Rattle.image_layout.specs.Slice.{names}
-use Rattle.image.specs.Configuration.{config-of, image-of}
+use Rattle.image.specs.Configuration.{config-of, image-of, owned-of}
 use Rattle.image.specs.Stands.{image-stands}
-use Rattle.image.specs.Theory.Lengths.{length-config}
-use Rattle.image.specs.Theory.Exactly.{image-written, read-again}
-use Rattle.runs.specs.Theory.Simulates.{Kept, AllKept, kept-first, kept-after}
+use Rattle.image.specs.Theory.Exactly.{image-written, names-are, owned-again, read-again}
+use Rattle.runs.specs.Theory.Simulates.{AllKept, kept-first, kept-after}
 use Rattle.demands.specs.Theory.Third.{all-kept}
 
 -- a state that a run comes to: every run from it is of images that keep their rules, and meets the third demand
@@ -59,31 +57,31 @@ abbrev pub stepping : ℕ → ConfigCall
 stepping x = record { thread = x; buffer = max-image-length }
 
 module _ {τ : TypeNumbers} {s : State} (r : Reached τ s) where
-  first : Kept (s .config)
-  first = kept-first τ s (stepping 0) (r .kept) .0
+  pub reached-kept : Kept max-bays (s .owned)
+  reached-kept = kept-first τ s (stepping 0) (r .kept) .0
 
-  pub reached-rules : ImageRule (s .config)
-  reached-rules = first .keeps
+  pub reached-rules : ImageRule (s .owned .config)
+  reached-rules = reached-kept .keeps
 
-  pub reached-writable : EachAll Writable (s .config)
-  reached-writable = first .writable
+  pub reached-stands : image-stands (image-of (s .owned)) ≡ true
+  reached-stands = image-written (s .owned) reached-kept
 
-  pub reached-stands : image-stands (image-of (s .config)) ≡ true
-  reached-stands = image-written (s .config) reached-rules reached-writable
+  pub reached-reads : config-of (image-of (s .owned)) ≡ s .owned .config
+  reached-reads = read-again (s .owned) reached-kept
 
-  pub reached-reads : config-of (image-of (s .config)) ≡ s .config
-  reached-reads = read-again (s .config) reached-rules reached-writable
+  pub reached-owned : owned-of (image-of (s .owned)) ≡ s .owned
+  reached-owned = owned-again (s .owned) reached-kept
 
-  pub reached-names : names (image-of (s .config)) ≡ length (s .config)
-  reached-names = sym (length-config (image-of (s .config))) ∙ ap length reached-reads
+  pub reached-names : names (image-of (s .owned)) ≡ length (s .owned .config)
+  reached-names = names-are (s .owned)
 
   -- with a buffer that is long enough the calculus's reply is the step's
-  pub long-reply : (x b : ℕ) → max-image-length ≤ b → config-reply (s .config) (record { thread = x; buffer = b }) ≡ reply-of within-limits (step-of (s .config) x)
+  pub long-reply : (x b : ℕ) → max-image-length ≤ b → config-reply (s .owned) (record { thread = x; buffer = b }) ≡ reply-to within-limits (s .owned) x
   unfolding config-reply
-  long-reply x b l = rw (ltb-not b max-image-length l, image-test-iff (s .config) .1 reached-rules) refl
+  long-reply x b l = rw (ltb-not b max-image-length l, image-test-iff (s .owned .config) .1 reached-rules) refl
 
   -- no step answers 13, 16 or 17
-  pub no-cause : (x : ℕ) → (¬ (reply-of within-limits (step-of (s .config) x) ≡ refuses image-cause)) × (¬ (reply-of within-limits (step-of (s .config) x) ≡ refuses used-handle-cause)) × (¬ (reply-of within-limits (step-of (s .config) x) ≡ refuses wrong-kind-cause))
+  pub no-cause : (x : ℕ) → (¬ (reply-to within-limits (s .owned) x ≡ refuses image-cause)) × (¬ (reply-to within-limits (s .owned) x ≡ refuses used-handle-cause)) × (¬ (reply-to within-limits (s .owned) x ≡ refuses wrong-kind-cause))
   unfolding config-steps
   no-cause x =
       let q = long-reply x max-image-length (omega arith) in

@@ -15,25 +15,27 @@ use Rattle.calculus.specs.Limits.{max-bays, max-image-length}
 use Rattle.calculus.specs.Causes.{buffer-cause, image-cause, no-thread-cause, room-cause, used-handle-cause, wrong-kind-cause}
 use Rattle.calculus.specs.Types.{LinType}
 use Rattle.calculus.specs.Syntax.{Exp, Value, thread-of, Config, at}
+use Rattle.calculus.specs.Owners.{Owned, grown}
 use Rattle.calculus.specs.Typing.{Derivation}
 use Rattle.calculus.specs.Reduction.{Rule as RuleName, number, Reduces}
 use Rattle.calculus.specs.Step.{Answer, rule, waiting, done, no-thread, used-handle, wrong-kind, step-of, Needs, Unready, AppliesUsed}
 use Rattle.calculus.specs.Image.{ImageRule, WithinLimits, limits-test, within-limits}
-use Rattle.calculus.specs.Reply.{moved, refuses, reply-of}
+use Rattle.calculus.specs.Reply.{moved, refuses, reply-of, reply-to}
 use Rattle.calculus.specs.Table.{Table, type-at}
 use Rattle.calculus.specs.Recipe.{setting-types, start}
 use Rattle.calculus.specs.Theory.Tests.{clash, ltb-not}
+use Rattle.calculus.specs.Theory.Lists.{getD-at}
 use Rattle.calculus.specs.Theory.Tabulate.{length-tabulate, tabulate-at}
 use Rattle.calculus.specs.Theory.OneType.{closed-one-type}
 use Rattle.calculus.specs.Theory.Step.{rule-iff, done-iff, waiting-iff, no-thread-iff, used-handle-iff, wrong-kind-iff}
 use Rattle.calculus.specs.Theory.ImageTest.{limits-test-iff}
-use Rattle.calculus.specs.Theory.Images.{image-fits}
+use Rattle.calculus.specs.Theory.Images.{Kept, image-fits}
 use Rattle.recipe_file.specs.File.{bays}
 use Rattle.check_spec.specs.Verdict.{accepted, refusal, refused, bay-type-number, bay-type-numbers, verdict-of}
 use Rattle.check_spec.specs.Recipe.{Recipe}
 use Rattle.check_spec.specs.Theory.Answers.{refusal-is, accepted-is}
-use Rattle.check_spec.specs.Theory.Accepted.{accepted-exactly, getD-at, no-cause, no-cause-iff, one-recipe, table-is, nums-are, terms-are, type-answered}
-use Rattle.image.specs.Configuration.{image-of, config-of}
+use Rattle.check_spec.specs.Theory.Accepted.{accepted-exactly, no-cause, no-cause-iff, one-recipe, table-is, nums-are, terms-are, type-answered}
+use Rattle.image.specs.Configuration.{image-of, config-of, owned-of}
 use Rattle.image.specs.Stands.{image-stands}
 use Rattle.image.specs.Theory.Exactly.{image-exactly, image-written}
 use Rattle.image.specs.Theory.Lengths.{length-image-of}
@@ -112,20 +114,27 @@ module _ {file : List ℕ} {T : Table} {ns : List ℕ} {es : List Exp} (r : Reci
   no-refusal : load-refusal file (length out) ≡ 0
   no-refusal = long file (length out) l ∙ recipe-accepted r
 
-  starting-is : starting-image file ≡ image-of (start T ns es .config)
+  starting-is : starting-image file ≡ image-of (start T ns es .owned)
   unfolding starting-image
   starting-is = rw (table-is r, nums-are r, terms-are r) refl
 
-  loaded-answer : loaded-of file (length out) ≡ record { refusal = 0; bays = length es; types = verdict-of file .types; length = length (image-of (start T ns es .config)) }
+  loaded-answer : loaded-of file (length out) ≡ record { refusal = 0; bays = length es; types = verdict-of file .types; length = length (image-of (start T ns es .owned)) }
   loaded-answer = rw (loaded-is file (length out) no-refusal, verdict-is r, starting-is, r .count) refl
 
-  loaded-image : Bytes file → Written (image-of (start T ns es .config)) out (out-after-load file out)
+  loaded-image : Bytes file → Written (image-of (start T ns es .owned)) out (out-after-load file out)
   loaded-image b =
       let f = starting-fits file b (recipe-accepted r) in
-      let f′ : length (image-of (start T ns es .config)) ≤ max-image-length = rw starting-is at f in
+      let f′ : length (image-of (start T ns es .owned)) ≤ max-image-length = rw starting-is at f in
       (left-loaded file out no-refusal ∙ rw starting-is refl, omega arith)
 
 -- ---- a step
+
+-- a slice is the image of what keeps every rule and can be written
+pub image-kept : {s : List ℕ} {I : Owned} → s ≡ image-of I → Kept max-bays I → ImageOf s I
+image-kept e k = record { bytes = e; rule = k .keeps; owners = k .owns; writable = k .writable }
+
+pub kept-image : {s : List ℕ} {I : Owned} → ImageOf s I → Kept max-bays I
+kept-image i = record { keeps = i .rule; writable = i .writable; owns = i .owners }
 
 -- what is asked of an answer: neither 12 nor 13
 pub record Later (A : Outcome) : Type 0 where
@@ -134,7 +143,7 @@ pub record Later (A : Outcome) : Type 0 where
 
 module _ (s : List ℕ) (b : Bytes s) (x : ℕ) (out : List ℕ) where
   -- an answer to a slice is the calculus's answer to the configuration that it is the image of
-  means : (A : Outcome) (P : Config → Type 0) → Later A → ((C : Config) → ImageRule C → (outcome-of-reply (reply-of within-limits (step-of C x)) ≡ A) ↔ P C) →
+  means : (A : Outcome) (P : Owned → Type 0) → Later A → ((I : Owned) → ImageRule (I .config) → (outcome-of-reply (reply-to within-limits I x) ≡ A) ↔ P I) →
       (outcome-of s x out ≡ A) ↔ Means s out P
   unfolding outcome-of outcome-of-reply
   means A P later iff = (there, back)
@@ -142,10 +151,10 @@ module _ (s : List ℕ) (b : Bytes s) (x : ℕ) (out : List ℕ) where
       standing : max-image-length ≤ length out → outcome-of s x out ≡ A → (t : Bool) → image-stands s ≡ t → Means s out P
       standing l e false q = absurd (later .not-13 (sym e ∙ ap outcome-of-reply (reply-broken s x (length out) l q)))
       standing l e true q =
-          let (C, i, k, w) = image-exactly s b .0 q in
-          let p : outcome-of-reply (reply-of within-limits (step-of C x)) ≡ A =
-          sym (ap outcome-of-reply (step-is C k w x (length out) l)) ∙ ap (λ (t : List ℕ). outcome-of-reply (step-reply t x (length out))) (sym i) ∙ e in
-          (l, C, record { bytes = i; rule = k; writable = w }, iff C k .0 p)
+          let (I, i, k) = image-exactly s b .0 q in
+          let p : outcome-of-reply (reply-to within-limits I x) ≡ A =
+          sym (ap outcome-of-reply (step-is I k x (length out) l)) ∙ ap (λ (t : List ℕ). outcome-of-reply (step-reply t x (length out))) (sym i) ∙ e in
+          (l, I, image-kept i k, iff I (k .keeps) .0 p)
 
       there : outcome-of s x out ≡ A → Means s out P
       there e =
@@ -155,130 +164,130 @@ module _ (s : List ℕ) (b : Bytes s) (x : ℕ) (out : List ℕ) where
           ]
 
       back : Means s out P → outcome-of s x out ≡ A
-      back (l, C, i, p) =
+      back (l, I, i, p) =
           ap (λ (t : List ℕ). outcome-of-reply (step-reply t x (length out))) (i .bytes)
-          ∙ ap outcome-of-reply (step-is C (i .rule) (i .writable) x (length out) l)
-          ∙ iff C (i .rule) .1 p
+          ∙ ap outcome-of-reply (step-is I (kept-image i) x (length out) l)
+          ∙ iff I (i .rule) .1 p
 
-  thirteen : (outcome-of s x out ≡ Refused image-cause) ↔ ((max-image-length ≤ length out) × ((C : Config) → ¬ ImageOf s C))
+  thirteen : (outcome-of s x out ≡ Refused image-cause) ↔ ((max-image-length ≤ length out) × ((I : Owned) → ¬ ImageOf s I))
   unfolding outcome-of outcome-of-reply
   thirteen = (there, back)
     where
-      standing : max-image-length ≤ length out → outcome-of s x out ≡ Refused image-cause → (t : Bool) → image-stands s ≡ t → (C : Config) → ¬ ImageOf s C
-      standing l e true q C i =
+      standing : max-image-length ≤ length out → outcome-of s x out ≡ Refused image-cause → (t : Bool) → image-stands s ≡ t → (I : Owned) → ¬ ImageOf s I
+      standing l e true q I i =
           let p = sym (ap outcome-of-reply (reply-stands s x (length out) l q)) ∙ e in
-          not-told (rw p at (tells (step-of (config-of s) x)))
+          not-told (rw p at (tells (grown (owned-of s) x) (step-of (config-of s) x)))
         where
-          not-told : {a : Answer} → ¬ Told a (Refused image-cause)
+          not-told : {left : Config → Owned} {a : Answer} → ¬ Told left a (Refused image-cause)
           not-told t = elim t [ ]
-      standing l e false q C i = clash (let p = ap image-stands (i .bytes) ∙ image-written C (i .rule) (i .writable) in cc)
+      standing l e false q I i = clash (let p = ap image-stands (i .bytes) ∙ image-written I (kept-image i) in cc)
 
-      there : outcome-of s x out ≡ Refused image-cause → (max-image-length ≤ length out) × ((C : Config) → ¬ ImageOf s C)
+      there : outcome-of s x out ≡ Refused image-cause → (max-image-length ≤ length out) × ((I : Owned) → ¬ ImageOf s I)
       there e =
           elim (decLt (length out) max-image-length) [
             | yes l ↦ absurd (let p = sym (ap outcome-of-reply (reply-short s x (length out) l)) ∙ e in let q : buffer-cause ≡ image-cause = cc in omega arith)
             | no l ↦ (omega arith, standing (omega arith) e (image-stands s) refl)
           ]
 
-      back : (max-image-length ≤ length out) × ((C : Config) → ¬ ImageOf s C) → outcome-of s x out ≡ Refused image-cause
+      back : (max-image-length ≤ length out) × ((I : Owned) → ¬ ImageOf s I) → outcome-of s x out ≡ Refused image-cause
       back (l, n) = broken (image-stands s) refl
         where
           broken : (t : Bool) → image-stands s ≡ t → outcome-of s x out ≡ Refused image-cause
-          broken true q = let (C, i, k, w) = image-exactly s b .0 q in absurd (n C (record { bytes = i; rule = k; writable = w }))
+          broken true q = let (I, i, k) = image-exactly s b .0 q in absurd (n I (image-kept i k))
           broken false q = ap outcome-of-reply (reply-broken s x (length out) l q)
 
 -- each answer of the calculus, from how it is told
-module _ (C : Config) (x : ℕ) where
+module _ (I : Owned) (x : ℕ) where
   abbrev pub told-of : Answer → Outcome
-  told-of a = outcome-of-reply (reply-of within-limits a)
+  told-of a = outcome-of-reply (reply-of within-limits (grown I x) a)
 
   within : {C′ : Config} → limits-test C′ ≡ true → WithinLimits C′
   within {C′} e = limits-test-iff C′ .0 e
 
-  moves-there : {a : Answer} {k size : ℕ} → step-of C x ≡ a → Told a (Rule k size) → Moves x k size C
-  moves-there q (told-moved {r} {C′} l) = (r, C′, rule-iff C C′ x r .0 q, within l, refl, refl)
+  moves-there : {a : Answer} {k size : ℕ} → step-of (I .config) x ≡ a → Told (grown I x) a (Rule k size) → Moves x k size I
+  moves-there q (told-moved {r} {C′} l) = (r, C′, rule-iff (I .config) C′ x r .0 q, within l, refl, refl)
 
-  moves-iff : (k size : ℕ) → (told-of (step-of C x) ≡ Rule k size) ↔ Moves x k size C
+  moves-iff : (k size : ℕ) → (told-of (step-of (I .config) x) ≡ Rule k size) ↔ Moves x k size I
   unfolding outcome-of-reply reply-of limits-test
   moves-iff k size = (
-    λ e. moves-there refl (rw e at (tells (step-of C x))),
-    λ (r, C′, m, w, k-is, size-is). rw (rule-iff C C′ x r .1 m, limits-test-iff C′ .1 w, k-is, size-is) refl,
+    λ e. moves-there refl (rw e at (tells (grown I x) (step-of (I .config) x))),
+    λ (r, C′, m, w, k-is, size-is). rw (rule-iff (I .config) C′ x r .1 m, limits-test-iff C′ .1 w, k-is, size-is) refl,
   )
 
-  pub room-iff : (told-of (step-of C x) ≡ Refused room-cause) ↔ LacksRoom x C
+  pub room-iff : (told-of (step-of (I .config) x) ≡ Refused room-cause) ↔ LacksRoom x I
   unfolding outcome-of-reply reply-of limits-test
   room-iff = (
-    λ e. there (step-of C x) refl (rw e at (tells (step-of C x))),
-    λ (r, C′, m, n). rw (rule-iff C C′ x r .1 m) (above r C′ (limits-test C′) refl n),
+    λ e. there (step-of (I .config) x) refl (rw e at (tells (grown I x) (step-of (I .config) x))),
+    λ (r, C′, m, n). rw (rule-iff (I .config) C′ x r .1 m) (above r C′ (limits-test C′) refl n),
   )
     where
-      there : (a : Answer) → step-of C x ≡ a → Told a (Refused room-cause) → LacksRoom x C
-      there (rule r C′) q (told-room l) = (r, C′, rule-iff C C′ x r .0 q, λ w. clash (let p = limits-test-iff C′ .1 w in cc))
+      there : (a : Answer) → step-of (I .config) x ≡ a → Told (grown I x) a (Refused room-cause) → LacksRoom x I
+      there (rule r C′) q (told-room l) = (r, C′, rule-iff (I .config) C′ x r .0 q, λ w. clash (let p = limits-test-iff C′ .1 w in cc))
 
       above : (r : RuleName) (C′ : Config) (t : Bool) → limits-test C′ ≡ t → ¬ WithinLimits C′ →
-          outcome-of-reply (cond t (moved (number r) C′) (refuses room-cause)) ≡ Refused room-cause
+          outcome-of-reply (cond t (moved (number r) (grown I x C′)) (refuses room-cause)) ≡ Refused room-cause
       above r C′ true e n = absurd (n (within e))
       above r C′ false e n = refl
 
-  done-told : (told-of (step-of C x) ≡ Done) ↔ ((v : Exp) × Value v × (at C x ≡ some (thread-of v)))
+  done-told : (told-of (step-of (I .config) x) ≡ Done) ↔ ((v : Exp) × Value v × (at (I .config) x ≡ some (thread-of v)))
   unfolding outcome-of-reply reply-of
-  done-told = (λ e. done-iff C x .0 (only (rw e at (tells (step-of C x)))), λ d. rw (done-iff C x .1 d) refl)
+  done-told = (λ e. done-iff (I .config) x .0 (only (rw e at (tells (grown I x) (step-of (I .config) x)))), λ d. rw (done-iff (I .config) x .1 d) refl)
     where
-      only : {a : Answer} → Told a Done → a ≡ done
+      only : {a : Answer} → Told (grown I x) a Done → a ≡ done
       only told-done = refl
 
-  waiting-told : (y : ℕ) → (told-of (step-of C x) ≡ Waiting y) ↔ (Needs C x y × Unready C y)
+  waiting-told : (y : ℕ) → (told-of (step-of (I .config) x) ≡ Waiting y) ↔ (Needs (I .config) x y × Unready (I .config) y)
   unfolding outcome-of-reply reply-of
-  waiting-told y = (λ e. waiting-iff C x y .0 (only (rw e at (tells (step-of C x)))), λ d. rw (waiting-iff C x y .1 d) refl)
+  waiting-told y = (λ e. waiting-iff (I .config) x y .0 (only (rw e at (tells (grown I x) (step-of (I .config) x)))), λ d. rw (waiting-iff (I .config) x y .1 d) refl)
     where
-      only : {a : Answer} → Told a (Waiting y) → a ≡ waiting y
+      only : {a : Answer} → Told (grown I x) a (Waiting y) → a ≡ waiting y
       only told-waiting = refl
 
-  no-thread-told : (told-of (step-of C x) ≡ Refused no-thread-cause) ↔ ((e : Exp) → ¬ (at C x ≡ some (thread-of e)))
+  no-thread-told : (told-of (step-of (I .config) x) ≡ Refused no-thread-cause) ↔ ((e : Exp) → ¬ (at (I .config) x ≡ some (thread-of e)))
   unfolding outcome-of-reply reply-of
-  no-thread-told = (λ e. no-thread-iff C x .0 (only (rw e at (tells (step-of C x)))), λ d. rw (no-thread-iff C x .1 d) refl)
+  no-thread-told = (λ e. no-thread-iff (I .config) x .0 (only (rw e at (tells (grown I x) (step-of (I .config) x)))), λ d. rw (no-thread-iff (I .config) x .1 d) refl)
     where
-      only : {a : Answer} → Told a (Refused no-thread-cause) → a ≡ no-thread
+      only : {a : Answer} → Told (grown I x) a (Refused no-thread-cause) → a ≡ no-thread
       only told-no-thread = refl
 
-  used-told : (told-of (step-of C x) ≡ Refused used-handle-cause) ↔ AppliesUsed C x
+  used-told : (told-of (step-of (I .config) x) ≡ Refused used-handle-cause) ↔ AppliesUsed (I .config) x
   unfolding outcome-of-reply reply-of
-  used-told = (λ e. used-handle-iff C x .0 (only (rw e at (tells (step-of C x)))), λ d. rw (used-handle-iff C x .1 d) refl)
+  used-told = (λ e. used-handle-iff (I .config) x .0 (only (rw e at (tells (grown I x) (step-of (I .config) x)))), λ d. rw (used-handle-iff (I .config) x .1 d) refl)
     where
-      only : {a : Answer} → Told a (Refused used-handle-cause) → a ≡ used-handle
+      only : {a : Answer} → Told (grown I x) a (Refused used-handle-cause) → a ≡ used-handle
       only told-used = refl
 
-  wrong-told : ImageRule C → (told-of (step-of C x) ≡ Refused wrong-kind-cause) ↔ WrongKind x C
+  wrong-told : ImageRule (I .config) → (told-of (step-of (I .config) x) ≡ Refused wrong-kind-cause) ↔ WrongKind x I
   unfolding outcome-of-reply reply-of
   wrong-told k = (
-    λ e. wrong-kind-iff C x (λ e h. k .bound x (thread-of e) h) .0 (only (rw e at (tells (step-of C x)))),
-    λ w. rw (wrong-kind-iff C x (λ e h. k .bound x (thread-of e) h) .1 w) refl,
+    λ e. wrong-kind-iff (I .config) x (λ e h. k .bound x (thread-of e) h) .0 (only (rw e at (tells (grown I x) (step-of (I .config) x)))),
+    λ w. rw (wrong-kind-iff (I .config) x (λ e h. k .bound x (thread-of e) h) .1 w) refl,
   )
     where
-      only : {a : Answer} → Told a (Refused wrong-kind-cause) → a ≡ wrong-kind
+      only : {a : Answer} → Told (grown I x) a (Refused wrong-kind-cause) → a ≡ wrong-kind
       only told-wrong = refl
 
 -- the image that a rule leaves
-rule-image : (s : List ℕ) (x : ℕ) (out : List ℕ) (C C′ : Config) (by : RuleName) → ImageOf s C → Reduces C x by C′ → WithinLimits C′ → max-image-length ≤ length out →
-    Written (image-of C′) out (out-after-step s x out)
+rule-image : (s : List ℕ) (x : ℕ) (out : List ℕ) (I : Owned) (C′ : Config) (by : RuleName) → ImageOf s I → Reduces (I .config) x by C′ → WithinLimits C′ → max-image-length ≤ length out →
+    Written (image-of (grown I x C′)) out (out-after-step s x out)
 unfolding out-after-step out-after-reply reply-of limits-test
-rule-image s x out C C′ by i m w l = (
+rule-image s x out I C′ by i m w l = (
   ap (λ (t : List ℕ). out-after-reply (step-reply t x (length out)) out) (i .bytes)
-      ∙ rw (step-is C (i .rule) (i .writable) x (length out) l, rule-iff C C′ x by .1 m, limits-test-iff C′ .1 w) refl,
-  omega (arith, length-image-of C′, image-fits C′ w),
+      ∙ rw (step-is I (kept-image i) x (length out) l, rule-iff (I .config) C′ x by .1 m, limits-test-iff C′ .1 w) refl,
+  omega (arith, length-image-of (grown I x C′), image-fits C′ w),
 )
 
 step-demand : (s : List ℕ) → Bytes s → (x : ℕ) (out : List ℕ) → StepDemand s x out
 step-demand s b x out = record {
-  rule = λ k size. means s b x out (Rule k size) (Moves x k size) (record { not-12 = λ e. clash (cc); not-13 = λ e. clash (cc) }) (λ C r. moves-iff C x k size);
+  rule = λ k size. means s b x out (Rule k size) (Moves x k size) (record { not-12 = λ e. clash (cc); not-13 = λ e. clash (cc) }) (λ I r. moves-iff I x k size);
   rule-image = rule-image s x out;
-  done = means s b x out Done _ (record { not-12 = λ e. clash (cc); not-13 = λ e. clash (cc) }) (λ C r. done-told C x);
-  waiting = λ y. means s b x out (Waiting y) _ (record { not-12 = λ e. clash (cc); not-13 = λ e. clash (cc) }) (λ C r. waiting-told C x y);
+  done = means s b x out Done _ (record { not-12 = λ e. clash (cc); not-13 = λ e. clash (cc) }) (λ I r. done-told I x);
+  waiting = λ y. means s b x out (Waiting y) _ (record { not-12 = λ e. clash (cc); not-13 = λ e. clash (cc) }) (λ I r. waiting-told I x y);
   thirteen = thirteen s b x out;
-  fourteen = means s b x out (Refused no-thread-cause) _ (later no-thread-cause (omega arith)) (λ C r. no-thread-told C x);
-  fifteen = means s b x out (Refused room-cause) (LacksRoom x) (later room-cause (omega arith)) (λ C r. room-iff C x);
-  sixteen = means s b x out (Refused used-handle-cause) _ (later used-handle-cause (omega arith)) (λ C r. used-told C x);
-  seventeen = means s b x out (Refused wrong-kind-cause) (WrongKind x) (later wrong-kind-cause (omega arith)) (λ C r. wrong-told C x r);
+  fourteen = means s b x out (Refused no-thread-cause) _ (later no-thread-cause (omega arith)) (λ I r. no-thread-told I x);
+  fifteen = means s b x out (Refused room-cause) (LacksRoom x) (later room-cause (omega arith)) (λ I r. room-iff I x);
+  sixteen = means s b x out (Refused used-handle-cause) _ (later used-handle-cause (omega arith)) (λ I r. used-told I x);
+  seventeen = means s b x out (Refused wrong-kind-cause) (WrongKind x) (later wrong-kind-cause (omega arith)) (λ I r. wrong-told I x r);
 }
   where
     later : (n : ℕ) → image-cause < n → Later (Refused n)

@@ -8,6 +8,7 @@ use native.Mathlib.Nat.{mod-lt}
 use native.Mathlib.Omega.{arith}
 use lib.ListN.{length, set}
 use Rattle.calculus.specs.Bytes.{Bytes}
+use Rattle.calculus.specs.Owners.{Owned}
 use Rattle.calculus.specs.Typing.{TypeNumbers}
 use Rattle.calculus.specs.Syntax.{unit, const, name, app, Component, thread-of, holds, used, Config, Exp, at}
 use Rattle.calculus.specs.Reduction.{plug, Rule, Reduces, beta, thread-new, future-deref, future-deref-exch, handle-new, handle-bind, cell-new, cell-exch, future-deref-case, case-both}
@@ -15,7 +16,7 @@ use Rattle.calculus.specs.Step.{step-of}
 use Rattle.calculus.specs.Limits.{max-image-length, max-names}
 use Rattle.calculus.specs.Image.{within-limits}
 use Rattle.calculus.specs.State.{State}
-use Rattle.calculus.specs.Reply.{Reply, moved, waits, finished, refuses, reply-of}
+use Rattle.calculus.specs.Reply.{Reply, moved, waits, finished, refuses, reply-to}
 use Rattle.calculus.specs.Recipe.{setting-with, loaded}
 use Rattle.calculus.specs.Table.{type-at}
 use Rattle.calculus.specs.Theory.Tests.{and-parts, clash}
@@ -35,7 +36,7 @@ use Rattle.load_spec.specs.Starting.{starting-image, starting-state}
 use Rattle.load_spec.specs.Theory.Image.{says}
 use Rattle.step_spec.specs.Stepping.{step-reply}
 use Rattle.step_spec.specs.Theory.Exactly.{step-is}
-use Rattle.demands.specs.Theory.Reached.{Reached, long-reply, reached-after, reached-names, reached-reads, reached-rules, reached-stands, reached-start, reached-writable, stepping}
+use Rattle.demands.specs.Theory.Reached.{Reached, long-reply, reached-after, reached-kept, reached-names, reached-reads, reached-rules, reached-stands, reached-start, stepping}
 use Rattle.draw_spec.specs.Draws.{image-after, has-thread-kind, picked, threads}
 use Rattle.draw_spec.specs.Theory.Threads.{counted, is-counted, listed-thread, thread-listed}
 
@@ -84,8 +85,8 @@ pub record Alive (image : List ℕ) : Type 0 where
   pub numbers : TypeNumbers
   pub state : State
   pub reached : Reached numbers state
-  pub is : image ≡ image-of (state .config)
-  pub one : (x : ℕ) × ThreadOf (state .config) x
+  pub is : image ≡ image-of (state .owned)
+  pub one : (x : ℕ) × ThreadOf (state .owned .config) x
 
 -- the image that an accepted recipe is loaded to: "b to 2b − 1 to the bays' threads"
 pub alive-start : (file : List ℕ) → Bytes file → refusal file ≡ 0 → Alive (starting-image file)
@@ -118,25 +119,25 @@ module _ {image : List ℕ} (a : Alive image) where
   pub alive-some : 0 < length (threads image)
   alive-some =
       let (x, t) = a .one in
-      let (l, is) = thread-listed (a .state .config) x (t .there) in
-      rw (a .is) (omega (arith, counted (image-of (a .state .config)) (names (image-of (a .state .config))) x l is .1))
+      let (l, is) = thread-listed (a .state .owned) x (t .there) in
+      rw (a .is) (omega (arith, counted (image-of (a .state .owned)) (names (image-of (a .state .owned))) x l is .1))
 
   -- "picks a thread"
   pub picked-listed : (state : ℕ) → (picked image state < names image) × (has-thread-kind image (picked image state) ≡ true)
   unfolding picked
   picked-listed state = is-counted image (names image) (state % length (threads image)) (omega (arith, mod-lt state alive-some))
 
-  listed : (x : ℕ) → x < names image → has-thread-kind image x ≡ true → ThreadOf (a .state .config) x
-  listed x l t = let (e, h) = listed-thread (a .state .config) x (rw (a .is) at l) (rw (a .is) at t) in is h
+  listed : (x : ℕ) → x < names image → has-thread-kind image x ≡ true → ThreadOf (a .state .owned .config) x
+  listed x l t = let (e, h) = listed-thread (a .state .owned) x (rw (a .is) at l) (rw (a .is) at t) in is h
 
-  pub picked-thread : (state : ℕ) → ThreadOf (a .state .config) (picked image state)
+  pub picked-thread : (state : ℕ) → ThreadOf (a .state .owned .config) (picked image state)
   picked-thread state = let (l, t) = picked-listed state in listed (picked image state) l t
 
   -- the calculus's reply is the step's
-  replies : (x : ℕ) → step-reply image x max-image-length ≡ reply-of within-limits (step-of (a .state .config) x)
+  replies : (x : ℕ) → step-reply image x max-image-length ≡ reply-to within-limits (a .state .owned) x
   replies x =
       ap (λ (s : List ℕ). step-reply s x max-image-length) (a .is)
-      ∙ step-is (a .state .config) (reached-rules (a .reached)) (reached-writable (a .reached)) x max-image-length (omega arith)
+      ∙ step-is (a .state .owned) (reached-kept (a .reached)) x max-image-length (omega arith)
 
   -- "a rule, done, waiting or 15"
   pub picked-goes : (state : ℕ) → ReplyGoes (step-reply image (picked image state) max-image-length)
@@ -149,13 +150,13 @@ module _ {image : List ℕ} (a : Alive image) where
       subst ReplyGoes (long-reply (a .reached) x max-image-length (omega arith) ∙ sym (replies x)) g
 
   -- a rule: the new image is one that a run comes to, and has the thread that went
-  alive-moved : (x : ℕ) {k : ℕ} {C′ : Config} → step-reply image x max-image-length ≡ moved k C′ → (b : Alive (image-of C′)) × (b .state .config ≡ C′)
+  alive-moved : (x : ℕ) {k : ℕ} {I′ : Owned} → step-reply image x max-image-length ≡ moved k I′ → (b : Alive (image-of I′)) × (b .state .owned ≡ I′)
   unfolding state-left
-  alive-moved x {k} {C′} e =
-      let e′ : reply-of within-limits (step-of (a .state .config) x) ≡ moved k C′ = sym (replies x) ∙ e in
-      let (r, n, d, w) = moved-answer (a .state .config) x (step-of (a .state .config) x) refl e′ in
-      let after : state-after (a .numbers) (a .state) (stepping x) .config ≡ C′ =
-      ap (λ (q : Reply). state-left (a .numbers) (a .state) x q .config) (long-reply (a .reached) x max-image-length (omega arith) ∙ e′) in (
+  alive-moved x {k} {I′} e =
+      let e′ : reply-to within-limits (a .state .owned) x ≡ moved k I′ = sym (replies x) ∙ e in
+      let (r, n, d, w, g) = moved-answer (a .state .owned) x (step-of (a .state .owned .config) x) refl e′ in
+      let after : state-after (a .numbers) (a .state) (stepping x) .owned ≡ I′ =
+      ap (λ (q : Reply). state-left (a .numbers) (a .state) x q .owned) (long-reply (a .reached) x max-image-length (omega arith) ∙ e′) in (
         record {
           numbers = a .numbers;
           state = state-after (a .numbers) (a .state) (stepping x);
@@ -172,11 +173,11 @@ module _ {image : List ℕ} (a : Alive image) where
   alive-after x = go (step-reply image x max-image-length) refl
     where
       go : (q : Reply) → step-reply image x max-image-length ≡ q → Alive (image-after q image)
-      go (moved k C′) e = alive-moved x e .0
+      go (moved k I′) e = alive-moved x e .0
       go (waits y) e = a
       go finished e = a
       go (refuses n) e = a
 
   -- the new image says its configuration
-  pub moved-reads : (x : ℕ) {k : ℕ} {C′ : Config} → step-reply image x max-image-length ≡ moved k C′ → config-of (image-of C′) ≡ C′
-  moved-reads x e = let (b, c) = alive-moved x e in ap config-of (b .is) ∙ reached-reads (b .reached) ∙ c
+  pub moved-reads : (x : ℕ) {k : ℕ} {I′ : Owned} → step-reply image x max-image-length ≡ moved k I′ → config-of (image-of I′) ≡ I′ .config
+  moved-reads x e = let (b, c) = alive-moved x e in ap config-of (b .is) ∙ reached-reads (b .reached) ∙ ap (λ (I : Owned). I .config) c

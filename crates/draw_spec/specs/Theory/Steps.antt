@@ -19,7 +19,7 @@ use Rattle.draw_spec.specs.Draws.{image-after}
 -- "A refused or idle draw keeps the image"
 pub kept-image : (q : Reply) (image : List ℕ) → ((rule size : ℕ) → ¬ (outcome-of-reply q ≡ Rule rule size)) → image-after q image ≡ image
 unfolding image-after outcome-of-reply
-kept-image (moved k C′) image n = absurd (n k (length (image-of C′)) refl)
+kept-image (moved k I′) image n = absurd (n k (length (image-of I′)) refl)
 kept-image (waits y) image n = refl
 kept-image finished image n = refl
 kept-image (refuses k) image n = refl
@@ -34,7 +34,7 @@ module _ (image : List ℕ) (x : ℕ) (out : List ℕ) (long : max-image-length 
   handed-on = ap (λ (q : Reply). renewed (outcome-of-reply q) (λ size. take size (out-after-reply q out)) image) same-reply ∙ go (step-reply image x max-image-length)
     where
       go : (q : Reply) → renewed (outcome-of-reply q) (λ size. take size (out-after-reply q out)) image ≡ image-after q image
-      go (moved rule C′) = take-append-seam (image-of C′) (drop (length (image-of C′)) out)
+      go (moved rule I′) = take-append-seam (image-of I′) (drop (length (image-of I′)) out)
       go (waits y) = refl
       go finished = refl
       go (refuses number) = refl
@@ -49,8 +49,8 @@ module _ (image : List ℕ) (x : ℕ) (out : List ℕ) (long : max-image-length 
   new-inside {rule} {size} e = go (step-reply image x (length out)) e
     where
       go : (q : Reply) → outcome-of-reply q ≡ Rule rule size → size ≤ length (out-after-reply q out)
-      go (moved k C′) h =
-          let s : length (image-of C′) ≡ size = cc in
+      go (moved k I′) h =
+          let s : length (image-of I′) ≡ size = cc in
           rw length-append (omega (arith, s))
       go (waits y) h = absurd (clash (cc))
       go finished h = absurd (clash (cc))

@@ -3,23 +3,21 @@ use mathlib.Core.Path.{_∙_, _≡_, ap, refl, sym}
 use mathlib.Core.Logic.{_↔_}
 use mathlib.Core.Bool.{Bool, cond, false, true}
 use mathlib.Core.Option.{some}
-use mathlib.Core.List.{List, [], _∷_, _++_, append-assoc, append-nil, map}
+use mathlib.Core.List.{List, [], _∷_, _++_, append-assoc, append-nil}
 use Prim.Native.Nat.{ℕ, zero, suc, _+_, _<_, _≤_}
 use native.Mathlib.Decide.{decLt}
 use native.Mathlib.Numerals.{add-one}
 use native.Mathlib.Omega.{arith}
-use lib.ListN.{List·getD-append, getD, length, length-append, length-map}
+use lib.ListN.{List·getD-append, getD, length, length-append}
 use lib.Seq.{getD-append-seam}
 use Rattle.calculus.specs.Kinds.{thread-kind}
-use Rattle.calculus.specs.Syntax.{Component, thread-of, holds, open-for, used, awaited, Config, Exp, at}
+use Rattle.calculus.specs.Syntax.{Component, thread-of, holds, open-for, used, awaited, Exp, at}
+use Rattle.calculus.specs.Owners.{Owned, owner}
 use Rattle.calculus.specs.Theory.Tests.{eqb-complete, eqb-sound}
-use Rattle.calculus.specs.Theory.Lists.{append-right, at-below, at-bound}
-use Rattle.check_spec.specs.Theory.Accepted.{getD-at}
-use Rattle.image_layout.specs.Encoded.{Encoded}
-use Rattle.image_layout.specs.Slice.{encoded-at, kind-at, names}
-use Rattle.image_layout.specs.Theory.ReadBack.{component-read, names-read}
+use Rattle.calculus.specs.Theory.Lists.{append-right, at-below, at-bound, getD-at}
+use Rattle.image_layout.specs.Slice.{kind-at, names}
 use Rattle.image.specs.Configuration.{encode, image-of}
-use Rattle.image.specs.Theory.Maps.{at-map}
+use Rattle.image.specs.Theory.Exactly.{kind-written, names-are}
 use Rattle.draw_spec.specs.Draws.{has-thread-kind, threads, threads-below}
 
 module _ (image : List ℕ) where
@@ -120,27 +118,19 @@ module _ (image : List ℕ) where
         | no r ↦ let (more, e) = begins-with x y (omega arith) in absurd (omega (arith, ap length e ∙ length-append (threads-below image y) more))
       ]
 
--- the threads of the image of a configuration are its threads
-module _ (C : Config) where
-  names-are : names (image-of C) ≡ length C
-  unfolding image-of
-  names-are = names-read (map encode C) ∙ length-map C encode
-
-  kind-is : (x : ℕ) {c : Component} → at C x ≡ some c → kind-at (image-of C) x ≡ encode c .kind
-  unfolding image-of encoded-at
-  kind-is x {c} h = ap (λ (e : Encoded). e .kind) (component-read (map encode C) x (encode c) (at-map encode C x h))
-
-  pub thread-listed : (x : ℕ) {e : Exp} → at C x ≡ some (thread-of e) → (x < names (image-of C)) × (has-thread-kind (image-of C) x ≡ true)
+-- the threads of the image of a configuration are its threads, whoever owns them
+module _ (I : Owned) where
+  pub thread-listed : (x : ℕ) {e : Exp} → at (I .config) x ≡ some (thread-of e) → (x < names (image-of I)) × (has-thread-kind (image-of I) x ≡ true)
   unfolding has-thread-kind encode
-  thread-listed x h = (omega (arith, names-are, at-bound C x h), rw (kind-is x h) refl)
+  thread-listed x h = (omega (arith, names-are I, at-bound (I .config) x h), rw (kind-written I x h) refl)
 
-  pub listed-thread : (x : ℕ) → x < names (image-of C) → has-thread-kind (image-of C) x ≡ true → (e : Exp) × (at C x ≡ some (thread-of e))
+  pub listed-thread : (x : ℕ) → x < names (image-of I) → has-thread-kind (image-of I) x ≡ true → (e : Exp) × (at (I .config) x ≡ some (thread-of e))
   unfolding has-thread-kind encode
   listed-thread x l t =
-      let (c, h) = at-below C x (omega (arith, names-are)) in
-      go c h (sym (kind-is x h) ∙ eqb-sound (kind-at (image-of C) x) thread-kind t)
+      let (c, h) = at-below (I .config) x (omega (arith, names-are I)) in
+      go c h (sym (kind-written I x h) ∙ eqb-sound (kind-at (image-of I) x) thread-kind t)
     where
-      go : (c : Component) → at C x ≡ some c → encode c .kind ≡ thread-kind → (e : Exp) × (at C x ≡ some (thread-of e))
+      go : (c : Component) → at (I .config) x ≡ some c → encode c (owner (I .owners) x) .kind ≡ thread-kind → (e : Exp) × (at (I .config) x ≡ some (thread-of e))
       go (thread-of e) h k = (e, h)
       go (holds v) h k = absurd (omega (arith, k))
       go (open-for y) h k = absurd (omega (arith, k))

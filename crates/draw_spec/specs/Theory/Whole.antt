@@ -97,7 +97,7 @@ module _ (input : List ℕ) (b : Bytes input) (z : draw-refusal input ≡ 0) whe
   alive : (i : ℕ) (d : Draw) → at (draws-in input) i ≡ some d → Alive (d .image)
   alive = each-alive (number-in input) (seed-in input) (starting-image (recipe-in input)) (alive-start (recipe-in input) file-bytes accepted)
 
-  reads : {image : List ℕ} (a : Alive image) → config-of image ≡ a .state .config
+  reads : {image : List ℕ} (a : Alive image) → config-of image ≡ a .state .owned .config
   reads a = ap config-of (a .is) ∙ reached-reads (a .reached)
 
   is-thread-of : {image : List ℕ} → Alive image → (state : ℕ) → (e : Exp) × (at (config-of image) (picked image state) ≡ some (thread-of e))

@@ -5,7 +5,7 @@ use mathlib.Core.List.{List}
 use Prim.Native.Nat.{_≤_, _<_, ℕ}
 use native.Mathlib.Omega.{arith}
 use lib.ListN.{length}
-use Rattle.image.specs.Theory.Lengths.{length-config}
+use Rattle.image.specs.Theory.Exactly.{length-config}
 use Rattle.calculus.specs.Syntax.{Component, thread-of, holds, open-for, used, awaited, Config}
 use Rattle.calculus.specs.Lists.{sum-below}
 use Rattle.calculus.specs.Limits.{max-names, max-nodes}

@@ -32,9 +32,17 @@ rows =
     ∷ record { slice = []; keeps = false }
     ∷ record { slice = 0 ∷ []; keeps = false }
     ∷ record { slice = 1 ∷ 0 ∷ 5 ∷ 0 ∷ 8 ∷ 0 ∷ 0 ∷ []; keeps = false }
-    -- a future and its handle; the same with the companion at a used handle
+    -- a future and its handle; T-08: owner 15, and 16, of a thread, a cell, a used handle and a future; an open handle's companion is no owner
     ∷ record { slice = 2 ∷ 0 ∷ 5 ∷ 0 ∷ 14 ∷ 0 ∷ 0 ∷ 0 ∷ 3 ∷ 1 ∷ 14 ∷ 0 ∷ 0 ∷ 0 ∷ []; keeps = true }
-    ∷ record { slice = 2 ∷ 0 ∷ 5 ∷ 0 ∷ 14 ∷ 0 ∷ 0 ∷ 0 ∷ 4 ∷ 1 ∷ 14 ∷ 0 ∷ 0 ∷ 0 ∷ []; keeps = false }
+    ∷ record { slice = 1 ∷ 0 ∷ 1 ∷ 15 ∷ 8 ∷ 0 ∷ 1 ∷ 0 ∷ 3 ∷ []; keeps = true }
+    ∷ record { slice = 1 ∷ 0 ∷ 1 ∷ 16 ∷ 8 ∷ 0 ∷ 1 ∷ 0 ∷ 3 ∷ []; keeps = false }
+    ∷ record { slice = 1 ∷ 0 ∷ 2 ∷ 15 ∷ 8 ∷ 0 ∷ 1 ∷ 0 ∷ 3 ∷ []; keeps = true }
+    ∷ record { slice = 1 ∷ 0 ∷ 2 ∷ 16 ∷ 8 ∷ 0 ∷ 1 ∷ 0 ∷ 3 ∷ []; keeps = false }
+    ∷ record { slice = 1 ∷ 0 ∷ 4 ∷ 15 ∷ 8 ∷ 0 ∷ 0 ∷ 0 ∷ []; keeps = true }
+    ∷ record { slice = 1 ∷ 0 ∷ 4 ∷ 16 ∷ 8 ∷ 0 ∷ 0 ∷ 0 ∷ []; keeps = false }
+    ∷ record { slice = 1 ∷ 0 ∷ 5 ∷ 15 ∷ 8 ∷ 0 ∷ 0 ∷ 0 ∷ []; keeps = true }
+    ∷ record { slice = 1 ∷ 0 ∷ 5 ∷ 16 ∷ 8 ∷ 0 ∷ 0 ∷ 0 ∷ []; keeps = false }
+    ∷ record { slice = 1 ∷ 0 ∷ 3 ∷ 200 ∷ 8 ∷ 0 ∷ 0 ∷ 0 ∷ []; keeps = true }
     -- kinds 0 and 6
     ∷ record { slice = 1 ∷ 0 ∷ 0 ∷ 0 ∷ 8 ∷ 0 ∷ 0 ∷ 0 ∷ []; keeps = false }
     ∷ record { slice = 1 ∷ 0 ∷ 6 ∷ 0 ∷ 8 ∷ 0 ∷ 0 ∷ 0 ∷ []; keeps = false }
@@ -51,4 +59,4 @@ AllHold (r ∷ rs) = (heads-stand (r .slice) ≡ r .keeps) × AllHold rs
 
 pub cases : AllHold rows
 unfolding heads-stand stand-from head-stands head-agrees kind-test companion-test length-test names kind-at companion-at offset-at length-at word
-cases = (refl, (refl, (refl, (refl, (refl, (refl, (refl, (refl, (refl, (refl, (refl, (refl, (refl, (refl, tt))))))))))))))
+cases = (refl, (refl, (refl, (refl, (refl, (refl, (refl, (refl, (refl, (refl, (refl, (refl, (refl, (refl, (refl, (refl, (refl, (refl, (refl, (refl, (refl, (refl, tt))))))))))))))))))))))

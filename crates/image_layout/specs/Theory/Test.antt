@@ -9,9 +9,10 @@ use native.Mathlib.Nat.{add-zero, zero-add, add-suc, suc-add}
 use native.Mathlib.Omega.{arith}
 use lib.Dec.{eqb, leb, ltb}
 use lib.ListN.{length}
-use borrow.Author.Tests.{ltb-false, leb-true, eqb-true, eqb-false, le-ltb, le-leb, eq-eqb, ne-eqb}
+use borrow.Author.Tests.{ltb-false, ltb-true, leb-true, eqb-true, eqb-false, le-ltb, lt-ltb, le-leb, eq-eqb, ne-eqb}
 use Rattle.calculus.specs.Theory.Tests.{and-true, and-parts}
 use Rattle.calculus.specs.Kinds.{thread-kind, open-handle-kind, future-kind}
+use Rattle.calculus.specs.Limits.{max-bays}
 use Rattle.image_layout.specs.Encoded.{head-offset}
 use Rattle.image_layout.specs.Slice.{names, kind-at, companion-at, offset-at, length-at}
 use Rattle.image_layout.specs.Layout.{end-below, HeadRule, LayoutRule, kind-test, companion-test, length-test, head-agrees, head-stands, stand-from, heads-stand}
@@ -37,7 +38,7 @@ module _ (kind companion size : ℕ) where
           let (low, high) = and-parts (leb thread-kind kind) (leb kind future-kind) k in
           record {
             kinds = (leb-true thread-kind kind low, leb-true kind future-kind high);
-            companions = λ n. eqb-true companion 0 (or-other (eqb kind open-handle-kind) (eqb companion 0) c (ne-eqb kind open-handle-kind n));
+            companions = λ n. ltb-true companion max-bays (or-other (eqb kind open-handle-kind) (ltb companion max-bays) c (ne-eqb kind open-handle-kind n));
             lengths = λ n. eqb-true size 0 (or-other (ltb kind open-handle-kind) (eqb size 0) l (le-ltb kind open-handle-kind n));
           }
 
@@ -46,7 +47,7 @@ module _ (kind companion size : ℕ) where
           and-true
           (and-true (le-leb thread-kind kind (h .kinds .0)) (le-leb kind future-kind (h .kinds .1)))
           (and-true
-          (or-by (eqb kind open-handle-kind) (eqb companion 0) (λ e. eq-eqb companion 0 (h .companions (eqb-false kind open-handle-kind e))))
+          (or-by (eqb kind open-handle-kind) (ltb companion max-bays) (λ e. lt-ltb companion max-bays (h .companions (eqb-false kind open-handle-kind e))))
           (or-by (ltb kind open-handle-kind) (eqb size 0) (λ e. eq-eqb size 0 (h .lengths (ltb-false kind open-handle-kind e)))))
 
 module _ (s : List ℕ) where

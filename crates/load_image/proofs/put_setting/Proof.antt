@@ -1,12 +1,12 @@
 -- `load_image::put_setting` meets its contract.
 use borrow.Author.Needs.{needs}
-use Rattle.load_image.specs.Starting.{setting}
+use Rattle.load_image.specs.Starting.{setting-bytes}
 use Rattle.buffer.specs.Theory.Writes.{then}
 use Rattle.load_image.proofs.put_setting.Statement.{statement}
 use Rattle.load_image.proofs.put_setting.Tie as tie
 
 returns : tie.Need-returns
-unfolding setting
+unfolding setting-bytes
 returns c =
     let number = c .before .before in
     let tag = number .before .before .before .before in

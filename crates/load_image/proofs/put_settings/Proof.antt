@@ -16,7 +16,7 @@ use Rattle.load_image.proofs.put_settings.Statement.{statement}
 use Rattle.load_image.proofs.put_settings.Tie as tie
 
 abbrev Inv-loop : tie.InvT-loop
-Inv-loop out₀ at bays nums next₀ k₀ out next k = (k ≤ bays) × Wrote out₀ at (expressions (tabulate k (λ i. setting (getD nums i 0)))) out next
+Inv-loop out₀ at bays nums next₀ k₀ out next k = (k ≤ bays) × Wrote out₀ at (expressions (tabulate k (λ i. setting (getD nums i 0) i))) out next
 
 abbrev μ-loop : tie.MeasureT-loop
 μ-loop out₀ at bays nums next₀ k₀ out next k = bays - k
@@ -41,9 +41,10 @@ add-k : tie.Need-add-k Inv-loop μ-loop
 add-k c = let t = c .before .before .before .before in omega (arith, t .loop-test .taken, t .before .before .before .pre .0)
 
 loop-again : tie.Need-loop-again Inv-loop μ-loop
+unfolding setting
 loop-again c =
     let t = c .before .before .before .before in
-    (omega arith, expression-turn 0 (λ i. setting (getD (t .before .before .before .args .t3) i 0)) (t .before .loop .inv .1) (c .before .before .put-setting .ensures))
+    (omega arith, expression-turn 0 (λ i. setting (getD (t .before .before .before .args .t3) i 0) i) (t .before .loop .inv .1) (c .before .before .put-setting .ensures))
 
 same-length : tie.Need-same-length Inv-loop μ-loop
 same-length c = same (c .before .loop .inv .1)

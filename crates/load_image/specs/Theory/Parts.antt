@@ -26,12 +26,12 @@ tabulate-append n (suc m) f =
     rw (e, tabulate-append n m f) (append-assoc (tabulate n f) (tabulate m (λ i. f (n + i))) (f (n + m) ∷ []))
 
 -- the settings, then the bays' threads
-pub starting-parts : (s : List ℕ) → tabulate (starting-names s) (starting-at s) ≡ tabulate (bays s) (λ k. setting (starting-num s k)) ++ tabulate (bays s) (bay-thread s)
+pub starting-parts : (s : List ℕ) → tabulate (starting-names s) (starting-at s) ≡ tabulate (bays s) (λ k. setting (starting-num s k) k) ++ tabulate (bays s) (bay-thread s)
 unfolding starting-at
 starting-parts s =
     tabulate-append (bays s) (bays s) (starting-at s)
     ∙ rw (
-      tabulate-same (bays s) (starting-at s) (λ k. setting (starting-num s k)) (λ k l. rw (ltb-complete k (bays s) l) refl),
+      tabulate-same (bays s) (starting-at s) (λ k. setting (starting-num s k) k) (λ k l. rw (ltb-complete k (bays s) l) refl),
       tabulate-same (bays s) (λ i. starting-at s (bays s + i)) (bay-thread s) (λ k l. let e : bays s + k - bays s ≡ k = omega arith in rw (ltb-not (bays s + k) (bays s) (omega arith), e) refl),
     ) refl
 

@@ -5,11 +5,9 @@ use mathlib.Core.List.{List, []}
 use Prim.Native.Nat.{ℕ, _≤_}
 use lib.ListN.{length}
 use Rattle.calculus.specs.Bytes.{Bytes}
-use Rattle.calculus.specs.Limits.{max-image-length}
-use Rattle.calculus.specs.Syntax.{EachAll}
-use Rattle.calculus.specs.Image.{ImageRule, Writable}
+use Rattle.calculus.specs.Limits.{max-bays, max-image-length}
 use Rattle.calculus.specs.Theory.Claim.{image-loaded}
-use Rattle.calculus.specs.Theory.Images.{image-fits}
+use Rattle.calculus.specs.Theory.Images.{Kept, image-fits, kept-more}
 use Rattle.recipe_file.specs.FileRule.{FileRule}
 use Rattle.recipe_file.specs.Starting.{starting-nums}
 use Rattle.recipe_table.specs.Entries.{type-table}
@@ -30,14 +28,14 @@ module _ (s : List ℕ) (b : Bytes s) (accepted : refusal s ≡ 0) where
   laid = says .laid
 
   -- document 01, "The image": what is loaded keeps every rule and limit
-  rules : ImageRule (starting-state s .config) × EachAll Writable (starting-state s .config)
-  rules = image-loaded (admitted says) []
+  pub starting-kept : Kept max-bays (starting-state s .owned)
+  starting-kept = kept-more (admitted says .bays) (image-loaded (admitted says) [])
 
   pub starting-stands : image-stands (starting-image s) ≡ true
   unfolding starting-image
-  starting-stands = image-written (starting-state s .config) (rules .0) (rules .1)
+  starting-stands = image-written (starting-state s .owned) starting-kept
 
   -- and fits a buffer that is long enough for any image
   pub starting-fits : length (starting-image s) ≤ max-image-length
   unfolding starting-image
-  starting-fits = rw (length-image-of (starting-state s .config)) (image-fits (starting-state s .config) (rules .0 .limits))
+  starting-fits = rw (length-image-of (starting-state s .owned)) (image-fits (starting-state s .owned .config) (starting-kept .keeps .limits))

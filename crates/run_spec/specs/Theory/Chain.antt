@@ -33,27 +33,27 @@ turn-nobody image next e = search-nobody image false (going-round (names image) 
 
 -- the turn of thread x in a state
 abbrev pub turn-in : State → ℕ → ℕ → Turn
-turn-in s next x = record { image = image-of (s .config); next = next; thread = x }
+turn-in s next x = record { image = image-of (s .owned); next = next; thread = x }
 
 -- a course of up to k turns from s, the first of which looks from `next` on: every state is reached, and there is no other end
 pub data Chain (τ : TypeNumbers) : ℕ → ℕ → State → Course → Type 0 where
-  all-taken : {next : ℕ} {s : State} → Reached τ s → Chain τ zero next s (stopped (image-of (s .config)) all-turns)
-  nobody-left : {k next : ℕ} {s : State} {lacked : Bool} → Reached τ s → Nobody (image-of (s .config)) false (going-round (names (image-of (s .config))) next) lacked →
-      Chain τ (suc k) next s (stopped (image-of (s .config)) (cond lacked no-room idle))
-  one-turn : {k next : ℕ} {s : State} {c : Course} {x : ℕ} {image′ : List ℕ} → Reached τ s → First (image-of (s .config)) (going-round (names (image-of (s .config))) next) x image′ →
+  all-taken : {next : ℕ} {s : State} → Reached τ s → Chain τ zero next s (stopped (image-of (s .owned)) all-turns)
+  nobody-left : {k next : ℕ} {s : State} {lacked : Bool} → Reached τ s → Nobody (image-of (s .owned)) false (going-round (names (image-of (s .owned))) next) lacked →
+      Chain τ (suc k) next s (stopped (image-of (s .owned)) (cond lacked no-room idle))
+  one-turn : {k next : ℕ} {s : State} {c : Course} {x : ℕ} {image′ : List ℕ} → Reached τ s → First (image-of (s .owned)) (going-round (names (image-of (s .owned))) next) x image′ →
       Chain τ k (one-after x) (state-after τ s (stepping x)) c → Chain τ (suc k) next s (after-turn (turn-in s next x) c)
 
-pub chain-of : {τ : TypeNumbers} (k next : ℕ) (s : State) → Reached τ s → Chain τ k next s (take-turns k next (image-of (s .config)))
+pub chain-of : {τ : TypeNumbers} (k next : ℕ) (s : State) → Reached τ s → Chain τ k next s (take-turns k next (image-of (s .owned)))
 unfolding take-turns turning
 chain-of zero next s r = all-taken r
-chain-of {τ} (suc k) next s r = go (search-from (image-of (s .config)) next) refl (chain-of k)
+chain-of {τ} (suc k) next s r = go (search-from (image-of (s .owned)) next) refl (chain-of k)
   where
-    go : (q : Search) → search-from (image-of (s .config)) next ≡ q → ((next : ℕ) (s : State) → Reached τ s → Chain τ k next s (take-turns k next (image-of (s .config)))) →
-        Chain τ (suc k) next s (turning (image-of (s .config)) next q (take-turns k))
+    go : (q : Search) → search-from (image-of (s .owned)) next ≡ q → ((next : ℕ) (s : State) → Reached τ s → Chain τ k next s (take-turns k next (image-of (s .owned)))) →
+        Chain τ (suc k) next s (turning (image-of (s .owned)) next q (take-turns k))
     go (found x image′) e ih =
-        let f = turn-first (image-of (s .config)) next e in
+        let f = turn-first (image-of (s .owned)) next e in
         one-turn r f (subst⁻¹ (λ (i : List ℕ). Chain τ k (one-after x) (state-after τ s (stepping x)) (take-turns k (one-after x) i)) (goes-on r x (f .0) max-image-length (omega arith)) (ih (one-after x) (state-after τ s (stepping x)) (reached-after r (stepping x))))
-    go (nobody lacked) e ih = nobody-left r (turn-nobody (image-of (s .config)) next e)
+    go (nobody lacked) e ih = nobody-left r (turn-nobody (image-of (s .owned)) next e)
     go (met n) e ih = absurd (never-met r next n e)
 
 -- no number ends it
@@ -64,7 +64,7 @@ never-refused (nobody-left {lacked = false} r f) n e = clash (cc)
 never-refused (one-turn r f t) n e = never-refused t n e
 
 -- the first turn is handed the image of the first state, and looks from `next` on
-pub first-turn : {τ : TypeNumbers} {k next : ℕ} {s : State} {c : Course} → Chain τ k next s c → (t : Turn) → at (c .turns) 0 ≡ some t → (t .image ≡ image-of (s .config)) × (t .next ≡ next)
+pub first-turn : {τ : TypeNumbers} {k next : ℕ} {s : State} {c : Course} → Chain τ k next s c → (t : Turn) → at (c .turns) 0 ≡ some t → (t .image ≡ image-of (s .owned)) × (t .next ≡ next)
 first-turn (all-taken r) t h = absurd (clash (cc))
 first-turn (nobody-left r f) t h = absurd (clash (cc))
 first-turn {next = next} {s = s} (one-turn {x = x} r f c) t h = let e : turn-in s next x ≡ t = cc in rw (← e) (refl, refl)

@@ -56,7 +56,7 @@ module _ (m next x y : ℕ) (few : m ≤ max-names) (begin : next ≤ m) (x-ther
       go (no yn) (no xn) (no xy) = omega (arith, ahead-on next x (omega arith), ahead-on (y + 1) x (omega arith))
 
 -- the thread that is stepped is a name of the image
-pub goes-below : {τ : TypeNumbers} {s : State} → Reached τ s → (y : ℕ) {image′ : List ℕ} → look (image-of (s .config)) y ≡ goes image′ → y < length (s .config)
+pub goes-below : {τ : TypeNumbers} {s : State} → Reached τ s → (y : ℕ) {image′ : List ℕ} → look (image-of (s .owned)) y ≡ goes image′ → y < length (s .owned .config)
 goes-below r y g = not-resting r y (λ q. clash (cc))
 
 -- a turn of a stretch: it steps another than x, and x goes if it comes round
@@ -73,7 +73,7 @@ none-of x zero w o = omega arith
 none-of x (suc n) w o = let (t, e, f) = o 0 (omega arith) in absurd (clash (cc))
 
 -- a stretch that begins with the first turn is not longer than x is ahead
-others-few : {τ : TypeNumbers} {k next : ℕ} {s : State} {c : Course} → Chain τ k next s c → next ≤ length (s .config) → (x : ℕ) → x < length (s .config) →
+others-few : {τ : TypeNumbers} {k next : ℕ} {s : State} {c : Course} → Chain τ k next s c → next ≤ length (s .owned .config) → (x : ℕ) → x < length (s .owned .config) →
     (n : ℕ) → Others (c .turns) x n → n ≤ ahead next x
 unfolding one-after
 others-few {next = next} (all-taken r) l x there n o = none-of x n (ahead next x) o
@@ -85,8 +85,8 @@ others-few {next = next} {s = s} (one-turn {x = y} r (g, only) c) l x there (suc
     let (not-x, comes) : Other (turn-in s next y) x = rw (← same) at other in
     let m = reached-names r in
     let below = goes-below r y g in
-    let missed : ¬ In x (up-to y (going-round (names (image-of (s .config))) next)) = λ i. not-x (sym (only x i (goes-iff (image-of (s .config)) x .1 (comes i)))) in
-    let near = nearer (names (image-of (s .config))) next x y (omega (arith, reached-rules r .limits .few-names)) (omega arith) (omega arith) (omega arith) not-x missed in
+    let missed : ¬ In x (up-to y (going-round (names (image-of (s .owned))) next)) = λ i. not-x (sym (only x i (goes-iff (image-of (s .owned)) x .1 (comes i)))) in
+    let near = nearer (names (image-of (s .owned))) next x y (omega (arith, reached-rules r .limits .few-names)) (omega arith) (omega arith) (omega arith) not-x missed in
     let more = grows r y g max-image-length (omega arith) in
     let rest = others-few c (omega arith) x (omega arith) n (λ j b. o (suc j) (omega arith)) in
     omega arith
@@ -100,19 +100,19 @@ later : {t : Turn} {ts : List Turn} {x i n : ℕ} → Sees (t ∷ ts) x (suc i) 
 later {t = t₀} {ts = ts} {i = i} z = record { there = z .there; others = λ j l. let (t, h, f) = z .others j l in (t, ap (at (t₀ ∷ ts)) (sym (suc-add i j)) ∙ h, f) }
 
 -- one that begins with the first turn
-module _ {τ : TypeNumbers} {k next : ℕ} {s : State} {c : Course} (h : Chain τ k next s c) (r : Reached τ s) (l : next ≤ length (s .config)) (x : ℕ) where
+module _ {τ : TypeNumbers} {k next : ℕ} {s : State} {c : Course} (h : Chain τ k next s c) (r : Reached τ s) (l : next ≤ length (s .owned .config)) (x : ℕ) where
   fair-now : (n : ℕ) → Sees (c .turns) x 0 n → n < max-names
   fair-now zero z = omega arith
   fair-now (suc n) z =
       let (t, e, f) = z .others 0 (omega arith) in
-      let there : x < length (s .config) = omega (arith, z .there t e, ap names (first-turn h t e .0), reached-names r) in
+      let there : x < length (s .owned .config) = omega (arith, z .there t e, ap names (first-turn h t e .0), reached-names r) in
       omega (
         arith,
         ahead-few next x (omega (arith, reached-rules r .limits .few-names)),
         others-few h l x there (suc n) (λ j b. let (u, g, w) = z .others j b in (u, ap (at (c .turns)) (sym (zero-add j)) ∙ g, w)),
       )
 
-pub fair-from : {τ : TypeNumbers} {k next : ℕ} {s : State} {c : Course} → Chain τ k next s c → next ≤ length (s .config) → (x i n : ℕ) → Sees (c .turns) x i n → n < max-names
+pub fair-from : {τ : TypeNumbers} {k next : ℕ} {s : State} {c : Course} → Chain τ k next s c → next ≤ length (s .owned .config) → (x i n : ℕ) → Sees (c .turns) x i n → n < max-names
 unfolding one-after
 fair-from (all-taken r) l x i n z = no-stretch x i n z
 fair-from (nobody-left r f) l x i n z = no-stretch x i n z

@@ -7,7 +7,7 @@ use Prim.Native.Nat.{ℕ, _≤_}
 use native.Mathlib.Omega.{arith}
 use lib.Dec.{eqb}
 use lib.ListN.{length, length-replicate, replicate}
-use Rattle.calculus.specs.Syntax.{Config}
+use Rattle.calculus.specs.Owners.{Owned}
 use Rattle.calculus.specs.Limits.{max-image-length}
 use Rattle.calculus.specs.Causes.{no-thread-cause, room-cause}
 use Rattle.calculus.specs.Reply.{Reply, moved, waits, finished, refuses}
@@ -26,9 +26,9 @@ unfolding look-of
 no-thread-rests = refl
 
 -- what looks say of the replies
-pub look-goes : (q : Reply) {image′ : List ℕ} → look-of q ≡ goes image′ → (k : ℕ) × (C′ : Config) × (q ≡ moved k C′) × (image′ ≡ image-of C′)
+pub look-goes : (q : Reply) {image′ : List ℕ} → look-of q ≡ goes image′ → (k : ℕ) × (I′ : Owned) × (q ≡ moved k I′) × (image′ ≡ image-of I′)
 unfolding look-of
-look-goes (moved k C′) e = (k, C′, refl, cc)
+look-goes (moved k I′) e = (k, I′, refl, cc)
 look-goes (waits y) e = absurd (clash (cc))
 look-goes finished e = absurd (clash (cc))
 look-goes (refuses n) {image′} e = absurd (go (eqb n room-cause) (eqb n no-thread-cause) e)
@@ -40,7 +40,7 @@ look-goes (refuses n) {image′} e = absurd (go (eqb n room-cause) (eqb n no-thr
 
 pub look-lacks : (q : Reply) → look-of q ≡ lacks-room → q ≡ refuses room-cause
 unfolding look-of
-look-lacks (moved k C′) e = absurd (clash (cc))
+look-lacks (moved k I′) e = absurd (clash (cc))
 look-lacks (waits y) e = absurd (clash (cc))
 look-lacks finished e = absurd (clash (cc))
 look-lacks (refuses n) e = go (eqb n room-cause) (eqb n no-thread-cause) refl e
@@ -68,12 +68,12 @@ module _ (s : List ℕ) (x : ℕ) where
   goes-iff = (there, back)
     where
       there : GoesAt s x → CanStep s x
-      there (image′, g) = let (k, C′, e, i) = look-goes (step-reply s x max-image-length) g in (k, length (image-of C′), λ out l. long-outcome s x out l ∙ ap outcome-of-reply e)
+      there (image′, g) = let (k, I′, e, i) = look-goes (step-reply s x max-image-length) g in (k, length (image-of I′), λ out l. long-outcome s x out l ∙ ap outcome-of-reply e)
 
       back : CanStep s x → GoesAt s x
       back (rule, size, f) =
-          let (C′, e) = answered-rule (step-reply s x max-image-length) (answered ∙ f long-out is-long) in
-          (image-of C′, ap look-of e)
+          let (I′, e) = answered-rule (step-reply s x max-image-length) (answered ∙ f long-out is-long) in
+          (image-of I′, ap look-of e)
 
   -- "whether one lacked room"
   pub lacks-iff : (look s x ≡ lacks-room) ↔ OutOfRoom s x

@@ -19,25 +19,25 @@ use Rattle.run_spec.specs.Theory.ReachedLooks.{not-resting}
 use Rattle.run_spec.specs.Theory.Chain.{Chain, all-taken, nobody-left, one-turn}
 
 -- nobody goes, of all names
-module _ {τ : TypeNumbers} {s : State} (r : Reached τ s) (next : ℕ) {lacked : Bool} (n : Nobody (image-of (s .config)) false (going-round (names (image-of (s .config))) next) lacked) where
+module _ {τ : TypeNumbers} {s : State} (r : Reached τ s) (next : ℕ) {lacked : Bool} (n : Nobody (image-of (s .owned)) false (going-round (names (image-of (s .owned))) next) lacked) where
   -- a name that does not rest comes round
-  round : (x : ℕ) → ¬ (look (image-of (s .config)) x ≡ rests) → In x (going-round (names (image-of (s .config))) next)
-  round x f = all-round (names (image-of (s .config))) next x (omega (arith, not-resting r x f, reached-names r))
+  round : (x : ℕ) → ¬ (look (image-of (s .owned)) x ≡ rests) → In x (going-round (names (image-of (s .owned))) next)
+  round x f = all-round (names (image-of (s .owned))) next x (omega (arith, not-resting r x f, reached-names r))
 
-  nobody-goes : (x : ℕ) → ¬ CanStep (image-of (s .config)) x
+  nobody-goes : (x : ℕ) → ¬ CanStep (image-of (s .owned)) x
   nobody-goes x g =
-      let (image′, e) = goes-iff (image-of (s .config)) x .1 g in
+      let (image′, e) = goes-iff (image-of (s .owned)) x .1 g in
       n .none x (round x (λ q. clash (cc))) (image′, e)
 
-  one-lacks : (lacked ≡ true) ↔ ((x : ℕ) × OutOfRoom (image-of (s .config)) x)
+  one-lacks : (lacked ≡ true) ↔ ((x : ℕ) × OutOfRoom (image-of (s .owned)) x)
   one-lacks = (there, back)
     where
-      there : lacked ≡ true → (x : ℕ) × OutOfRoom (image-of (s .config)) x
-      there t = elim (n .one-lacked t) [ inl f ↦ absurd (false≢true f) | inr (z, e) ↦ (z, lacks-iff (image-of (s .config)) z .0 e) ]
+      there : lacked ≡ true → (x : ℕ) × OutOfRoom (image-of (s .owned)) x
+      there t = elim (n .one-lacked t) [ inl f ↦ absurd (false≢true f) | inr (z, e) ↦ (z, lacks-iff (image-of (s .owned)) z .0 e) ]
 
-      back : (x : ℕ) × OutOfRoom (image-of (s .config)) x → lacked ≡ true
+      back : (x : ℕ) × OutOfRoom (image-of (s .owned)) x → lacked ≡ true
       back (x, f) =
-          let g = lacks-iff (image-of (s .config)) x .1 f in
+          let g = lacks-iff (image-of (s .owned)) x .1 f in
           n .lacked-here x (round x (λ q. clash (cc))) g
 
 -- what it says then

@@ -3,14 +3,15 @@ use mathlib.Core.Path.{_∙_, _≡_, sym}
 use mathlib.Core.Option.{some}
 use Prim.Native.Nat.{ℕ}
 use native.Mathlib.Omega.{arith}
-use Rattle.calculus.specs.Syntax.{name, is-name, list, open-for, pair, Config, at, EachAll}
+use Rattle.calculus.specs.Syntax.{name, is-name, list, open-for, pair, Config, at}
 use Rattle.calculus.specs.Reduction.{HANDLE-BIND, Rule as RuleName, number, Reduces, beta, thread-new, future-deref, future-deref-exch, future-deref-case, handle-new, handle-bind, cell-new, cell-exch, case-both}
 use Rattle.calculus.specs.Step.{application}
 use Rattle.calculus.specs.Typing.{TypeNumbers}
 use Rattle.calculus.specs.NewTypes.{function-at}
-use Rattle.calculus.specs.Image.{ImageRule, Writable}
+use Rattle.calculus.specs.Limits.{max-bays}
 use Rattle.calculus.specs.State.{State}
 use Rattle.calculus.specs.Theory.ConfigRuns.{config-reply}
+use Rattle.calculus.specs.Theory.Images.{Kept}
 use Rattle.calculus.specs.Theory.Step.{function-meet}
 use Rattle.calculus.specs.Theory.Replies.{moved-means}
 use Rattle.image.specs.Configuration.{image-of}
@@ -34,14 +35,14 @@ bound-there (future-deref-case F s y w e ww h g) q = absurd (omega arith)
 bound-there (case-both F pair t v₁ v₂ e w w′ h) q = absurd (omega arith)
 bound-there (case-both F list t v₁ v₂ e w w′ h) q = absurd (omega arith)
 
-module _ (τ : TypeNumbers) (s : State) (keeps : ImageRule (s .config)) (writable : EachAll Writable (s .config)) (c : Call) where
+module _ (τ : TypeNumbers) (s : State) (k : Kept max-bays (s .owned)) (c : Call) where
   abbrev handed : Step
-  handed = record { image = image-of (s .config); types = s .names; call = c }
+  handed = record { image = image-of (s .owned); types = s .names; call = c }
 
   pub rule-5 : (size : ℕ) → answer handed ≡ Rule (number HANDLE-BIND) size → (z y : ℕ) × Applies handed z × Binds handed y
   rule-5 size e =
-      let (C′, g) = answered-rule (config-reply (s .config) (call-of c)) (sym (answers τ s keeps writable c) ∙ e) in
-      let (r, q, d, w) = moved-means (s .config) (call-of c) g in
+      let (I′, g) = answered-rule (config-reply (s .owned) (call-of c)) (sym (answers τ s k c) ∙ e) in
+      let (r, q, d, w, o) = moved-means (s .owned) (call-of c) g in
       let (z, y, f, h) = bound-there d q in
-      let reads = read-again (s .config) keeps writable in
+      let reads = read-again (s .owned) k in
       (z, y, (size, e, rw reads f), (z, (size, e, rw reads f), rw reads h))

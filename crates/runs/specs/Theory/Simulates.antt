@@ -3,28 +3,24 @@ use mathlib.Core.Path.{_≡_, refl}
 use mathlib.Core.Option.{some}
 use mathlib.Core.List.{List, [], _∷_, map}
 use Prim.Native.Nat.{suc, zero, ℕ}
-use Rattle.calculus.specs.Syntax.{Config, at, EachAll}
+use Rattle.calculus.specs.Limits.{max-bays}
+use Rattle.calculus.specs.Syntax.{at}
 use Rattle.calculus.specs.Typing.{TypeNumbers}
-use Rattle.calculus.specs.Image.{ImageRule, Writable}
 use Rattle.calculus.specs.Theory.ConfigRuns as calculus
 use Rattle.calculus.specs.State.{State}
 use Rattle.calculus.specs.Theory.ConfigRuns.{state-after}
+use Rattle.calculus.specs.Theory.Images.{Kept}
 use Rattle.calculus.specs.Theory.Tests.{clash}
 use Rattle.image.specs.Configuration.{image-of}
 use Rattle.runs.specs.Run.{Call, Step, steps}
 use Rattle.runs.specs.Theory.Steps.{call-of, leaves-image, leaves-types}
 
--- a configuration whose image can be read again
-pub record Kept (C : Config) : Type 0 where
-  pub keeps : ImageRule C
-  pub writable : EachAll Writable C
-
--- every configuration that a step of a run from s is handed or leaves
+-- every image that a step of a run from s is handed or leaves keeps its rules and can be written
 abbrev pub AllKept : TypeNumbers → State → Type 0
 AllKept τ s = (run : List calculus.ConfigCall) (i : ℕ) (n : calculus.ConfigStep) → at (calculus.config-steps τ s run) i ≡ some n →
-    Kept (n .before .config) × Kept (state-after τ (n .before) (n .call) .config)
+    Kept max-bays (n .before .owned) × Kept max-bays (state-after τ (n .before) (n .call) .owned)
 
-pub kept-first : (τ : TypeNumbers) (s : State) (a : calculus.ConfigCall) → AllKept τ s → Kept (s .config) × Kept (state-after τ s a .config)
+pub kept-first : (τ : TypeNumbers) (s : State) (a : calculus.ConfigCall) → AllKept τ s → Kept max-bays (s .owned) × Kept max-bays (state-after τ s a .owned)
 unfolding calculus.config-steps
 kept-first τ s a k = k (a ∷ []) 0 (record { before = s; call = a }) refl
 
@@ -34,20 +30,20 @@ kept-after τ s a k run i n h = k (a ∷ run) (suc i) n h
 
 -- the step of the calculus's run at the same place
 pub data Simulates (τ : TypeNumbers) : Step → calculus.ConfigStep → Type 0 where
-  same : (s : State) (c : Call) → Kept (s .config) → Kept (state-after τ s (call-of c) .config) →
-      Simulates τ (record { image = image-of (s .config); types = s .names; call = c }) (record { before = s; call = call-of c })
+  same : (s : State) (c : Call) → Kept max-bays (s .owned) → Kept max-bays (state-after τ s (call-of c) .owned) →
+      Simulates τ (record { image = image-of (s .owned); types = s .names; call = c }) (record { before = s; call = call-of c })
 
 pub simulates : (τ : TypeNumbers) (s : State) → AllKept τ s → (calls : List Call) (i : ℕ) (n : Step) →
-    at (steps τ (image-of (s .config)) (s .names) calls) i ≡ some n →
+    at (steps τ (image-of (s .owned)) (s .names) calls) i ≡ some n →
     (m : calculus.ConfigStep) × (at (calculus.config-steps τ s (map call-of calls)) i ≡ some m) × Simulates τ n m
 unfolding steps calculus.config-steps
 simulates τ s k [] i n h = absurd (clash (cc))
 simulates τ s k (c ∷ calls) zero n h =
-    let e : record { image = image-of (s .config); types = s .names; call = c } ≡ n = cc in
+    let e : record { image = image-of (s .owned); types = s .names; call = c } ≡ n = cc in
     let (f, g) = kept-first τ s (call-of c) k in
     (record { before = s; call = call-of c }, refl, rw (← e) (same s c f g))
 simulates τ s k (c ∷ calls) (suc i) n h =
     let (f, g) = kept-first τ s (call-of c) k in
-    let p = leaves-image τ s (f .keeps) (f .writable) c in
-    let q = leaves-types τ s (f .keeps) (f .writable) c in
+    let p = leaves-image τ s f c in
+    let q = leaves-types τ s f c in
     simulates τ (state-after τ s (call-of c)) (kept-after τ s (call-of c) k) calls i n (rw (p, q) at h)

@@ -1,24 +1,29 @@
 -- A step on the image of a configuration is the calculus's step of that configuration.
 use mathlib.Core.Path.{_∙_, _≡_, ap, refl}
 use mathlib.Core.Logic.{_↔_}
+use mathlib.Core.Bool.{cond}
 use mathlib.Core.Option.{some}
 use mathlib.Core.List.{List, [], _∷_, _++_, map}
 use Prim.Native.Nat.{ℕ, zero, suc, _≤_}
+use lib.Dec.{ltb}
 use lib.ListN.{drop, length, take}
 use lib.Seq.{take-append-seam}
-use Rattle.calculus.specs.Syntax.{Config, EachAll, at}
-use Rattle.calculus.specs.Limits.{max-image-length}
+use Rattle.calculus.specs.Syntax.{Config, at}
+use Rattle.calculus.specs.Owners.{Owned}
+use Rattle.calculus.specs.Limits.{max-bays, max-image-length}
+use Rattle.calculus.specs.Causes.{buffer-cause}
 use Rattle.calculus.specs.Typing.{TypeNumbers}
 use Rattle.calculus.specs.NewTypes.{new-types}
-use Rattle.calculus.specs.Image.{ImageRule, Writable}
+use Rattle.calculus.specs.Image.{within-limits}
 use Rattle.calculus.specs.Theory.ConfigRuns as calculus
 use Rattle.calculus.specs.State.{State}
-use Rattle.calculus.specs.Reply.{Reply, moved, waits, finished, refuses}
+use Rattle.calculus.specs.Reply.{Reply, moved, waits, finished, refuses, reply-to}
 use Rattle.calculus.specs.Theory.ConfigRuns.{state-left, config-reply}
 use Rattle.calculus.specs.Theory.Tests.{clash}
 use Rattle.calculus.specs.Theory.ImageTest.{image-test-iff}
+use Rattle.calculus.specs.Theory.Images.{Kept}
 use Rattle.image.specs.Configuration.{image-of, config-of}
-use Rattle.image.specs.Theory.Exactly.{read-again, image-written}
+use Rattle.image.specs.Theory.Exactly.{read-again, owned-again, image-written}
 use Rattle.step_spec.specs.declared.Outcome.the-variants.{Rule, Refused}
 use Rattle.step_spec.specs.Stepping.{step-reply, outcome-of-reply, out-after-reply, outcome-of, out-after-step}
 use Rattle.runs.specs.Run.{Call, Follows, Step, answer, left, types-left, Goes, renewed}
@@ -28,49 +33,51 @@ abbrev pub call-of : Call → calculus.ConfigCall
 call-of c = record { thread = c .thread; buffer = length (c .out) }
 
 -- what the answers say
-pub answered-rule : (q : Reply) {rule size : ℕ} → outcome-of-reply q ≡ Rule rule size → (C′ : Config) × (q ≡ moved rule C′)
+pub answered-rule : (q : Reply) {rule size : ℕ} → outcome-of-reply q ≡ Rule rule size → (I′ : Owned) × (q ≡ moved rule I′)
 unfolding outcome-of-reply
-answered-rule (moved rule C′) e = (C′, cc)
+answered-rule (moved rule I′) e = (I′, cc)
 answered-rule (waits y) e = absurd (clash (cc))
 answered-rule finished e = absurd (clash (cc))
 answered-rule (refuses number) e = absurd (clash (cc))
 
 pub answered-refused : (q : Reply) (number : ℕ) → (outcome-of-reply q ≡ Refused number) ↔ (q ≡ refuses number)
 unfolding outcome-of-reply
-answered-refused (moved rule C′) number = (λ e. absurd (clash (cc)), λ e. absurd (clash (cc)))
+answered-refused (moved rule I′) number = (λ e. absurd (clash (cc)), λ e. absurd (clash (cc)))
 answered-refused (waits y) number = (λ e. absurd (clash (cc)), λ e. absurd (clash (cc)))
 answered-refused finished number = (λ e. absurd (clash (cc)), λ e. absurd (clash (cc)))
 answered-refused (refuses k) number = (λ e. cc, λ e. cc)
 
 pub answered-goes : (q : Reply) → calculus.ReplyGoes q → Goes (outcome-of-reply q)
 unfolding outcome-of-reply
-answered-goes (moved rule C′) g = tt
+answered-goes (moved rule I′) g = tt
 answered-goes (waits y) g = tt
 answered-goes finished g = tt
 answered-goes (refuses number) g = g
 
-module _ (τ : TypeNumbers) (s : State) (keeps : ImageRule (s .config)) (writable : EachAll Writable (s .config)) (c : Call) where
+module _ (τ : TypeNumbers) (s : State) (k : Kept max-bays (s .owned)) (c : Call) where
   abbrev handed : Step
-  handed = record { image = image-of (s .config); types = s .names; call = c }
+  handed = record { image = image-of (s .owned); types = s .names; call = c }
 
-  reads : config-of (image-of (s .config)) ≡ s .config
-  reads = read-again (s .config) keeps writable
+  reads : config-of (image-of (s .owned)) ≡ s .owned .config
+  reads = read-again (s .owned) k
 
-  pub replies : step-reply (image-of (s .config)) (c .thread) (length (c .out)) ≡ config-reply (s .config) (call-of c)
+  pub replies : step-reply (image-of (s .owned)) (c .thread) (length (c .out)) ≡ config-reply (s .owned) (call-of c)
   unfolding step-reply config-reply
-  replies = rw (image-written (s .config) keeps writable, reads, image-test-iff (s .config) .1 keeps) refl
+  replies =
+      rw (image-written (s .owned) k, image-test-iff (s .owned .config) .1 (k .keeps))
+      (ap (λ (J : Owned). cond (ltb (length (c .out)) max-image-length) (refuses buffer-cause) (reply-to within-limits J (c .thread))) (owned-again (s .owned) k))
 
-  pub answers : answer handed ≡ outcome-of-reply (config-reply (s .config) (call-of c))
+  pub answers : answer handed ≡ outcome-of-reply (config-reply (s .owned) (call-of c))
   unfolding outcome-of
   answers = ap outcome-of-reply replies
 
   -- it leaves the image of what the calculus's step leaves
-  pub leaves-image : left handed ≡ image-of (calculus.state-after τ s (call-of c) .config)
+  pub leaves-image : left handed ≡ image-of (calculus.state-after τ s (call-of c) .owned)
   unfolding outcome-of out-after-step renewed outcome-of-reply out-after-reply state-left
-  leaves-image = ap (λ (q : Reply). renewed (outcome-of-reply q) (λ size. take size (out-after-reply q (c .out))) (image-of (s .config))) replies ∙ go (config-reply (s .config) (call-of c))
+  leaves-image = ap (λ (q : Reply). renewed (outcome-of-reply q) (λ size. take size (out-after-reply q (c .out))) (image-of (s .owned))) replies ∙ go (config-reply (s .owned) (call-of c))
     where
-      go : (q : Reply) → renewed (outcome-of-reply q) (λ size. take size (out-after-reply q (c .out))) (image-of (s .config)) ≡ image-of (state-left τ s (c .thread) q .config)
-      go (moved rule C′) = take-append-seam (image-of C′) (drop (length (image-of C′)) (c .out))
+      go : (q : Reply) → renewed (outcome-of-reply q) (λ size. take size (out-after-reply q (c .out))) (image-of (s .owned)) ≡ image-of (state-left τ s (c .thread) q .owned)
+      go (moved rule I′) = take-append-seam (image-of I′) (drop (length (image-of I′)) (c .out))
       go (waits y) = refl
       go finished = refl
       go (refuses number) = refl
@@ -79,12 +86,12 @@ module _ (τ : TypeNumbers) (s : State) (keeps : ImageRule (s .config)) (writabl
   pub leaves-types : types-left τ handed ≡ calculus.state-after τ s (call-of c) .names
   unfolding outcome-of renewed outcome-of-reply state-left
   leaves-types =
-      ap (λ (q : Reply). renewed (outcome-of-reply q) (λ size. s .names ++ new-types τ (config-of (image-of (s .config))) (c .thread)) (s .names)) replies
-      ∙ ap (λ (C : Config). renewed (outcome-of-reply (config-reply (s .config) (call-of c))) (λ size. s .names ++ new-types τ C (c .thread)) (s .names)) reads
-      ∙ go (config-reply (s .config) (call-of c))
+      ap (λ (q : Reply). renewed (outcome-of-reply q) (λ size. s .names ++ new-types τ (config-of (image-of (s .owned))) (c .thread)) (s .names)) replies
+      ∙ ap (λ (C : Config). renewed (outcome-of-reply (config-reply (s .owned) (call-of c))) (λ size. s .names ++ new-types τ C (c .thread)) (s .names)) reads
+      ∙ go (config-reply (s .owned) (call-of c))
     where
-      go : (q : Reply) → renewed (outcome-of-reply q) (λ size. s .names ++ new-types τ (s .config) (c .thread)) (s .names) ≡ state-left τ s (c .thread) q .names
-      go (moved rule C′) = refl
+      go : (q : Reply) → renewed (outcome-of-reply q) (λ size. s .names ++ new-types τ (s .owned .config) (c .thread)) (s .names) ≡ state-left τ s (c .thread) q .names
+      go (moved rule I′) = refl
       go (waits y) = refl
       go finished = refl
       go (refuses number) = refl

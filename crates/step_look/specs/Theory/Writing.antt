@@ -7,8 +7,11 @@ use native.Mathlib.Omega.{arith}
 use lib.ListN.{length}
 use Rattle.calculus.specs.Bytes.{Bytes}
 use Rattle.calculus.specs.Limits.{max-image-length}
+use Rattle.calculus.specs.Owners.{grown}
 use Rattle.calculus.specs.Theory.ImageTest.{limits-test-iff}
+use Rattle.image.specs.Configuration.{owned-of}
 use Rattle.image.specs.Stands.{image-stands}
+use Rattle.image.specs.Theory.Exactly.{has-owner}
 use Rattle.image.specs.Theory.Lengths.{stands-length, within-length}
 use Rattle.image_check.specs.Theory.Whole.{whole-sound}
 use Rattle.step_rules.specs.declared.Step.{Step}
@@ -30,9 +33,10 @@ module _ {s : List ℕ} {x : ℕ} {step : Step} {after : Size} (g : Going s x st
       record {
         movable = c .movable;
         stands = c .stands;
+        owners = has-owner s b stands;
         short = c .short;
         few = omega (arith, S .named, limits-test-iff (S .outcome) .0 (g .fits) .few-names);
       }
 
   pub after-fits : length (image-after s step) ≤ max-image-length
-  after-fits = let S = g .stepped in rw (S .written) (within-length (S .outcome) (limits-test-iff (S .outcome) .0 (g .fits)))
+  after-fits = let S = g .stepped in rw (S .written) (within-length (grown (owned-of s) x (S .outcome)) (limits-test-iff (S .outcome) .0 (g .fits)))

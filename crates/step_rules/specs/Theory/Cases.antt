@@ -11,12 +11,12 @@ use Rattle.term.specs.Numbers.{value-of}
 use Rattle.term.specs.Reader.{read, read-term}
 use Rattle.term.specs.Expressions.{bytes, const-bytes, exp-of, leaf-exp, leaf-forms, term-of, two-exp, two-forms, both-tag, case-tag}
 use Rattle.image_layout.specs.Encoded.{expressions, head, heads, image-bytes}
-use Rattle.image_layout.specs.Slice.{companion-at, encoded-at, expression-at, kind-at, length-at, names, offset-at}
+use Rattle.image_layout.specs.Slice.{companion-at, encoded-at, expression-at, kind-at, length-at, names, offset-at, owner-at}
 use Rattle.step_rules.specs.declared.Move.{Move}
 use Rattle.step_rules.specs.declared.Move.the-variants.{Beta, ThreadNew, FutureDeref, HandleNew, HandleBind, CellNew, CellExch, CasePair, CaseList}
 use Rattle.step_rules.specs.declared.Step.{Step}
 use Rattle.step_rules.specs.Effects.{bytes-between, effect-of, taken-apart}
-use Rattle.step_rules.specs.Moves.{component-after, components-after, expression-after, from-name, image-after, look-up, names-after, nodes-after, other-after}
+use Rattle.step_rules.specs.Moves.{component-after, components-after, expression-after, from-name, image-after, look-up, names-after, nodes-after, other-after, owner-after}
 
 -- an image and its nodes, a step, and the image and its nodes after it
 record Row : Type 0 where
@@ -127,5 +127,5 @@ Hold [] = Unit {0}
 Hold (r ∷ rs) = ((image-after (r .before) (r .step) ≡ r .next) × (nodes-after (r .nodes-before) (r .before) (r .step) ≡ r .nodes-next)) × Hold rs
 
 pub cases : Hold rows
-unfolding image-after components-after component-after other-after look-up from-name expression-after effect-of taken-apart bytes-between names-after nodes-after tabulate image-bytes heads head expressions two-bytes word names kind-at companion-at offset-at length-at expression-at encoded-at bytes const-bytes substitute nodes term-of exp-of leaf-exp leaf-forms two-exp two-forms both-tag case-tag read-term read form-of forms value-of
+unfolding image-after components-after component-after other-after look-up from-name expression-after effect-of taken-apart bytes-between names-after nodes-after tabulate image-bytes heads head expressions two-bytes word names kind-at companion-at owner-at owner-after offset-at length-at expression-at encoded-at bytes const-bytes substitute nodes term-of exp-of leaf-exp leaf-forms two-exp two-forms both-tag case-tag read-term read form-of forms value-of
 cases = ((refl, refl), ((refl, refl), ((refl, refl), ((refl, refl), ((refl, refl), ((refl, refl), ((refl, refl), ((refl, refl), ((refl, refl), ((refl, refl), ((refl, refl), ((refl, refl), tt))))))))))))

@@ -1,37 +1,49 @@
 -- A configuration with one component changed or one more, as a table of components in bytes.
-use mathlib.Core.Path.{_∙_, _≡_, ap, refl, sym}
+use mathlib.Core.Path.{_∙_, _≡_, refl, sym}
+use mathlib.Core.Logic.{inl, inr}
 use mathlib.Core.Bool.{Bool, cond, false, true}
-use mathlib.Core.List.{List, [], _++_, _∷_, map}
+use mathlib.Core.Option.{some}
+use mathlib.Core.List.{[], _++_, _∷_}
 use Prim.Native.Nat.{ℕ, _+_, suc, zero}
+use native.Mathlib.Omega.{arith}
+use borrow.Author.Tests.{eq-eqb, ne-eqb}
 use lib.Dec.{eqb}
-use lib.ListN.{length, length-map, set}
-use Rattle.calculus.specs.Lists.{tabulate}
-use Rattle.calculus.specs.Syntax.{Component, Config}
-use Rattle.calculus.specs.Theory.Tests.{eqb-sound}
-use Rattle.calculus.specs.Theory.Tabulate.{length-tabulate, set-tabulate, tabulate-more}
+use lib.ListN.{length, length-append, length-set, set}
+use Rattle.calculus.specs.Syntax.{Component, Config, at}
+use Rattle.calculus.specs.Theory.Tests.{clash, eqb-sound}
+use Rattle.calculus.specs.Theory.Lists.{append-cases, at-bound, set-cases}
 use Rattle.image_layout.specs.Encoded.{Encoded}
 use Rattle.image.specs.Configuration.{encode}
-use Rattle.image.specs.Theory.Maps.{map-append}
 
--- the components of a configuration in bytes are the first n values of f
-pub record Table (C : Config) (n : ℕ) (f : ℕ → Encoded) : Type 0 where
-  pub is : map encode C ≡ tabulate n f
+-- the components of a configuration in bytes are the first n values of f, where `owner` says who owns each name
+pub record Table (owner : ℕ → ℕ) (C : Config) (n : ℕ) (f : ℕ → Encoded) : Type 0 where
+  pub size : length C ≡ n
+  pub each : (k : ℕ) (c : Component) → at C k ≡ some c → f k ≡ encode c (owner k)
 
-pub table-length : {C : Config} {n : ℕ} {f : ℕ → Encoded} → Table C n f → length C ≡ n
-table-length {C} {n} {f} t = sym (length-map C encode) ∙ ap length (t .is) ∙ length-tabulate n f
+module _ {owner : ℕ → ℕ} {C : Config} {n : ℕ} {f : ℕ → Encoded} where
+  -- one changed
+  pub table-set : (x : ℕ) (c : Component) → Table owner C n f → Table owner (set C x c) n (λ i. cond (eqb i x) (encode c (owner i)) (f i))
+  table-set x c t = record {
+    size = length-set C x c ∙ t .size;
+    each = λ k d h. elim (set-cases C x k c h) [
+      | inl p ↦ rw (eq-eqb k x (p .0), p .1) refl
+      | inr p ↦ rw (ne-eqb k x (p .0)) (t .each k d (p .1))
+    ];
+  }
 
-map-set : {A B : Type 0} (g : A → B) (l : List A) (x : ℕ) (a : A) → map g (set l x a) ≡ set (map g l) x (g a)
-map-set g [] x a = refl
-map-set g (b ∷ l) zero a = refl
-map-set g (b ∷ l) (suc x) a = ap (λ r. g b ∷ r) (map-set g l x a)
-
--- one changed
-pub table-set : {C : Config} {n : ℕ} {f : ℕ → Encoded} (x : ℕ) (c : Component) → Table C n f → Table (set C x c) n (λ i. cond (eqb i x) (encode c) (f i))
-table-set {C} {n} {f} x c t = record { is = map-set encode C x c ∙ ap (λ l. set l x (encode c)) (t .is) ∙ set-tabulate n x f (encode c) }
-
--- one more
-pub table-more : {C : Config} {n : ℕ} {f : ℕ → Encoded} (c : Component) → Table C n f → Table (C ++ (c ∷ [])) (n + 1) (λ i. cond (eqb i n) (encode c) (f i))
-table-more {C} {n} {f} c t = record { is = map-append encode C (c ∷ []) ∙ ap (λ l. l ++ (encode c ∷ [])) (t .is) ∙ tabulate-more n f (encode c) }
+  -- one more
+  pub table-more : (c : Component) → Table owner C n f → Table owner (C ++ (c ∷ [])) (n + 1) (λ i. cond (eqb i n) (encode c (owner i)) (f i))
+  table-more c t = record {
+    size = length-append C (c ∷ []) ∙ omega (arith, t .size);
+    each = λ k d h. elim (append-cases C (c ∷ []) k h) [
+      | inl p ↦ rw (ne-eqb k n (λ e. omega (arith, at-bound C k p, t .size))) (t .each k d p)
+      | inr p ↦ let (z, e) = only (p .0) (p .2) in rw (eq-eqb k n (omega (arith, p .1, z, t .size)), e) refl
+    ];
+  }
+    where
+      only : (i : ℕ) {d : Component} → at (c ∷ []) i ≡ some d → (i ≡ 0) × (d ≡ c)
+      only zero h = (refl, cc)
+      only (suc i) h = absurd (clash (cc))
 
 -- changes at different names do not meet
 pub swap : {A : Type 0} (k x y : ℕ) (a b c : A) → ¬ (x ≡ y) → cond (eqb k y) b (cond (eqb k x) a c) ≡ cond (eqb k x) a (cond (eqb k y) b c)

@@ -6,7 +6,7 @@ use mathlib.Core.List.{List}
 use Prim.Native.Nat.{ℕ, _<_, _≤_}
 use native.Mathlib.Decide.{decLt}
 use native.Mathlib.Omega.{arith}
-use Rattle.image.specs.Theory.Lengths.{length-config}
+use Rattle.image.specs.Theory.Exactly.{length-config}
 use Rattle.calculus.specs.Bytes.{Bytes}
 use Rattle.calculus.specs.Syntax.{Exp, at, thread-of, sum-in, on-thread}
 use Rattle.calculus.specs.Reduction.{Context, plug}

@@ -7,7 +7,7 @@ use Prim.Native.Nat.{ℕ, _+_, _≤_, _<_}
 use native.Mathlib.Omega.{arith}
 use lib.ListN.{drop, length, take, take-append-drop}
 use lib.Seq.{drop-drop}
-use Rattle.image.specs.Theory.Lengths.{length-config}
+use Rattle.image.specs.Theory.Exactly.{length-config}
 use Rattle.calculus.specs.Bytes.{Bytes}
 use Rattle.calculus.specs.Syntax.{Exp, Component, thread-of, holds, at}
 use Rattle.calculus.specs.Image.{ImageRule, size}
@@ -17,14 +17,13 @@ use Rattle.calculus.specs.Theory.ImageTest.{image-test-iff}
 use Rattle.term.specs.Expressions.{bytes, TermAt, FitsBytes}
 use Rattle.term.proofs.Sizes.{length-bytes}
 use Rattle.image_layout.specs.Encoded.{Encoded}
-use Rattle.image_layout.specs.Slice.{names, offset-at, length-at, expression-at, encoded-at}
-use Rattle.image_layout.specs.Theory.Slice.{encoded-there, encoded-expression}
+use Rattle.image_layout.specs.Slice.{names, owner-at, offset-at, length-at, expression-at}
+use Rattle.image_layout.specs.Theory.Slice.{encoded-expression}
 use Rattle.image_layout.specs.Layout.{heads-stand}
 use Rattle.image_layout.specs.Theory.Reading.{has-expression, expression-length}
 use Rattle.image.specs.Configuration.{encode, config-of}
 use Rattle.image.specs.Stands.{image-stands}
-use Rattle.image.specs.Theory.Maps.{at-map}
-use Rattle.image.specs.Theory.Exactly.{image-tested, written-back, config-fits}
+use Rattle.image.specs.Theory.Exactly.{image-tested, config-fits, encoded-is}
 
 -- an expression stands whole at a position, with so many bytes
 pub record Stands (s : List ℕ) (k : ℕ) (e : Exp) : Type 0 where
@@ -44,18 +43,11 @@ module _ (s : List ℕ) (b : Bytes s) (stands : image-stands s ≡ true) where
     pub below : k < names s
     below = omega (arith, at-bound (config-of s) k h, length-config s)
 
-    pub encoded-is : encode c ≡ encoded-at s k
-    encoded-is =
-        let p = at-map encode (config-of s) k h in
-        let q = ap (λ l. at l k) (written-back s b stands) in
-        let r = encoded-there s k below in
-        cc
-
     -- the expression of a component stands where its head says
-    pub expression-stands : (e : Exp) → encode c .expression ≡ bytes e → FitsBytes e → Stands s k e
+    pub expression-stands : (e : Exp) → encode c (owner-at s k) .expression ≡ bytes e → FitsBytes e → Stands s k e
     unfolding expression-at
     expression-stands e is fits =
-        let p : bytes e ≡ take (length-at s k) (drop (offset-at s k) s) = sym is ∙ ap (λ (x : Encoded). x .expression) encoded-is ∙ encoded-expression s k in
+        let p : bytes e ≡ take (length-at s k) (drop (offset-at s k) s) = sym is ∙ ap (λ (x : Encoded). x .expression) (encoded-is s b stands k h) ∙ encoded-expression s k in
         let n : length-at s k ≡ size e = sym (expression-length s heads-do k below) ∙ ap length (sym p) ∙ length-bytes e in
         let i = has-expression s heads-do k below .expression-inside in
         let q : drop (length-at s k) (drop (offset-at s k) s) ≡ drop (offset-at s k + size e) s = drop-drop (length-at s k) (offset-at s k) s ∙ ap (λ j. drop (offset-at s k + j) s) n in

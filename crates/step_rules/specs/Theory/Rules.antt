@@ -7,11 +7,10 @@ use Prim.Native.Nat.{ℕ, _+_, _-_, _≤_}
 use native.Mathlib.Omega.{arith}
 use lib.Dec.{eqb}
 use lib.ListN.{length, set}
-use Rattle.image.specs.Theory.Lengths.{length-config}
+use Rattle.image.specs.Theory.Exactly.{length-config}
 use Rattle.calculus.specs.Theory.Configurations.{sum-append, sum-set, sum-part}
 use Rattle.calculus.specs.Syntax.{unit, op, cell, exch, thread, handle, Exp, name, const, lam, app, case-of, Shape, pair, list, Value, is-name, is-const, is-lam, is-exch, is-both, Component, thread-of, holds, open-for, used, awaited, Config, at, sum-in, sum-all}
 use Rattle.calculus.specs.Reduction.{substitute, substitute-both, Context, plug, put, HANDLE-NEW}
-use Rattle.calculus.specs.Kinds.{no-owner}
 use Rattle.calculus.specs.Names.{count}
 use Rattle.calculus.specs.Step.{application, Redex, rule, step-redex, step-meeting, step-call, step-case, step-exchange, step-subject, subject, when-done}
 use Rattle.calculus.specs.Image.{Closed, closed-lam, nodes, nodes-all, size, const-size}
@@ -23,18 +22,18 @@ use Rattle.term.proofs.Expressions.{found-at}
 use Rattle.image_layout.specs.Encoded.{Encoded, image-bytes}
 use Rattle.image_layout.specs.Slice.{names, offset-at, length-at, encoded-at}
 use Rattle.image.specs.Configuration.{encode, config-of, image-of}
-use Rattle.image.specs.Owned.{thread-holding, cell-holding}
+use Rattle.image.specs.Holding.{thread-holding, cell-holding}
 use Rattle.term_redex.specs.declared.Meeting.{Meeting}
 use Rattle.term_redex.proofs.Contexts.{closed-components, closed-parts, closed-subject, components-stand, plug-closed, put-nodes}
 use Rattle.step_rules.specs.declared.Move.{Move}
 use Rattle.step_rules.specs.declared.Move.the-variants.{Beta, ThreadNew, HandleNew, HandleBind, CellNew}
 use Rattle.step_rules.specs.Positions.{name-length, to-body, to-component}
-use Rattle.step_rules.specs.Effects.{rule-of, bytes-between, argument-bytes, name-bytes, Effect, effect-of, taken-apart}
-use Rattle.step_rules.specs.Moves.{look-up, from-name, other-after, names-after, image-after, nodes-after}
+use Rattle.step_rules.specs.Effects.{rule-of, bytes-between, argument-bytes, name-bytes, Effect, Unowned, effect-of, taken-apart}
+use Rattle.step_rules.specs.Moves.{look-up, from-name, owner-after, other-after, names-after, image-after, nodes-after}
 use Rattle.step_rules.specs.Stepped.{Components, Counted, Copied, Has, Stepped}
 use Rattle.step_rules.specs.Meets.{step-at, dereferenced, exchanged, MeetsAt, taking}
 use Rattle.step_rules.specs.Theory.Reading.{rules, Stands, thread-stands, cell-stands}
-use Rattle.step_rules.specs.Theory.Changes.{Table, table-length, table-set, table-more, swap}
+use Rattle.step_rules.specs.Theory.Changes.{Table, table-set, table-more, swap}
 use Rattle.step_rules.specs.Theory.Meeting.{between-front, between-term, body-stands, table-start, argument-is, components-are}
 use Rattle.step_rules.specs.Theory.Writers.{counted, thread-below, few, few-all, movable}
 
@@ -43,8 +42,8 @@ module _ {s : List ℕ} {x : ℕ} {m : Meeting} {F : Context} {r : Exp} {d : Red
   stepped : (by : Move) (e : Exp) (C : Config) (size : ℕ) (g : ℕ → Encoded)
       → step-redex (config-of s) x F d ≡ rule (rule-of by) C
       → effect-of s m by .redex ≡ bytes e
-      → Table C size g → size ≡ names-after s (step-at x m by)
-      → ((k : ℕ) → g k ≡ cond (eqb k x) (encode (thread-of (plug F e))) (other-after s (step-at x m by) k))
+      → Table (owner-after s x) C size g → size ≡ names-after s (step-at x m by)
+      → ((k : ℕ) → g k ≡ cond (eqb k x) (encode (thread-of (plug F e)) (owner-after s x k)) (other-after s (step-at x m by) k))
       → nodes-all C ≡ nodes-after (nodes-all (config-of s)) s (step-at x m by)
       → Has s m by
       → Stepped s x (step-at x m by)
@@ -56,7 +55,7 @@ module _ {s : List ℕ} {x : ℕ} {m : Meeting} {F : Context} {r : Exp} {d : Red
         steps = M .steps ∙ step;
         written = ap image-bytes are;
         counted = count;
-        named = table-length table ∙ names;
+        named = table .size ∙ names;
         movable = movable M by has;
       }
 
@@ -65,10 +64,10 @@ module _ {s : List ℕ} {x : ℕ} {m : Meeting} {F : Context} {r : Exp} {d : Red
   nodes-put e = put-nodes (config-of s) x F r (M .thread) e
 
   -- the thread's component after a step
-  abbrev thread-after : Exp → Encoded
-  thread-after e = encode (thread-of (plug F e))
+  abbrev thread-after : Exp → ℕ → Encoded
+  thread-after e k = encode (thread-of (plug F e)) (owner-after s x k)
 
-  table-put : (e : Exp) → Table (put (config-of s) x F e) (names s) (λ i. cond (eqb i x) (thread-after e) (encoded-at s i))
+  table-put : (e : Exp) → Table (owner-after s x) (put (config-of s) x F e) (names s) (λ i. cond (eqb i x) (thread-after e i) (encoded-at s i))
   table-put e = table-set x (thread-of (plug F e)) (table-start M)
 
   new-name : length (config-of s) ≡ names s
@@ -106,13 +105,13 @@ thread-moves {s} {x} {t} {m} {F} {v} M =
     let new = thread-of (app v (name (length C))) in
     let z : length C ≡ names s = new-name M in
     let e = name (length C) in
-    let c : encode new ≡ thread-holding no-owner (2 ∷ (argument-bytes s m ++ name-bytes (names s))) =
-    ap₂ (λ (p : List ℕ) (k : ℕ). thread-holding no-owner (2 ∷ (p ++ name-bytes k))) (sym (argument-is M)) z in
+    let c : encode new ≡ thread-holding (2 ∷ (argument-bytes s m ++ name-bytes (names s))) =
+    ap₂ (λ (p : List ℕ) (k : ℕ). thread-holding (2 ∷ (p ++ name-bytes k))) (sym (argument-is M)) z in
     stepped M ThreadNew e _ (names s + 1) _ refl
     (ap name-bytes (sym z))
     (table-more new (table-put M e)) (omega arith)
-    (λ k. swap k x (names s) (thread-after M e) (encode new) (encoded-at s k) (not-new M (names s) (omega arith))
-    ∙ ap (λ d. cond (eqb k x) (thread-after M e) (cond (eqb k (names s)) d (encoded-at s k))) c)
+    (λ k. swap k x (names s) (thread-after M e k) (encode new (owner-after s x k)) (encoded-at s k) (not-new M (names s) (omega arith))
+    ∙ ap (λ (d : Unowned). cond (eqb k x) (thread-after M e k) (cond (eqb k (names s)) (d (owner-after s x k)) (encoded-at s k))) c)
     (omega (arith, sum-append (sum-in nodes) (put C x F e) (new ∷ []), nodes-put M e))
     tt
 
@@ -128,11 +127,11 @@ handle-moves {s} {x} {t} {m} {F} {v} M =
     (ap (rule HANDLE-NEW) (sym (append-assoc (put C x F e) (awaited ∷ []) (open-for (length C) ∷ []))))
     (ap₂ (λ (p : List ℕ) (k : ℕ). 2 ∷ 2 ∷ (p ++ name-bytes k ++ name-bytes (k + 1))) (argument-is M) (sym z))
     (table-more (open-for (length C)) (table-more awaited (table-put M e))) (omega arith)
-    (λ k. let old = encoded-at s k in let h = encode (open-for (length C)) in
-    swap k (names s) (names s + 1) (encode awaited) h (cond (eqb k x) (thread-after M e) old) (omega arith)
-    ∙ ap (λ r. cond (eqb k (names s)) (encode awaited) r) (swap k x (names s + 1) (thread-after M e) h old (not-new M (names s + 1) (omega arith)))
-    ∙ swap k x (names s) (thread-after M e) (encode awaited) (cond (eqb k (names s + 1)) h old) (not-new M (names s) (omega arith))
-    ∙ ap (λ j. cond (eqb k x) (thread-after M e) (cond (eqb k (names s)) (encode awaited) (cond (eqb k (names s + 1)) (encode (open-for j)) old))) z)
+    (λ k. let old = encoded-at s k in let o = owner-after s x k in let t = thread-after M e k in let f = encode awaited o in let h = encode (open-for (length C)) o in
+    swap k (names s) (names s + 1) f h (cond (eqb k x) t old) (omega arith)
+    ∙ ap (λ r. cond (eqb k (names s)) f r) (swap k x (names s + 1) t h old (not-new M (names s + 1) (omega arith)))
+    ∙ swap k x (names s) t f (cond (eqb k (names s + 1)) h old) (not-new M (names s) (omega arith))
+    ∙ ap (λ j. cond (eqb k x) t (cond (eqb k (names s)) f (cond (eqb k (names s + 1)) (encode (open-for j) o) old))) z)
     (omega (arith, sum-append (sum-in nodes) C₁ (open-for (length C) ∷ []), sum-append (sum-in nodes) (put C x F e) (awaited ∷ []), nodes-put M e))
     tt
 
@@ -146,8 +145,9 @@ cell-moves {s} {x} {t} {m} {F} {v} M =
     stepped M CellNew e _ (names s + 1) _ refl
     (ap name-bytes (sym z))
     (table-more (holds v) (table-put M e)) (omega arith)
-    (λ k. swap k x (names s) (thread-after M e) (encode (holds v)) (encoded-at s k) (not-new M (names s) (omega arith))
-    ∙ ap (λ p. cond (eqb k x) (thread-after M e) (cond (eqb k (names s)) (cell-holding no-owner p) (encoded-at s k))) (sym (argument-is M)))
+    (λ k. let o = owner-after s x k in
+    swap k x (names s) (thread-after M e k) (encode (holds v) o) (encoded-at s k) (not-new M (names s) (omega arith))
+    ∙ ap (λ p. cond (eqb k x) (thread-after M e k) (cond (eqb k (names s)) (cell-holding p o) (encoded-at s k))) (sym (argument-is M)))
     (omega (arith, sum-append (sum-in nodes) (put C x F e) (holds v ∷ []), nodes-put M e))
     tt
 
@@ -219,10 +219,10 @@ bind-moves {s} {x} {z} {m} {F} {v} M y h =
     stepped M (HandleBind z y) e (set C₂ z used) (names s) _
     (rw h refl) refl
     (table-set z used (table-set y (thread-of v) (table-put M e))) (omega arith)
-    (λ k. let old = encoded-at s k in let u = encode used in let b = encode (thread-of v) in
-    ap (λ r. cond (eqb k z) u r) (swap k x y (thread-after M e) b old xy)
-    ∙ swap k x z (thread-after M e) u (cond (eqb k y) b old) xz
-    ∙ ap (λ p. cond (eqb k x) (thread-after M e) (cond (eqb k z) u (cond (eqb k y) (thread-holding no-owner p) old))) (sym (argument-is M)))
+    (λ k. let old = encoded-at s k in let o = owner-after s x k in let t = thread-after M e k in let u = encode used o in let b = encode (thread-of v) o in
+    ap (λ r. cond (eqb k z) u r) (swap k x y t b old xy)
+    ∙ swap k x z t u (cond (eqb k y) b old) xz
+    ∙ ap (λ p. cond (eqb k x) t (cond (eqb k z) u (cond (eqb k y) (thread-holding p o) old))) (sym (argument-is M)))
     (omega (arith, sum-set (sum-in nodes) C₂ z used h₂, sum-set (sum-in nodes) C₁ y (thread-of v) g₁, nodes-put M e))
     tt
 
@@ -238,8 +238,9 @@ exchange-moves {s} {x} {y} {t} {m} {F} {v} M e h =
     stepped M (exchanged s y) e (set (put C x F e) y (holds v)) (names s) _
     (rw h refl) (copied-is M y q)
     (table-set y (holds v) (table-put M e)) (omega arith)
-    (λ k. swap k x y (thread-after M e) (encode (holds v)) (encoded-at s k) xy
-    ∙ ap (λ p. cond (eqb k x) (thread-after M e) (cond (eqb k y) (cell-holding no-owner p) (encoded-at s k))) (sym (argument-is M)))
+    (λ k. let o = owner-after s x k in
+    swap k x y (thread-after M e k) (encode (holds v) o) (encoded-at s k) xy
+    ∙ ap (λ p. cond (eqb k x) (thread-after M e k) (cond (eqb k y) (cell-holding p o) (encoded-at s k))) (sym (argument-is M)))
     (omega (arith, sum-set (sum-in nodes) (put C x F e) y (holds v) h₁, nodes-put M e))
     (copied M q)
 

@@ -5,14 +5,15 @@ use mathlib.Core.List.{List}
 use Prim.Native.Nat.{_<_, _≤_, ℕ}
 use lib.ListN.{length}
 use Rattle.calculus.specs.Syntax.{Config}
+use Rattle.calculus.specs.Owners.{Owned}
 use Rattle.calculus.specs.Reduction.{Rule as RuleName, number}
-use Rattle.calculus.specs.Step.{Answer, rule, waiting, done, no-thread, used-handle, wrong-kind, step-of}
+use Rattle.calculus.specs.Step.{Answer, rule, waiting, done, no-thread, used-handle, wrong-kind}
 use Rattle.calculus.specs.Limits.{max-image-length}
 use Rattle.calculus.specs.Causes.{buffer-cause, image-cause, no-thread-cause, room-cause, used-handle-cause, wrong-kind-cause}
 use Rattle.calculus.specs.Image.{limits-test, within-limits}
-use Rattle.calculus.specs.Reply.{moved, refuses, reply-of}
+use Rattle.calculus.specs.Reply.{moved, refuses, reply-of, reply-to}
 use Rattle.calculus.specs.Theory.Tests.{ltb-complete, ltb-not}
-use Rattle.image.specs.Configuration.{image-of, config-of}
+use Rattle.image.specs.Configuration.{image-of, owned-of}
 use Rattle.image.specs.Stands.{image-stands}
 use Rattle.step_spec.specs.declared.Outcome.{Outcome}
 use Rattle.step_spec.specs.declared.Outcome.the-variants.{Rule, Done, Waiting, Refused}
@@ -34,7 +35,7 @@ module _ (s : List ℕ) (x room : ℕ) where
     unfolding step-reply
     reply-broken e = rw (ltb-not room max-image-length long, e) refl
 
-    pub reply-stands : image-stands s ≡ true → step-reply s x room ≡ reply-of within-limits (step-of (config-of s) x)
+    pub reply-stands : image-stands s ≡ true → step-reply s x room ≡ reply-to within-limits (owned-of s) x
     unfolding step-reply
     reply-stands e = rw (ltb-not room max-image-length long, e) refl
 
@@ -43,25 +44,25 @@ pub long-outcome : (s : List ℕ) (x : ℕ) (out : List ℕ) → max-image-lengt
 unfolding outcome-of
 long-outcome s x out long = ap outcome-of-reply (reply-long s x (length out) long)
 
--- the outcome that each answer of the calculus is told as
-pub data Told : Answer → Outcome → Type 0 where
-  told-moved : {r : RuleName} {C′ : Config} → limits-test C′ ≡ true → Told (rule r C′) (Rule (number r) (length (image-of C′)))
-  told-room : {r : RuleName} {C′ : Config} → limits-test C′ ≡ false → Told (rule r C′) (Refused room-cause)
-  told-waiting : {y : ℕ} → Told (waiting y) (Waiting y)
-  told-done : Told done Done
-  told-no-thread : Told no-thread (Refused no-thread-cause)
-  told-used : Told used-handle (Refused used-handle-cause)
-  told-wrong : Told wrong-kind (Refused wrong-kind-cause)
+-- the outcome that each answer of the calculus is told as; `left` is what an outcome is with its owners
+pub data Told (left : Config → Owned) : Answer → Outcome → Type 0 where
+  told-moved : {r : RuleName} {C′ : Config} → limits-test C′ ≡ true → Told left (rule r C′) (Rule (number r) (length (image-of (left C′))))
+  told-room : {r : RuleName} {C′ : Config} → limits-test C′ ≡ false → Told left (rule r C′) (Refused room-cause)
+  told-waiting : {y : ℕ} → Told left (waiting y) (Waiting y)
+  told-done : Told left done Done
+  told-no-thread : Told left no-thread (Refused no-thread-cause)
+  told-used : Told left used-handle (Refused used-handle-cause)
+  told-wrong : Told left wrong-kind (Refused wrong-kind-cause)
 
-pub tells : (a : Answer) → Told a (outcome-of-reply (reply-of within-limits a))
+pub tells : (left : Config → Owned) (a : Answer) → Told left a (outcome-of-reply (reply-of within-limits left a))
 unfolding outcome-of-reply reply-of limits-test
-tells (rule r C′) = go (limits-test C′) refl
+tells left (rule r C′) = go (limits-test C′) refl
   where
-    go : (b : Bool) → limits-test C′ ≡ b → Told (rule r C′) (outcome-of-reply (cond b (moved (number r) C′) (refuses room-cause)))
+    go : (b : Bool) → limits-test C′ ≡ b → Told left (rule r C′) (outcome-of-reply (cond b (moved (number r) (left C′)) (refuses room-cause)))
     go true e = told-moved e
     go false e = told-room e
-tells (waiting y) = told-waiting
-tells done = told-done
-tells no-thread = told-no-thread
-tells used-handle = told-used
-tells wrong-kind = told-wrong
+tells left (waiting y) = told-waiting
+tells left done = told-done
+tells left no-thread = told-no-thread
+tells left used-handle = told-used
+tells left wrong-kind = told-wrong

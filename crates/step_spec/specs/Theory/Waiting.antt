@@ -7,18 +7,19 @@ use native.Mathlib.Omega.{arith}
 use lib.Dec.{ltb}
 use lib.ListN.{length}
 use Rattle.calculus.specs.Syntax.{Config}
+use Rattle.calculus.specs.Owners.{Owned, grown}
 use Rattle.calculus.specs.Reduction.{number}
 use Rattle.calculus.specs.Step.{Answer, rule, waiting, done, no-thread, used-handle, wrong-kind, step-of, Unready, not-done, not-bound}
 use Rattle.calculus.specs.Limits.{max-image-length, max-names}
 use Rattle.calculus.specs.Image.{image-test, limits-test, within-limits}
-use Rattle.calculus.specs.Reply.{Reply, moved, waits, finished, refuses, reply-of}
+use Rattle.calculus.specs.Reply.{Reply, moved, waits, finished, refuses, reply-of, reply-to}
 use Rattle.calculus.specs.Theory.Tests.{and-parts, clash}
 use Rattle.calculus.specs.Theory.Lists.{at-bound}
 use Rattle.calculus.specs.Theory.Step.{waiting-iff}
 use Rattle.calculus.specs.Theory.ImageTest.{image-test-iff}
 use Rattle.calculus.specs.Causes.{buffer-cause, image-cause, room-cause}
 use Rattle.image_layout.specs.Layout.{heads-stand}
-use Rattle.image.specs.Configuration.{config-of}
+use Rattle.image.specs.Configuration.{config-of, owned-of}
 use Rattle.image.specs.Stands.{image-stands, terms-stand}
 use Rattle.step_spec.specs.declared.Outcome.{Outcome}
 use Rattle.step_spec.specs.declared.Outcome.the-variants.{Waiting}
@@ -41,31 +42,31 @@ few-names s t =
 
 waits-for : (q : Reply) {y : ℕ} → outcome-of-reply q ≡ Waiting y → q ≡ waits y
 unfolding outcome-of-reply
-waits-for (moved r C) e = absurd (clash (cc))
+waits-for (moved r I′) e = absurd (clash (cc))
 waits-for (waits y) e = cc
 waits-for finished e = absurd (clash (cc))
 waits-for (refuses n) e = absurd (clash (cc))
 
-replies-waiting : (a : Answer) {y : ℕ} → reply-of within-limits a ≡ waits y → a ≡ waiting y
+replies-waiting : (left : Config → Owned) (a : Answer) {y : ℕ} → reply-of within-limits left a ≡ waits y → a ≡ waiting y
 unfolding reply-of limits-test
-replies-waiting (rule r C) {y} e = absurd (go (limits-test C) (moved (number r) C) (λ p. clash (cc)) e)
+replies-waiting left (rule r C) {y} e = absurd (go (limits-test C) (moved (number r) (left C)) (λ p. clash (cc)) e)
   where
     go : (t : Bool) (q : Reply) → ¬ (q ≡ waits y) → cond t q (refuses room-cause) ≡ waits y → ⊥
     go true q n e = n e
     go false q n e = clash (cc)
-replies-waiting (waiting z) e = cc
-replies-waiting done e = absurd (clash (cc))
-replies-waiting no-thread e = absurd (clash (cc))
-replies-waiting used-handle e = absurd (clash (cc))
-replies-waiting wrong-kind e = absurd (clash (cc))
+replies-waiting left (waiting z) e = cc
+replies-waiting left done e = absurd (clash (cc))
+replies-waiting left no-thread e = absurd (clash (cc))
+replies-waiting left used-handle e = absurd (clash (cc))
+replies-waiting left wrong-kind e = absurd (clash (cc))
 
 pub waiting-small : (s : List ℕ) (x : ℕ) (out : List ℕ) → NameSmall (outcome-of s x out)
 unfolding outcome-of step-reply
 waiting-small s x out = record { small = λ y e. go (ltb (length out) max-image-length) (image-stands s) refl (waits-for (step-reply s x (length out)) e) }
   where
-    go : {y : ℕ} (b t : Bool) → image-stands s ≡ t → cond b (refuses buffer-cause) (cond t (reply-of within-limits (step-of (config-of s) x)) (refuses image-cause)) ≡ waits y → y < max-names
+    go : {y : ℕ} (b t : Bool) → image-stands s ≡ t → cond b (refuses buffer-cause) (cond t (reply-to within-limits (owned-of s) x) (refuses image-cause)) ≡ waits y → y < max-names
     go true t p e = absurd (clash (cc))
     go false false p e = absurd (clash (cc))
     go {y} false true p e =
-        let w = waiting-iff (config-of s) x y .0 (replies-waiting (step-of (config-of s) x) e) in
+        let w = waiting-iff (config-of s) x y .0 (replies-waiting (grown (owned-of s) x) (step-of (config-of s) x) e) in
         omega (arith, unready-below (config-of s) y (w .1), few-names s p)

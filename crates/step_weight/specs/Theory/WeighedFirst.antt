@@ -10,6 +10,7 @@ use Rattle.calculus.specs.Bytes.{Bytes}
 use Rattle.calculus.specs.Limits.{max-image-length, max-nodes}
 use Rattle.calculus.specs.Causes.{room-cause}
 use Rattle.calculus.specs.Syntax.{Exp, var, name, const, lam, app, both, case-of, thread-of, Config}
+use Rattle.calculus.specs.Owners.{Owned, grown}
 use Rattle.calculus.specs.Reduction.{Context, plug, Has, put, Rule, number, Reduces, beta, thread-new, future-deref, future-deref-exch, future-deref-case, handle-new, handle-bind, cell-new, cell-exch, case-both}
 use Rattle.calculus.specs.Names.{uses}
 use Rattle.calculus.specs.Image.{Closed, nodes, nodes-all, WithinLimits}
@@ -95,8 +96,8 @@ found p (handle-bind F z y v u h g) = elim p [ ]
 found p (cell-new F t v u h) = elim p [ ]
 found p (cell-exch F t y v₁ v₂ u h g) = elim p [ ]
 
-module _ (image : List ℕ) (b : Bytes image) (C : Config) (io : ImageOf image C) (x : ℕ) (out : List ℕ) {by : Rule} (F : Context) {redex body e : Exp} {values : List Exp}
-    (h : Has C x F redex) (p : PutsIn by redex body values e) where
+module _ (image : List ℕ) (b : Bytes image) (I : Owned) (io : ImageOf image I) (x : ℕ) (out : List ℕ) {by : Rule} (F : Context) {redex body e : Exp} {values : List Exp}
+    (h : Has (I .config) x F redex) (p : PutsIn by redex body values e) where
   closed-redex : Closed 0 redex
   closed-redex = plug-closed F redex (io .rule .bound x (thread-of (plug F redex)) h)
 
@@ -104,28 +105,28 @@ module _ (image : List ℕ) (b : Bytes image) (C : Config) (io : ImageOf image C
   nodes-told = omega (arith, weighs nodes-weight closed-redex p, places-less-one 0 body values)
 
   -- the nodes of all names after the step
-  all-told : nodes-all (put C x F e) + nodes redex ≡ nodes-all C + weighed body values
-  all-told = omega (arith, put-nodes C x F redex h e, nodes-told)
+  all-told : nodes-all (put (I .config) x F e) + nodes redex ≡ nodes-all (I .config) + weighed body values
+  all-told = omega (arith, put-nodes (I .config) x F redex h e, nodes-told)
 
-  fits : nodes-all C + weighed body values ≤ max-nodes + nodes redex → WithinLimits (put C x F e)
-  fits le = record { few-names = omega (arith, length-set C x (thread-of (plug F e)), io .rule .limits .few-names); few-nodes = omega (arith, all-told) }
+  fits : nodes-all (I .config) + weighed body values ≤ max-nodes + nodes redex → WithinLimits (put (I .config) x F e)
+  fits le = record { few-names = omega (arith, length-set (I .config) x (thread-of (plug F e)), io .rule .limits .few-names); few-nodes = omega (arith, all-told) }
 
   module _ (long : max-image-length ≤ length out) where
-    goes : nodes-all C + weighed body values ≤ max-nodes + nodes redex → outcome-of image x out ≡ Answers (number by) (length (image-of (put C x F e)))
-    goes le = second-demand .step image b x out .rule (number by) _ .1 (long, C, io, (by, put C x F e, moves C x F h p, fits le, refl, refl))
+    goes : nodes-all (I .config) + weighed body values ≤ max-nodes + nodes redex → outcome-of image x out ≡ Answers (number by) (length (image-of (grown I x (put (I .config) x F e))))
+    goes le = second-demand .step image b x out .rule (number by) _ .1 (long, I, io, (by, put (I .config) x F e, moves (I .config) x F h p, fits le, refl, refl))
 
-    lacks : max-nodes + nodes redex < nodes-all C + weighed body values → outcome-of image x out ≡ Refused room-cause
-    lacks lt = second-demand .step image b x out .fifteen .1 (long, C, io, (by, put C x F e, moves C x F h p, λ l. omega (arith, l .few-nodes, all-told)))
+    lacks : max-nodes + nodes redex < nodes-all (I .config) + weighed body values → outcome-of image x out ≡ Refused room-cause
+    lacks lt = second-demand .step image b x out .fifteen .1 (long, I, io, (by, put (I .config) x F e, moves (I .config) x F h p, λ l. omega (arith, l .few-nodes, all-told)))
 
-    is-room : (outcome-of image x out ≡ Answers (number by) (length (image-of (put C x F e)))) ↔ (nodes-all C + weighed body values ≤ max-nodes + nodes redex)
+    is-room : (outcome-of image x out ≡ Answers (number by) (length (image-of (grown I x (put (I .config) x F e))))) ↔ (nodes-all (I .config) + weighed body values ≤ max-nodes + nodes redex)
     is-room = (
-      λ q. elim (decLt (max-nodes + nodes redex) (nodes-all C + weighed body values)) [ yes lt ↦ let r = lacks lt in absurd (clash (cc)) | no n ↦ omega (arith, n) ],
+      λ q. elim (decLt (max-nodes + nodes redex) (nodes-all (I .config) + weighed body values)) [ yes lt ↦ let r = lacks lt in absurd (clash (cc)) | no n ↦ omega (arith, n) ],
       goes,
     )
 
-    is-no-room : (outcome-of image x out ≡ Refused room-cause) ↔ (max-nodes + nodes redex < nodes-all C + weighed body values)
+    is-no-room : (outcome-of image x out ≡ Refused room-cause) ↔ (max-nodes + nodes redex < nodes-all (I .config) + weighed body values)
     is-no-room = (
-      λ q. elim (decLt (max-nodes + nodes redex) (nodes-all C + weighed body values)) [ yes lt ↦ lt | no n ↦ let r = goes (omega (arith, n)) in absurd (clash (cc)) ],
+      λ q. elim (decLt (max-nodes + nodes redex) (nodes-all (I .config) + weighed body values)) [ yes lt ↦ lt | no n ↦ let r = goes (omega (arith, n)) in absurd (clash (cc)) ],
       lacks,
     )
 
@@ -133,13 +134,13 @@ told : (image : List ℕ) → Bytes image → (x : ℕ) (out : List ℕ) (rule s
     outcome-of image x out ≡ Answers rule size → Means image out (PutIn image x out rule)
 told image b x out rule size p q =
     let demand = second-demand .step image b x out in
-    let (long, C, io, (by, C′, red, lim, n, z)) = demand .rule rule size .0 q in
+    let (long, I, io, (by, C′, red, lim, n, z)) = demand .rule rule size .0 q in
     let f = found (rw n at p) red in
     let F = f .context in
     let e = f .outcome in
-    let closed = closed-redex image b C io x out F (f .thread) (f .puts) in (
+    let closed = closed-redex image b I io x out F (f .thread) (f .puts) in (
       long,
-      C,
+      I,
       io,
       record {
         by = by;
@@ -151,8 +152,8 @@ told image b x out rule size p q =
         is-rule = n;
         thread = f .thread;
         puts = f .puts;
-        written = rw (f .is) at (demand .rule-image C C′ by io red lim long);
-        nodes-are = nodes-told image b C io x out F (f .thread) (f .puts);
+        written = rw (f .is) at (demand .rule-image I C′ by io red lim long);
+        nodes-are = nodes-told image b I io x out F (f .thread) (f .puts);
         bytes-are = in-bytes closed (f .puts);
       },
     )
@@ -160,6 +161,6 @@ told image b x out rule size p q =
 pub weighed-first : WeighedFirst
 weighed-first = record {
   outcome = told;
-  room = λ image b C io x out long F h p. is-room image b C io x out F h p long;
-  no-room = λ image b C io x out long F h p. is-no-room image b C io x out F h p long;
+  room = λ image b I io x out long F h p. is-room image b I io x out F h p long;
+  no-room = λ image b I io x out long F h p. is-no-room image b I io x out F h p long;
 }

@@ -12,7 +12,7 @@ use Rattle.step_write.proofs.head_after.Tie as tie
 
 -- where the change is known
 abbrev start : tie.After-change-of → tie.Start
-start p = p .before .before
+start p = p .before .before .before
 
 kind-at-requires : tie.Need-kind-at-requires
 kind-at-requires c κs =
@@ -47,21 +47,21 @@ unfolding changed
 returns-2 c =
     let p = c .before .before .before in
     let h = c .holding .ensures in
-    as-head (becomes-as (p .change-of .ensures) (c .before .enum-told2 .given .1) .is) (record { kinds = h .0; companions = h .1 .0; sizes = h .1 .1 ∙ start p .pre .1 .0 })
+    as-head (becomes-as (p .change-of .ensures) (c .before .enum-told2 .given .1) .is) (record { kinds = h .0; companions = h .1 .0 ∙ p .before .owner-after .ensures; sizes = h .1 .1 ∙ start p .pre .1 .0 })
 
 returns-3 : tie.Need-returns-3
 unfolding changed
 returns-3 c =
     let p = c .before .before .before .before in
     let h = c .holding2 .ensures in
-    as-head (becomes-as (p .change-of .ensures) (c .before .before .enum-told3 .given .1) .is) (record { kinds = h .0; companions = h .1 .0; sizes = h .1 .1 ∙ c .before .started-size .ensures ∙ sym (started-length (start p .pre .0)) })
+    as-head (becomes-as (p .change-of .ensures) (c .before .before .enum-told3 .given .1) .is) (record { kinds = h .0; companions = h .1 .0 ∙ p .before .owner-after .ensures; sizes = h .1 .1 ∙ c .before .started-size .ensures ∙ sym (started-length (start p .pre .0)) })
 
 returns-4 : tie.Need-returns-4
 unfolding changed
 returns-4 c =
     let p = c .before .before .before .before .before in
     let h = c .holding3 .ensures in
-    as-head (becomes-as (p .change-of .ensures) (c .before .before .before .change .given .1) .is) (record { kinds = h .0; companions = h .1 .0; sizes = h .1 .1 ∙ c .before .argument-size .ensures ∙ sym (argument-length (start p .pre .0 .movable)) })
+    as-head (becomes-as (p .change-of .ensures) (c .before .before .before .change .given .1) .is) (record { kinds = h .0; companions = h .1 .0 ∙ p .before .owner-after .ensures; sizes = h .1 .1 ∙ c .before .argument-size .ensures ∙ sym (argument-length (start p .pre .0 .movable)) })
 
 returns-5 : tie.Need-returns-5
 unfolding changed
@@ -70,10 +70,18 @@ returns-5 c =
     let h = c .bare .ensures in
     as-head (becomes-as (p .change-of .ensures) (c .before .before .change2 .given .1) .is) (record { kinds = h .0; companions = h .1 .0; sizes = h .1 .1 })
 
+returns-6 : tie.Need-returns-6
+unfolding changed
+returns-6 c =
+    let p = c .before .before .before .before in
+    let h = c .bare2 .ensures in
+    as-head (becomes-as (p .change-of .ensures) (c .before .before .change3 .given .1) .is) (record { kinds = h .0; companions = h .1 .0 ∙ p .before .owner-after .ensures; sizes = h .1 .1 })
+
 pub head-after-spec : {M : Type 1} → statement M
 head-after-spec =
     tie.close
     (tie.spec
+    (λ c κs. search needs)
     (λ c κs. search needs)
     (λ c. search needs)
     kind-at-requires
@@ -89,8 +97,11 @@ head-after-spec =
     (λ c κs. search needs)
     (λ c. search needs)
     (λ c κs. search needs)
+    (λ c. search needs)
+    (λ c κs. search needs)
     returns
     returns-2
     returns-3
     returns-4
-    returns-5)
+    returns-5
+    returns-6)

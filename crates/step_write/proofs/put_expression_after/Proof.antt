@@ -80,6 +80,10 @@ returns-5 : tie.Need-returns-5
 unfolding changed
 returns-5 c = known-as still (same-expression (becomes (c .before .before) (c .enum-told5 .given .1) .is))
 
+returns-6 : tie.Need-returns-6
+unfolding changed
+returns-6 c = known-as still (same-expression (becomes (c .before .before) (c .enum-told6 .given .1) .is))
+
 pub put-expression-after-spec : {M : Type 1} → statement M
 put-expression-after-spec =
     tie.close
@@ -96,6 +100,7 @@ put-expression-after-spec =
     put-argument-requires
     (λ c. search needs)
     (λ c. search needs)
+    (λ c. search needs)
     returns
     (λ c. search needs)
     returns-2
@@ -103,4 +108,5 @@ put-expression-after-spec =
     returns-3
     (λ c. search needs)
     returns-4
-    returns-5)
+    returns-5
+    returns-6)

@@ -1,6 +1,5 @@
 //! What a picture of a run needs: when vents changed, and how each thread spent its time.
 
-use crate::rules::{HANDLE_BIND, THREAD_NEW};
 use crate::tool::run::image_view::{ImageView, Vent};
 use crate::tool::run::runner::{Answer, Turn};
 use std::collections::BTreeMap;
@@ -29,8 +28,8 @@ pub struct History {
     /// For each bay the turns after which its vent changed.
     pub vents: Vec<Vec<(u64, Vent)>>,
     pub threads: BTreeMap<u64, Vec<Span>>,
-    /// For each thread the bay that it came from.
-    pub bay_of: BTreeMap<u64, usize>,
+    /// For each name the bay that it belongs to.
+    pub owners: Vec<u8>,
     /// Each rule with its turn and thread.
     pub rules: Vec<(u64, u64, u32)>,
 }
@@ -38,17 +37,27 @@ pub struct History {
 /// Rules are told one by one in runs up to this length.
 pub const RULES_TOLD: u64 = 60;
 
-/// The rules after which there is a thread more: a new one, or a future that is bound.
-const MAKE_THREADS: [u8; 2] = [THREAD_NEW, HANDLE_BIND];
-
 impl History {
     /// The history of a run that begins with that image.
     pub fn start(bays: usize, image: &[u8]) -> History {
         let mut history = History::default();
         history.note_vents(0, &ImageView(image).vents(bays));
-        let own = ImageView(image).threads().into_iter().zip(0..bays);
-        history.bay_of.extend(own);
+        history.owners = ImageView(image).owners();
         history
+    }
+
+    /// The bay that a name belongs to.
+    pub fn bay_of(&self, name: u64) -> Option<usize> {
+        let name = usize::try_from(name).ok()?;
+        self.owners.get(name).copied().map(usize::from)
+    }
+
+    /// A name and the bay that it belongs to: 12 of bay 2.
+    pub fn whose(&self, name: u32) -> String {
+        match self.bay_of(u64::from(name)) {
+            Some(bay) => format!("{name} of bay {bay}"),
+            None => name.to_string(),
+        }
     }
 
     /// A turn, or that there is none, and the image after it.
@@ -83,18 +92,8 @@ impl History {
     fn note_turn(&mut self, turn: u64, thread: u64, answer: Answer, image: &[u8]) {
         self.note_vents(turn, &ImageView(image).vents(self.vents.len()));
         self.note_answer(turn, thread, answer);
-        let makes = |rule: u32| MAKE_THREADS.iter().any(|made| u32::from(*made) == rule);
-        if matches!(answer, Answer::Rule(rule) if makes(rule)) {
-            self.note_threads(thread, &ImageView(image).threads());
-        }
-    }
-
-    /// A new thread comes from the bay of the thread that made it.
-    fn note_threads(&mut self, maker: u64, threads: &[u64]) {
-        if let Some(bay) = self.bay_of.get(&maker).copied() {
-            for thread in threads {
-                self.bay_of.entry(*thread).or_insert(bay);
-            }
+        if matches!(answer, Answer::Rule(_)) {
+            self.owners = ImageView(image).owners();
         }
     }
 

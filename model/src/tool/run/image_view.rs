@@ -1,7 +1,7 @@
-//! What a run shows of an image: its threads, and the settings.
+//! What a run shows of an image: its threads, the settings, and whose each name is.
 
-use crate::image::names_of_kind;
-use crate::kinds::THREAD;
+use crate::image::{names_of_kind, owners};
+use crate::kinds::{CELL, FUTURE, OPEN_HANDLE, THREAD, USED_HANDLE};
 use crate::limits::{FIRST_HEAD, HEAD_LENGTH};
 use crate::tags;
 
@@ -57,6 +57,32 @@ impl<'i> ImageView<'i> {
     /// The numbers of the threads.
     pub fn threads(self) -> Vec<u64> {
         names_of_kind(self.0, THREAD)
+    }
+
+    /// The bay that each name belongs to.
+    pub fn owners(self) -> Vec<u8> {
+        owners(self.0)
+    }
+
+    /// The bay that a name belongs to, if there is such a name.
+    pub fn owner(self, name: u64) -> Option<u8> {
+        let name = usize::try_from(name).ok()?;
+        self.owners().get(name).copied()
+    }
+
+    /// A name and whose it is: name 12, a future of bay 2.
+    pub fn whose(self, name: u32) -> String {
+        let kind = match self.kind(name as usize) {
+            Some(THREAD) => "a thread",
+            Some(CELL) => "a cell",
+            Some(OPEN_HANDLE | USED_HANDLE) => "a handle",
+            Some(FUTURE) => "a future",
+            _ => "unknown",
+        };
+        match self.owner(u64::from(name)) {
+            Some(bay) => format!("name {name}, {kind} of bay {bay}"),
+            None => format!("name {name}, {kind}"),
+        }
     }
 
     /// The settings of the first names, one for each bay.

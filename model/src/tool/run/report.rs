@@ -3,8 +3,10 @@
 use crate::answers::RanAnswer;
 use crate::tool::judge;
 use crate::tool::refusals;
-use crate::tool::run::image_view::Vent;
+use crate::tool::run::image_view::{ImageView, Vent};
+use crate::tool::run::order::Order;
 use crate::tool::run::runner::{Answer, Ending};
+use std::collections::BTreeMap;
 use std::fmt::Write;
 
 /// What the columns of the bays hold.
@@ -15,51 +17,143 @@ settings, up to 1000 in tenths of a percent; n5: holds name 5, still awaited; 30
 /// A vent that is wide open, in tenths of a percent.
 pub const WIDE_OPEN: u16 = 1_000;
 
-/// The line above the turns.
-pub fn heading(bays: usize) -> String {
-    let mut line = format!("{:>6}  {:>6}  {:<21}", "turn", "thread", "answer");
-    for bay in 0..bays {
-        let _ = write!(line, " {:>6}", format!("bay {bay}"));
+/// The columns of the turns; that of the answers has its width.
+#[derive(Debug, Clone, Copy)]
+pub struct Columns(usize);
+
+/// The longest answers: a rule, and a wait, which takes a turn only where nobody is passed over.
+const RULE_WIDTH: usize = "rule 3 FUTURE.DEREF".len() + 2;
+const WAIT_WIDTH: usize = "waits for name 255, a thread of bay 15".len();
+
+impl Columns {
+    pub fn of(order: &Order) -> Columns {
+        Columns(if order.passes_over() {
+            RULE_WIDTH
+        } else {
+            WAIT_WIDTH
+        })
     }
-    line + "\n"
+
+    fn line(self, [turn, thread, bay, answer]: [&str; 4], vents: &[String]) -> String {
+        let width = self.0;
+        let mut line = format!("{turn:>6}  {thread:>6}  {bay:>6}  {answer:<width$}");
+        for vent in vents {
+            let _ = write!(line, " {vent:>6}");
+        }
+        line + "\n"
+    }
+
+    /// The line above the turns.
+    pub fn heading(self, bays: usize) -> String {
+        let vents: Vec<String> = (0..bays).map(|bay| format!("bay {bay}")).collect();
+        self.line(["turn", "thread", "of bay", "answer"], &vents)
+    }
+
+    /// The line of the load, turn 0.
+    pub fn loaded(self, vents: &[Vent]) -> String {
+        self.line(["0", "-", "-", "loaded"], &short(vents))
+    }
+
+    /// The line of a turn: its number, the thread and what it answered, and the image after it.
+    pub fn turn(
+        self,
+        (turn, thread, answer): (u64, u64, Answer),
+        view: ImageView,
+        bays: usize,
+    ) -> String {
+        let bay = view
+            .owner(thread)
+            .map_or("-".to_owned(), |bay| bay.to_string());
+        let first = [
+            &turn.to_string(),
+            &thread.to_string(),
+            &bay,
+            &told(answer, view),
+        ];
+        self.line(first.map(String::as_str), &short(&view.vents(bays)))
+    }
 }
 
-/// The line of a turn; turn 0 is the load.
-pub fn line(turn: u64, thread: Option<u64>, answer: &str, vents: &[Vent]) -> String {
-    let thread = thread.map_or("-".to_owned(), |thread| thread.to_string());
-    let mut line = format!("{turn:>6}  {thread:>6}  {answer:<21}");
-    for vent in vents {
-        let text = match vent {
-            Vent::Open(value) => value.to_string(),
-            Vent::Named(_, Some(value)) => format!("{value}*"),
-            Vent::Named(name, None) => format!("n{name}"),
-            Vent::Unknown => "?".to_owned(),
-        };
-        let _ = write!(line, " {text:>6}");
-    }
-    line + "\n"
+/// The settings as the columns have them.
+fn short(vents: &[Vent]) -> Vec<String> {
+    let text = |vent: &Vent| match vent {
+        Vent::Open(value) => value.to_string(),
+        Vent::Named(_, Some(value)) => format!("{value}*"),
+        Vent::Named(name, None) => format!("n{name}"),
+        Vent::Unknown => "?".to_owned(),
+    };
+    vents.iter().map(text).collect()
 }
 
-/// Why the run ended, and how each thread stands.
-pub fn ending(turns: u64, ending: Ending, threads: &[(u64, Answer)]) -> String {
+/// An answer in words, in an image that has the awaited name.
+fn told(answer: Answer, view: ImageView) -> String {
+    match answer {
+        Answer::Rule(rule) => format!("rule {rule} {}", refusals::rule(rule)),
+        Answer::Done => "done".to_owned(),
+        Answer::Waiting(name) => format!("waits for {}", view.whose(name)),
+        Answer::Refused(number) => format!("refused {number}"),
+    }
+}
+
+/// Why the run ended.
+pub fn ending(turns: u64, ending: Ending) -> String {
     let why = match ending {
         Ending::Turns => "all turns are taken",
         Ending::Idle => "no thread can go, each is done or waits",
         Ending::Room => "no thread can go, and one lacks room",
         Ending::NoThreadOfTheOrder => "no thread of the order can go",
     };
-    let mut text = format!("Stopped after {}: {why}.\n", counted(turns));
-    for group in ["can go", "waiting", "refused", "done"] {
-        let told = threads.iter().filter_map(|(thread, answer)| {
-            let (own, more) = standing(*answer);
-            (own == group).then(|| format!("{thread}{more}"))
-        });
-        let told: Vec<String> = told.collect();
-        if !told.is_empty() {
-            let _ = writeln!(text, "  {group}: thread {}", told.join(", "));
+    format!("Stopped after {}: {why}.\n", counted(turns))
+}
+
+/// How each thread stands, by the bays that they belong to.
+pub fn standings(threads: &[(u64, Answer)], view: ImageView) -> String {
+    let mut bays: BTreeMap<Option<u8>, Vec<(u64, Answer)>> = BTreeMap::new();
+    for (thread, answer) in threads {
+        let own = bays.entry(view.owner(*thread)).or_default();
+        own.push((*thread, *answer));
+    }
+    let mut text = String::new();
+    for (bay, threads) in bays {
+        let mut label = bay.map_or(String::new(), |bay| format!("bay {bay}"));
+        for line in standing(&threads, view) {
+            let _ = writeln!(text, "  {label:<6}  {line}");
+            label.clear();
         }
     }
     text
+}
+
+/// The threads of a bay: those that can go, each that waits or is refused, those that are done.
+fn standing(threads: &[(u64, Answer)], view: ImageView) -> Vec<String> {
+    let all = |these: fn(Answer) -> bool, one: &str, many: &str| {
+        let found = threads.iter().filter(|(_, answer)| these(*answer));
+        let found: Vec<String> = found.map(|(thread, _)| thread.to_string()).collect();
+        match found.as_slice() {
+            [] => None,
+            [thread] => Some(format!("thread {thread} {one}")),
+            _ => Some(format!("threads {} {many}", found.join(", "))),
+        }
+    };
+    let waiting = threads.iter().filter_map(|(thread, answer)| match answer {
+        Answer::Waiting(_) => Some(format!("thread {thread} {}", told(*answer, view))),
+        _ => None,
+    });
+    let refused = threads.iter().filter_map(|(thread, answer)| match answer {
+        Answer::Refused(number) => {
+            let words = refusals::in_words(*number);
+            Some(format!("thread {thread} is refused {number}: {words}"))
+        }
+        _ => None,
+    });
+    let can_go = all(
+        |answer| matches!(answer, Answer::Rule(_)),
+        "can go",
+        "can go",
+    );
+    let done = all(|answer| answer == Answer::Done, "is done", "are done");
+    let lines = can_go.into_iter().chain(waiting).chain(refused);
+    lines.chain(done).collect()
 }
 
 fn counted(turns: u64) -> String {
@@ -78,33 +172,23 @@ pub fn one_call(answer: &RanAnswer) -> String {
     )
 }
 
-/// How a thread stands, by what it would answer now, and more about it.
-fn standing(answer: Answer) -> (&'static str, String) {
-    match answer {
-        Answer::Rule(_) => ("can go", String::new()),
-        Answer::Waiting(name) => ("waiting", format!(" (for name {name})")),
-        Answer::Refused(number) => {
-            let words = refusals::in_words(number);
-            ("refused", format!(" ({number}: {words})"))
-        }
-        Answer::Done => ("done", String::new()),
-    }
-}
-
 /// The vents at the end, a line for each bay.
-pub fn vents(vents: &[Vent]) -> String {
+pub fn vents(view: ImageView, bays: usize) -> String {
     let mut text = "bay  vent\n".to_owned();
-    for (bay, vent) in vents.iter().enumerate() {
-        let _ = writeln!(text, "{bay:>3}  {}", vent_in_words(*vent));
+    for (bay, vent) in view.vents(bays).into_iter().enumerate() {
+        let _ = writeln!(text, "{bay:>3}  {}", vent_in_words(vent, view));
     }
     text
 }
 
-pub fn vent_in_words(vent: Vent) -> String {
+fn vent_in_words(vent: Vent, view: ImageView) -> String {
     match vent {
         Vent::Open(value) => setting(value),
-        Vent::Named(name, Some(value)) => format!("{} (held under name {name})", setting(value)),
-        Vent::Named(name, None) => format!("awaits name {name}"),
+        Vent::Named(name, Some(value)) => {
+            let whose = view.whose(u32::from(name));
+            format!("{} (held under {whose})", setting(value))
+        }
+        Vent::Named(name, None) => format!("awaits {}", view.whose(u32::from(name))),
         Vent::Unknown => "unknown".to_owned(),
     }
 }

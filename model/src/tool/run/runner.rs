@@ -3,17 +3,16 @@
 use crate::answers::{Implementation, SteppedAnswer, DONE, IDLE, ROOM, RULE, TURNS, WAITING};
 use crate::causes;
 use crate::limits;
-use crate::tool::refusals;
 use crate::tool::run::image_view::ImageView;
 use crate::tool::run::order::Order;
 use std::collections::HashSet;
-use std::fmt;
 
 /// The answer of a turn.
 #[derive(Debug, Clone, Copy, PartialEq, Eq)]
 pub enum Answer {
     Rule(u32),
     Done,
+    /// The awaited name.
     Waiting(u32),
     Refused(u32),
 }
@@ -25,17 +24,6 @@ impl Answer {
             RULE => Answer::Rule(stepped.number),
             WAITING => Answer::Waiting(stepped.number),
             _ => Answer::Refused(stepped.number),
-        }
-    }
-}
-
-impl fmt::Display for Answer {
-    fn fmt(&self, f: &mut fmt::Formatter<'_>) -> fmt::Result {
-        match self {
-            Answer::Rule(rule) => write!(f, "rule {rule} {}", refusals::rule(*rule)),
-            Answer::Done => write!(f, "done"),
-            Answer::Waiting(name) => write!(f, "waiting for name {name}"),
-            Answer::Refused(number) => write!(f, "refused {number}"),
         }
     }
 }

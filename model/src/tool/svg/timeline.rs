@@ -1,4 +1,5 @@
-//! What each thread did over the turns, and for which name it waited.
+//! What each thread did over the turns, and for which name of which bay it waited. The threads of a bay
+//! stand together.
 
 use crate::tool::refusals;
 use crate::tool::run::history::{History, Span, State};
@@ -8,6 +9,8 @@ use crate::tool::svg::vents;
 
 const ROW: f64 = 22.0;
 const BAR: f64 = 16.0;
+/// The stripe below a wait, in the colour of the bay that is waited for.
+const STRIPE: f64 = 3.0;
 /// The width of a character of the small labels.
 const CHARACTER: f64 = 6.5;
 const MOVING: &str = "#a6cbe3";
@@ -19,8 +22,8 @@ const DONE: &str = "#e4e4e4";
 const LEAST: f64 = 6.0;
 /// Refusals that end this near to the last one drawn are left out.
 const NEAR: f64 = 1.0;
-/// How many rules Fig. 5 has.
-const RULES: u32 = 7;
+/// How many rules there are: Fig. 5's, and those that take a pair or a list apart.
+const RULES: u32 = 9;
 
 pub fn height(history: &History) -> f64 {
     ROW * history.threads.len().max(1) as f64
@@ -35,21 +38,42 @@ pub fn draw(sheet: &mut Sheet, top: f64, scale: &Scale, history: &History) {
     );
     let bottom = top + height(history);
     sheet.line((scale.left, top), (scale.left, bottom), "stroke=\"#222\"");
-    for (row, (thread, spans)) in history.threads.iter().enumerate() {
-        let y = top + ROW * row as f64 + (ROW - BAR) / 2.0;
-        draw_label(sheet, y, scale, history, *thread);
-        draw_spans(sheet, y, scale, *thread, spans);
-        draw_rules(sheet, y, scale, history, *thread);
-        draw_end(sheet, y, scale, spans);
+    let mut former = None;
+    for (row, (thread, spans)) in by_bay(history).into_iter().enumerate() {
+        let edge = top + ROW * row as f64;
+        let y = edge + (ROW - BAR) / 2.0;
+        let bay = history.bay_of(thread);
+        if row > 0 && bay != former {
+            draw_edge(sheet, edge, scale);
+        }
+        former = bay;
+        draw_label(sheet, y, scale, history, thread);
+        draw_spans(sheet, y, scale, history, (thread, spans));
+        draw_rules(sheet, y, scale, history, thread);
+        draw_end(sheet, y, scale, history, spans);
     }
     scale.axis(sheet, bottom);
-    legend(sheet, bottom, scale);
+    legend(sheet, bottom, scale, history);
 }
 
-/// The thread's number, and the bay that it came from with the bay's line.
+/// The threads, bay by bay.
+fn by_bay(history: &History) -> Vec<(u64, &[Span])> {
+    let threads = history.threads.iter();
+    let mut rows: Vec<(u64, &[Span])> = threads.map(|(t, spans)| (*t, &spans[..])).collect();
+    rows.sort_by_key(|(thread, _)| (history.bay_of(*thread), *thread));
+    rows
+}
+
+/// Where another bay's threads begin.
+fn draw_edge(sheet: &mut Sheet, y: f64, scale: &Scale) {
+    let right = scale.left + scale.width;
+    sheet.line((0.0, y), (right, y), "stroke=\"#bbb\"");
+}
+
+/// The thread's number, and the bay that it belongs to with the bay's line.
 fn draw_label(sheet: &mut Sheet, y: f64, scale: &Scale, history: &History, thread: u64) {
-    let bay = match history.bay_of.get(&thread) {
-        Some(bay) => *bay,
+    let bay = match history.bay_of(thread) {
+        Some(bay) => bay,
         None => {
             let label = thread.to_string();
             sheet.text((scale.left - 8.0, y + 12.0), Anchor::End, 12, &label);
@@ -65,7 +89,13 @@ fn draw_label(sheet: &mut Sheet, y: f64, scale: &Scale, history: &History, threa
 }
 
 /// The stretches of a thread; those that end in the same tenth of a pixel are one.
-fn draw_spans(sheet: &mut Sheet, y: f64, scale: &Scale, thread: u64, spans: &[Span]) {
+fn draw_spans(
+    sheet: &mut Sheet,
+    y: f64,
+    scale: &Scale,
+    history: &History,
+    (thread, spans): (u64, &[Span]),
+) {
     let (mut drawn, mut refused) = (f64::MIN, f64::MIN);
     for (place, span) in spans.iter().enumerate() {
         let (mut from, to) = (scale.x(span.from), scale.x(span.to));
@@ -83,15 +113,20 @@ fn draw_spans(sheet: &mut Sheet, y: f64, scale: &Scale, thread: u64, spans: &[Sp
         if is_refusal || is_at_end {
             from = from.min(to - LEAST).max(scale.left);
         }
-        draw_span(sheet, (from, to, y), thread, span);
+        draw_span(sheet, (from, to, y), history, (thread, span));
     }
 }
 
-fn draw_span(sheet: &mut Sheet, (from, to, y): (f64, f64, f64), thread: u64, span: &Span) {
+fn draw_span(
+    sheet: &mut Sheet,
+    (from, to, y): (f64, f64, f64),
+    history: &History,
+    (thread, span): (u64, &Span),
+) {
     let (fill, words) = match span.state {
         State::Moving => (MOVING, "moves".to_owned()),
         State::Done => (DONE, "is done".to_owned()),
-        State::Waiting(name) => (WAITING, format!("waits for name {name}")),
+        State::Waiting(name) => (WAITING, format!("waits for name {}", history.whose(name))),
         State::Refused(number) => (REFUSED, format!("refused {number}")),
     };
     let when = match span.to.checked_sub(1) {
@@ -100,41 +135,55 @@ fn draw_span(sheet: &mut Sheet, (from, to, y): (f64, f64, f64), thread: u64, spa
     };
     let words = format!("thread {thread} {words}, {when}");
     sheet.bar((from, y), (to - from, BAR), fill, &words);
-    let label = fitting(span.state, to - from);
-    if !label.is_empty() {
+    if let Some(bay) = awaited_bay(span.state, history) {
+        let low = y + BAR - STRIPE;
+        sheet.bar((from, low), (to - from, STRIPE), vents::colour(bay), &words);
+    }
+    if let Some(label) = fitting(&labels(span.state, history), to - from) {
         let middle = (from + to) / 2.0;
-        sheet.text((middle, y + 12.0), Anchor::Middle, 11, &label);
+        sheet.text((middle, y + 12.0), Anchor::Middle, 11, label);
     }
 }
 
-/// The label of a bar, long and short.
-fn labels(state: State) -> (String, String) {
+/// The bay for whose name a thread waits.
+fn awaited_bay(state: State, history: &History) -> Option<usize> {
     match state {
-        State::Moving => (String::new(), String::new()),
-        State::Done => ("done".to_owned(), "done".to_owned()),
-        State::Waiting(name) => (format!("waits for {name}"), name.to_string()),
-        State::Refused(number) => (format!("refused {number}"), number.to_string()),
+        State::Waiting(name) => history.bay_of(u64::from(name)),
+        _ => None,
+    }
+}
+
+/// The labels of a bar, the longest first.
+fn labels(state: State, history: &History) -> Vec<String> {
+    match state {
+        State::Moving => Vec::new(),
+        State::Done => vec!["done".to_owned()],
+        State::Waiting(name) => {
+            let whose = history.whose(name);
+            vec![format!("waits for {whose}"), whose, name.to_string()]
+        }
+        State::Refused(number) => vec![format!("refused {number}"), number.to_string()],
     }
 }
 
 /// The longest label that has room in a bar of that width.
-fn fitting(state: State, width: f64) -> String {
-    let (long, short) = labels(state);
-    let fits = |text: &String| CHARACTER * text.chars().count() as f64 + 2.0 <= width;
-    let found = [long, short].into_iter().find(fits);
-    found.unwrap_or_default()
+fn fitting(labels: &[String], width: f64) -> Option<&String> {
+    let fits = |text: &&String| CHARACTER * text.chars().count() as f64 + 2.0 <= width;
+    labels.iter().find(fits)
 }
 
 /// How a thread stands at the end, to the right of a bar that has no room for it.
-fn draw_end(sheet: &mut Sheet, y: f64, scale: &Scale, spans: &[Span]) {
+fn draw_end(sheet: &mut Sheet, y: f64, scale: &Scale, history: &History, spans: &[Span]) {
     let last = match spans.last() {
         Some(last) if last.to == scale.end => last,
         _ => return,
     };
-    let (long, _) = labels(last.state);
-    if fitting(last.state, scale.x(last.to) - scale.x(last.from)) != long {
+    let labels = labels(last.state, history);
+    let inside = fitting(&labels, scale.x(last.to) - scale.x(last.from));
+    let longest = labels.first().filter(|longest| inside != Some(longest));
+    if let Some(longest) = longest {
         let right = scale.left + scale.width + 8.0;
-        sheet.text((right, y + 12.0), Anchor::Start, 11, &long);
+        sheet.text((right, y + 12.0), Anchor::Start, 11, longest);
     }
 }
 
@@ -154,8 +203,8 @@ fn draw_rules(sheet: &mut Sheet, y: f64, scale: &Scale, history: &History, threa
     }
 }
 
-/// Below the axis: the colours, and where rules have numbers, their names.
-fn legend(sheet: &mut Sheet, bottom: f64, scale: &Scale) {
+/// Below the axis: the colours; where rules have numbers, their names; where a thread waits, its stripe.
+fn legend(sheet: &mut Sheet, bottom: f64, scale: &Scale, history: &History) {
     let items = [
         (MOVING, "moves (the rule)"),
         (WAITING, "waits (for the name)"),
@@ -174,5 +223,10 @@ fn legend(sheet: &mut Sheet, bottom: f64, scale: &Scale) {
         let rules: Vec<String> = rules.collect();
         let words = format!("rules: {}", rules.join(" · "));
         sheet.text((scale.left, bottom + 92.0), Anchor::Start, 12, &words);
+    }
+    let waits = |span: &Span| matches!(span.state, State::Waiting(_));
+    if history.threads.values().flatten().any(waits) {
+        let words = "the stripe below a wait has the colour of the bay whose name is awaited";
+        sheet.text((scale.left, bottom + 114.0), Anchor::Start, 12, words);
     }
 }

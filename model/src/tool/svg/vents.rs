@@ -17,6 +17,9 @@ const APART: f64 = 3.0;
 /// The widest line.
 const WIDEST: f64 = 2.0;
 
+/// The ring where a vent begins to await a name.
+const RING: f64 = 4.5;
+
 /// How far the lines of the grid may stand apart: the last serves every num.
 const STEPS: [u16; 7] = [200, 500, 1_000, 2_000, 5_000, 10_000, 20_000];
 
@@ -113,7 +116,7 @@ fn grid(sheet: &mut Sheet, heights: &Heights, scale: &Scale) {
 
 /// No wider than the lines stand apart.
 pub fn style(bay: usize, bays: usize) -> String {
-    let colour = COLOURS[bay % COLOURS.len()];
+    let colour = colour(bay);
     let dashes = if bay < DASHED_FROM {
         ""
     } else {
@@ -123,17 +126,20 @@ pub fn style(bay: usize, bays: usize) -> String {
     format!("stroke=\"{colour}\" stroke-width=\"{width:.1}\"{dashes}")
 }
 
+pub fn colour(bay: usize) -> &'static str {
+    COLOURS[bay % COLOURS.len()]
+}
+
 fn solid(bay: usize) -> String {
-    let colour = COLOURS[bay % COLOURS.len()];
-    format!("stroke=\"{colour}\" stroke-width=\"2\"")
+    format!("stroke=\"{}\" stroke-width=\"2\"", colour(bay))
 }
 
 fn dotted(bay: usize) -> String {
     format!("{} stroke-dasharray=\"1.5 4\"", solid(bay))
 }
 
-/// A stair for each stretch in which the opening is known; where it is awaited, a ring and dots at
-/// the last known opening.
+/// A stair for each stretch in which the opening is known; where it is awaited, dots at the last known
+/// opening, and a ring that holds the colour of the bay whose job is awaited.
 fn bay_line(sheet: &mut Sheet, heights: &Heights, scale: &Scale, history: &History, bay: usize) {
     let bays = history.vents.len();
     let (style, lane) = (style(bay, bays), lane(bay, bays));
@@ -157,13 +163,22 @@ fn bay_line(sheet: &mut Sheet, heights: &Heights, scale: &Scale, history: &Histo
                 flush(sheet, &mut points, &style);
                 let after = (scale.x(next), before.1);
                 sheet.line(before, after, &dotted(bay));
-                let ring = format!("fill=\"white\" {}", solid(bay));
-                sheet.dot(before, 4.0, &ring);
+                let inside = awaited_bay(*vent, history).map_or("white", colour);
+                let ring = format!("fill=\"{inside}\" {}", solid(bay));
+                sheet.dot(before, RING, &ring);
             }
         }
         thin_out(&mut points);
     }
     flush(sheet, &mut points, &style);
+}
+
+/// The bay whose job a vent awaits.
+fn awaited_bay(vent: Vent, history: &History) -> Option<usize> {
+    match vent {
+        Vent::Named(name, None) => history.bay_of(u64::from(name)),
+        _ => None,
+    }
 }
 
 fn flush(sheet: &mut Sheet, points: &mut Vec<(f64, f64)>, style: &str) {
@@ -194,7 +209,7 @@ fn legend(sheet: &mut Sheet, top: f64, scale: &Scale, history: &History) {
         let last = changes.last().map_or(Vent::Unknown, |(_, vent)| *vent);
         let value = match last {
             Vent::Open(value) | Vent::Named(_, Some(value)) => setting(value),
-            Vent::Named(name, None) => format!("awaits {name}"),
+            Vent::Named(name, None) => format!("awaits {}", history.whose(u32::from(name))),
             Vent::Unknown => "?".to_owned(),
         };
         let label = format!("bay {bay}: {value}");
@@ -208,14 +223,11 @@ fn legend(sheet: &mut Sheet, top: f64, scale: &Scale, history: &History) {
     let awaited = |(_, vent): &(u64, Vent)| vent.opening().is_none();
     if history.vents.iter().flatten().any(awaited) {
         let y = top + 14.0 + LEGEND_LINE * history.vents.len() as f64;
-        sheet.dot(
-            (left + 12.0, y),
-            4.0,
-            "fill=\"white\" stroke=\"#222\" stroke-width=\"2\"",
-        );
+        let ring = "fill=\"#bbb\" stroke=\"#222\" stroke-width=\"2\"";
+        sheet.dot((left + 12.0, y), RING, ring);
         let dots = "stroke=\"#222\" stroke-width=\"2\" stroke-dasharray=\"1.5 4\"";
         sheet.line((left + 18.0, y), (left + 32.0, y), dots);
-        let words = "awaits a name";
+        let words = "awaits a name; dot: its bay";
         sheet.text((left + 36.0, y + 4.0), Anchor::Start, 12, words);
     }
 }

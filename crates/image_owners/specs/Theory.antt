@@ -1,0 +1,4 @@
+-- The proofs; nobody needs to read them in order to believe the statements.
+
+-- each statement
+pub mod Ownership
