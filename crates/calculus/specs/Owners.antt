@@ -36,7 +36,7 @@ grown I x C′ = record { owners = owners-after (I .owners) x C′; config = C�
 pub record OwnersRule (b : ℕ) (I : Owned) : Type 0 where
   -- each name has an owner
   pub sizes : length (I .owners) ≡ length (I .config)
-  -- "An image with an owner not below 16 breaks the layout"
+  -- each owner is a bay; of any image, where b is 16: "An image with an owner not below 16 breaks the layout"
   pub below : (x : ℕ) → x < length (I .config) → owner (I .owners) x < b
   -- "an open handle has the owner of its future"
   pub handles : (z y : ℕ) → at (I .config) z ≡ some (open-for y) → owner (I .owners) z ≡ owner (I .owners) y
