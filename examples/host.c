@@ -1,7 +1,8 @@
 /*
  * A host in C: loads a recipe and takes turns between two buffers, and prints every bay's vent opening when no thread can go any more, or
- * after the turns that were asked for, and then whose jobs wait. The runner takes the turns; with --steps, a loop of steps takes the same
- * ones. With --open, a bay's vent is set by hand before the first turn: its starting num in the recipe's bytes.
+ * after the turns that were asked for, and then whose jobs wait or lack room. The runner takes the turns; with --steps, a loop of steps
+ * takes the same ones. With --separate, the load and the steps are those of the separate profile, for bays with a tenant each. With --open,
+ * a bay's vent is set by hand before the first turn: its starting num in the recipe's bytes.
  *
  *   make library && cc -std=c11 -Iinclude examples/host.c target/staticlib/libfikarehu.a -o host && ./host examples/nine-bays.recipe 1000
  */
@@ -66,34 +67,45 @@ struct course {
 
 static uint8_t first[FIKAREHU_MAX_IMAGE], second[FIKAREHU_MAX_IMAGE];
 
-/* Whose jobs wait, and for whose: each thread is tried by a step, and the run does not go on from what that writes. */
-static void print_waiting(const struct course *course) {
+/* A profile's load and step, which go together: what the one has written goes to the other. */
+struct profile {
+    struct fikarehu_loaded (*load)(const uint8_t *recipe, size_t recipe_len, uint8_t *out, size_t out_len);
+    struct fikarehu_stepped (*step)(const uint8_t *image, size_t image_len, uint64_t thread, uint8_t *out, size_t out_len);
+};
+
+static const struct profile common = {fikarehu_load, fikarehu_step};
+static const struct profile separate = {fikarehu_load_separate, fikarehu_step_separate};
+
+/* Whose jobs wait, and for whose, and whose lack room: each thread is tried by a step, and the run does not go on from what that writes. */
+static void print_standing(const struct profile *profile, const struct course *course) {
     const uint8_t *image = course->image;
     uint8_t *other = course->ran.buffer == 0 ? second : first;
     for (unsigned name = 0; name < names_of(image); name++) {
-        struct fikarehu_stepped stepped = fikarehu_step(image, course->ran.length, name, other, sizeof first);
+        struct fikarehu_stepped stepped = profile->step(image, course->ran.length, name, other, sizeof first);
         if (stepped.outcome == FIKAREHU_WAITING) {
             printf("thread %u of bay %u waits for name %u of bay %u\n", name, read_owner(image, name), stepped.number,
                    read_owner(image, stepped.number));
+        } else if (stepped.outcome == FIKAREHU_REFUSED && stepped.number == FIKAREHU_REFUSED_ROOM) {
+            printf("thread %u of bay %u lacks room\n", name, read_owner(image, name));
         }
     }
 }
 
-/* The first way: one call. */
+/* The first way: one call, in the common profile. */
 static struct course by_runner(const uint8_t *recipe, size_t size, uint16_t turns) {
     struct fikarehu_ran ran = fikarehu_run(recipe, size, turns, first, sizeof first, second, sizeof second);
     return (struct course){ran, ran.buffer == 0 ? first : second};
 }
 
 /* Steps the first thread that goes, from a number on and round to the number before; the number after it is the next one to look at. */
-static uint32_t take_turn(struct course *course, unsigned *from) {
+static uint32_t take_turn(const struct profile *profile, struct course *course, unsigned *from) {
     uint8_t *other = course->ran.buffer == 0 ? second : first;
     unsigned names = names_of(course->image);
     uint32_t stop = FIKAREHU_IDLE;
     for (unsigned more = 0; more < names; more++) {
         unsigned name = (*from + more) % names;
         struct fikarehu_stepped stepped =
-            fikarehu_step(course->image, course->ran.length, name, other, sizeof first);
+            profile->step(course->image, course->ran.length, name, other, sizeof first);
         if (stepped.outcome == FIKAREHU_RULE) {
             *from = name + 1;
             course->image = other;
@@ -110,12 +122,12 @@ static uint32_t take_turn(struct course *course, unsigned *from) {
 }
 
 /* The second way: a load and a loop of steps, which could choose another order or stop when the host likes. */
-static struct course by_steps(const uint8_t *recipe, size_t size, uint16_t turns) {
-    struct fikarehu_loaded loaded = fikarehu_load(recipe, size, first, sizeof first);
+static struct course by_steps(const struct profile *profile, const uint8_t *recipe, size_t size, uint16_t turns) {
+    struct fikarehu_loaded loaded = profile->load(recipe, size, first, sizeof first);
     struct course course = {{.refusal = loaded.refusal, .length = loaded.length}, first};
     unsigned from = 0;
     while (loaded.refusal == 0 && course.ran.turns < turns && course.ran.stop == FIKAREHU_TURNS) {
-        course.ran.stop = take_turn(&course, &from);
+        course.ran.stop = take_turn(profile, &course, &from);
     }
     return course;
 }
@@ -124,7 +136,7 @@ static struct course by_steps(const uint8_t *recipe, size_t size, uint16_t turns
 enum { TURNS = 1000, MOST_TURNS = 65535 };
 
 static int usage(const char *program) {
-    fprintf(stderr, "use: %s [--steps] [--open BAY=NUM].. RECIPE [TURNS, 0 to %d]\n", program, MOST_TURNS);
+    fprintf(stderr, "use: %s [--steps | --separate] [--open BAY=NUM].. RECIPE [TURNS, 0 to %d]\n", program, MOST_TURNS);
     return 1;
 }
 
@@ -139,10 +151,14 @@ static int set_by_hand(uint8_t *recipe, size_t size, const char *word) {
 int main(int count, char **words) {
     static uint8_t recipe[FIKAREHU_MAX_FILE + 1];
     const char *openings[FIKAREHU_MAX_BAYS];
+    const struct profile *profile = &common;
     int steps = 0, set = 0, at = 1;
     for (; at < count && strncmp(words[at], "--", 2) == 0; at++) {
         if (strcmp(words[at], "--steps") == 0) {
             steps = 1;
+        } else if (strcmp(words[at], "--separate") == 0) {
+            steps = 1; /* the runner knows no separate bays */
+            profile = &separate;
         } else if (strcmp(words[at], "--open") == 0 && at + 1 < count && set < FIKAREHU_MAX_BAYS) {
             openings[set++] = words[++at];
         } else {
@@ -176,7 +192,8 @@ int main(int count, char **words) {
             return 1;
         }
     }
-    struct course course = (steps ? by_steps : by_runner)(recipe, size, (uint16_t)turns);
+    struct course course =
+        steps ? by_steps(profile, recipe, size, (uint16_t)turns) : by_runner(recipe, size, (uint16_t)turns);
     if (course.ran.refusal != 0) {
         fprintf(stderr, "%s: refused %u\n", name, course.ran.refusal);
         return 1;
@@ -184,6 +201,6 @@ int main(int count, char **words) {
     printf("%u turns taken, %u names; ", course.ran.turns, names_of(course.image));
     print_stop(course.ran.stop);
     print_vents(course.image, fikarehu_check(recipe, size).bays);
-    print_waiting(&course);
+    print_standing(profile, &course);
     return 0;
 }

@@ -2,6 +2,14 @@
  * Fikarehu: recipes for bays. A recipe is checked, loaded into its starting
  * image, and stepped one thread at a time; or run for a number of turns.
  *
+ * Profiles. The common profile, fikarehu_load and fikarehu_step, lets any bay
+ * name any setting, and all bays share the limits of an image. The separate one,
+ * fikarehu_load_separate and fikarehu_step_separate, is for bays with a tenant
+ * each: a bay names its own setting only, and each bay has its own share of the
+ * limits. Both write the same images. What fikarehu_load_separate has written goes
+ * to fikarehu_step_separate, and so does each image that comes of it; nothing
+ * checks that. fikarehu_check and fikarehu_run are of the common profile.
+ *
  * Slices. A pointer and a length name that many bytes. A pointer may be NULL
  * where its length is 0. Nothing beyond the length is read or written.
  *
@@ -36,9 +44,9 @@ extern "C" {
 #endif
 
 /* This header's version. */
-#define FIKAREHU_VERSION "0.8.0"
+#define FIKAREHU_VERSION "0.9.0"
 #define FIKAREHU_VERSION_MAJOR 0
-#define FIKAREHU_VERSION_MINOR 8
+#define FIKAREHU_VERSION_MINOR 9
 #define FIKAREHU_VERSION_PATCH 0
 
 /* The limits of a recipe. */
@@ -54,7 +62,8 @@ enum {
     FIKAREHU_MAX_RECIPE_NODES = 1024   /* nodes over all terms */
 };
 
-/* The limits of an image. */
+/* The limits of an image. In the separate profile with b bays a bay's share of the names and of the
+ * nodes is the limit divided by b, rounded down. */
 enum {
     FIKAREHU_MAX_NAMES = 256,
     FIKAREHU_MAX_NODES = 4096,  /* nodes over all expressions */
@@ -122,8 +131,9 @@ enum {
 };
 
 /* The refusals: 1 to 11 and 19 by a check, a load or a run, 12 by a load, a step or a run, 13 to 17 by
- * a step. The order: a check tries 1 to 11, then 19; a load and a run try 12, then 1 to 11, then 19. A
- * run passes on what arises; 15 never does, for lack of room only passes a thread over. 18 is the
+ * a step, of either profile; 20 and 21 by fikarehu_load_separate alone. The order: a check tries 1 to 11,
+ * then 19; a load and a run try 12, then 1 to 11, then 19, and fikarehu_load_separate then 20, then 21.
+ * A run passes on what arises; 15 never does, for lack of room only passes a thread over. 18 is the
  * program test_load's, tried after 19. */
 enum {
     FIKAREHU_REFUSED_FILE_LENGTH = 1,  /* file length outside 12 to 8,192 */
@@ -143,13 +153,16 @@ enum {
     FIKAREHU_REFUSED_BUFFER = 12,      /* out buffer under 13,826 bytes */
     FIKAREHU_REFUSED_IMAGE = 13,       /* image breaks a rule or limit under "The image" */
     FIKAREHU_REFUSED_NO_THREAD = 14,   /* number is no thread */
-    FIKAREHU_REFUSED_ROOM = 15,        /* a rule applies, outcome above 256 names or 4,096 nodes */
+    FIKAREHU_REFUSED_ROOM = 15,        /* a rule applies, outcome above 256 names or 4,096 nodes; in the
+                                          separate profile, any bay of the outcome above its share */
     FIKAREHU_REFUSED_USED_HANDLE = 16, /* used handle applied */
     FIKAREHU_REFUSED_WRONG_KIND = 17,  /* two values meet, neither a rule, nor waiting, nor 16; a case of
                                           another kind of value */
     FIKAREHU_REFUSED_SEED = 18,        /* a seed of zero; no function here answers it */
-    FIKAREHU_REFUSED_STARTING = 19     /* edition 3: a starting part whose length is not twice the number of
+    FIKAREHU_REFUSED_STARTING = 19,    /* edition 3: a starting part whose length is not twice the number of
                                           bays */
+    FIKAREHU_REFUSED_OTHER_SETTING = 20,  /* separate: a bay names another bay's setting */
+    FIKAREHU_REFUSED_SHARE = 21        /* separate: a bay starts above its share */
 };
 
 /* The rules: Fig. 5's in its order, and the two that take a pair or a list apart. */
@@ -172,9 +185,10 @@ struct fikarehu_verdict {
     uint8_t types[FIKAREHU_MAX_BAYS];  /* each bay's type number; 0 beyond the bays */
 };
 
-/* The answer of a load. */
+/* The answer of a load of either profile. */
 struct fikarehu_loaded {
-    uint32_t refusal;                  /* 0 for loaded, else 12, 1 to 11 or 19, and every other field is 0 */
+    uint32_t refusal;                  /* 0 for loaded, else 12, 1 to 11, 19, or in the separate profile 20 or
+                                          21, and every other field is 0 */
     uint32_t bays;                     /* b, the number of bays, at least 1 */
     uint8_t types[FIKAREHU_MAX_BAYS];  /* each bay's type number; 0 beyond the bays */
     uint64_t length;                   /* the length of the image that was written */
@@ -188,7 +202,7 @@ enum {
     FIKAREHU_REFUSED = 3   /* nothing was done */
 };
 
-/* The answer of a step. */
+/* The answer of a step of either profile. */
 struct fikarehu_stepped {
     uint32_t outcome;   /* FIKAREHU_DONE, _RULE, _WAITING or _REFUSED */
     uint32_t number;    /* 0 when done, the rule 1 to 9, the awaited name, or the refusal 12 to 17 */
@@ -223,6 +237,17 @@ struct fikarehu_loaded fikarehu_load(const uint8_t *recipe, size_t recipe_len, u
  * FIKAREHU_REFUSED_NO_THREAD. */
 struct fikarehu_stepped fikarehu_step(const uint8_t *image, size_t image_len, uint64_t thread, uint8_t *out,
                                       size_t out_len);
+
+/* As fikarehu_load, and refuses besides a bay k whose term names another setting than k, wherever in it
+ * (20), then a bay whose setting and term have more nodes than its share (21). */
+struct fikarehu_loaded fikarehu_load_separate(const uint8_t *recipe, size_t recipe_len, uint8_t *out,
+                                              size_t out_len);
+
+/* As fikarehu_step, but 15 is answered where the rule's outcome leaves any bay above its share: more of
+ * the names that the bay owns, or more nodes over the threads and cells among them. b is one more than the
+ * highest owner in the image handed in. */
+struct fikarehu_stepped fikarehu_step_separate(const uint8_t *image, size_t image_len, uint64_t thread,
+                                               uint8_t *out, size_t out_len);
 
 /* Checks the recipe, loads it into the first buffer, and takes up to that many turns, each a step
  * from one buffer into the other. A turn steps the first thread that a rule moves and that has

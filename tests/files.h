@@ -49,6 +49,24 @@ static void make(struct file *file, const uint8_t *table, size_t table_len, cons
     }
 }
 
+/* A term for a bay. */
+struct term {
+    const uint8_t *bytes;
+    size_t length;
+};
+
+#define BAYS(...) ((const struct term[]){__VA_ARGS__}), sizeof((const struct term[]){__VA_ARGS__}) / sizeof(struct term)
+
+/* A file of that edition with these terms, without a starting part. */
+static inline void make_terms(struct file *file, uint8_t edition, const uint8_t *table, size_t table_len,
+                              const struct term *terms, size_t bays) {
+    open_file(file, edition, bays + 1);
+    put_part(file, 0, table, table_len);
+    for (size_t bay = 0; bay < bays; bay++) {
+        put_part(file, 1 + bay, terms[bay].bytes, terms[bay].length);
+    }
+}
+
 /* The twin of a file of edition 1 or 2: edition 3, its parts, and that starting part behind the type table. */
 static inline void make_twin(struct file *twin, const struct file *file, const uint8_t *starting, size_t starting_len) {
     size_t parts = file->bytes[3];

@@ -1,5 +1,6 @@
 /*
- * The load called from C. Prints failures and a last line with the number of checks.
+ * The load of either profile called from C, where both answer the same; tests/separate.c has where they do not. Prints failures and a last
+ * line with the number of checks.
  *
  *   cc -std=c11 -O2 -Wall -Wextra -Werror -pthread tests/load.c target/staticlib/libfikarehu.a -o load && ./load
  */
@@ -10,6 +11,9 @@
 #include "../include/fikarehu.h"
 
 enum { ROOM = 4 * FIKAREHU_MAX_IMAGE };
+
+/* The load that is tried. */
+static struct fikarehu_loaded (*load)(const uint8_t *, size_t, uint8_t *, size_t);
 
 static const uint8_t case_a[] = {0x4C, 0x46, 1, 2, 0x0C, 0, 9, 0, 0x15, 0, 1, 0, 0, 0, 0, 1, 0, 0, 2, 1, 0, 3};
 static const uint8_t image_a[] = {2, 0, 2, 0, 0x0E, 0, 3, 0, 1, 0, 0x11, 0, 1, 0, 4, 0, 0, 3};
@@ -31,7 +35,7 @@ static void expect_refusal(const char *what, const uint8_t *recipe, size_t lengt
                            uint32_t refusal) {
     uint8_t *out = out_end() - out_length;
     fill(out, out_length);
-    struct fikarehu_loaded loaded = fikarehu_load(recipe, length, out, out_length);
+    struct fikarehu_loaded loaded = load(recipe, length, out, out_length);
     CHECK(loaded.refusal == refusal, "%s into %zu: refusal %u, expected %u", what, out_length, loaded.refusal, refusal);
     CHECK(others_are_zero(&loaded), "%s into %zu: a refusal with other fields than 0", what, out_length);
     CHECK(kept(out, 0, out_length), "%s into %zu: the out buffer was written", what, out_length);
@@ -40,7 +44,7 @@ static void expect_refusal(const char *what, const uint8_t *recipe, size_t lengt
 static void case_a_into(size_t out_length) {
     uint8_t *out = out_end() - out_length;
     fill(out, out_length);
-    struct fikarehu_loaded loaded = fikarehu_load(case_a, sizeof case_a, out, out_length);
+    struct fikarehu_loaded loaded = load(case_a, sizeof case_a, out, out_length);
     CHECK(loaded.refusal == 0 && loaded.bays == 1, "case A: refusal %u, %u bays", loaded.refusal, loaded.bays);
     CHECK(loaded.length == sizeof image_a, "case A: length %llu", (unsigned long long)loaded.length);
     CHECK(memcmp(out, image_a, sizeof image_a) == 0, "case A: another image");
@@ -53,7 +57,7 @@ static void short_buffers(void) {
         expect_refusal("case A", case_a, sizeof case_a, lengths[i], FIKAREHU_REFUSED_BUFFER);
         expect_refusal("no recipe", NULL, 0, lengths[i], FIKAREHU_REFUSED_BUFFER);
     }
-    struct fikarehu_loaded loaded = fikarehu_load(NULL, 0, NULL, 0);
+    struct fikarehu_loaded loaded = load(NULL, 0, NULL, 0);
     CHECK(loaded.refusal == FIKAREHU_REFUSED_BUFFER, "no recipe and no buffer: refusal %u", loaded.refusal);
 }
 
@@ -78,7 +82,7 @@ static void deepest_cases(void) {
     make_cases(&file);
     uint8_t *out = out_end() - FIKAREHU_MAX_IMAGE;
     fill(out, FIKAREHU_MAX_IMAGE);
-    struct fikarehu_loaded loaded = fikarehu_load(file.bytes, file.length, out, FIKAREHU_MAX_IMAGE);
+    struct fikarehu_loaded loaded = load(file.bytes, file.length, out, FIKAREHU_MAX_IMAGE);
     CHECK(loaded.refusal == 0 && loaded.bays == CASE_BAYS, "cases: refusal %u, %u bays", loaded.refusal, loaded.bays);
     CHECK(kept(out, loaded.length, FIKAREHU_MAX_IMAGE), "cases: written beyond the image");
 }
@@ -96,7 +100,7 @@ static void worst_recipes(void) {
     make_lambdas(&file);
     uint8_t *out = out_end() - FIKAREHU_MAX_IMAGE;
     fill(out, FIKAREHU_MAX_IMAGE);
-    struct fikarehu_loaded loaded = fikarehu_load(file.bytes, file.length, out, FIKAREHU_MAX_IMAGE);
+    struct fikarehu_loaded loaded = load(file.bytes, file.length, out, FIKAREHU_MAX_IMAGE);
     CHECK(loaded.refusal == 0 && loaded.bays == LAMBDA_BAYS, "lambdas: refusal %u, %u bays", loaded.refusal,
           loaded.bays);
     CHECK(loaded.length == LAMBDA_IMAGE, "lambdas: length %llu", (unsigned long long)loaded.length);
@@ -111,7 +115,7 @@ static void edition_2(void) {
     make_2(&file, table_pair, sizeof table_pair, term, sizeof term, 1);
     uint8_t *out = out_end() - FIKAREHU_MAX_IMAGE;
     fill(out, FIKAREHU_MAX_IMAGE);
-    struct fikarehu_loaded loaded = fikarehu_load(file.bytes, file.length, out, FIKAREHU_MAX_IMAGE);
+    struct fikarehu_loaded loaded = load(file.bytes, file.length, out, FIKAREHU_MAX_IMAGE);
     CHECK(loaded.refusal == 0 && loaded.bays == 1 && loaded.types[0] == 0, "edition 2: refusal %u, %u bays",
           loaded.refusal, loaded.bays);
     CHECK(loaded.length == sizeof image, "edition 2: length %llu", (unsigned long long)loaded.length);
@@ -129,7 +133,7 @@ static void expect_image(const char *what, const struct file *file, uint32_t bay
                          size_t length) {
     uint8_t *out = out_end() - FIKAREHU_MAX_IMAGE;
     fill(out, FIKAREHU_MAX_IMAGE);
-    struct fikarehu_loaded loaded = fikarehu_load(file->bytes, file->length, out, FIKAREHU_MAX_IMAGE);
+    struct fikarehu_loaded loaded = load(file->bytes, file->length, out, FIKAREHU_MAX_IMAGE);
     CHECK(loaded.refusal == 0 && loaded.bays == bays, "%s: refusal %u, %u bays", what, loaded.refusal, loaded.bays);
     CHECK(loaded.length == length, "%s: length %llu, expected %zu", what, (unsigned long long)loaded.length, length);
     CHECK(memcmp(out, image, length) == 0, "%s: another image", what);
@@ -164,7 +168,7 @@ static void sixteen_starting_nums(void) {
     }
     make_3(&file, table_a, sizeof table_a, starting, sizeof starting, BYTES(3), FIKAREHU_MAX_BAYS);
     uint8_t *out = out_end() - FIKAREHU_MAX_IMAGE;
-    struct fikarehu_loaded loaded = fikarehu_load(file.bytes, file.length, out, FIKAREHU_MAX_IMAGE);
+    struct fikarehu_loaded loaded = load(file.bytes, file.length, out, FIKAREHU_MAX_IMAGE);
     CHECK(loaded.refusal == 0 && loaded.bays == FIKAREHU_MAX_BAYS, "sixteen bays: refusal %u", loaded.refusal);
     const uint8_t *setting = out + FIKAREHU_FIRST_HEAD + 2 * FIKAREHU_MAX_BAYS * FIKAREHU_HEAD_LENGTH;
     for (size_t bay = 0; bay < FIKAREHU_MAX_BAYS; bay++, setting += 3) {
@@ -176,14 +180,10 @@ static void sixteen_starting_nums(void) {
 /* A setting and a first thread belong to their bay: the companion bytes of names k and b + k are k. */
 static void owners(void) {
     static struct file file;
-    make(&file, table_5, sizeof table_5, BYTES(2, 2, 6, 4, 9, 1, 4, 0xFA, 0), 2);
-    expect_image("two bays", &file, 2,
-                 BYTES(4, 0, 2, 0, 26, 0, 3, 0, 2, 1, 29, 0, 3, 0, 1, 0, 32, 0, 9, 0, 1, 1, 41, 0, 9, 0, 4, 0, 0, 4, 0, 0, 2, 2,
-                       6, 4, 9, 1, 4, 0xFA, 0, 2, 2, 6, 4, 9, 1, 4, 0xFA, 0));
     for (size_t bays = 1; bays <= FIKAREHU_MAX_BAYS; bays++) {
         make(&file, table_a, sizeof table_a, BYTES(3), bays);
         const uint8_t *out = out_end() - FIKAREHU_MAX_IMAGE;
-        fikarehu_load(file.bytes, file.length, out_end() - FIKAREHU_MAX_IMAGE, FIKAREHU_MAX_IMAGE);
+        load(file.bytes, file.length, out_end() - FIKAREHU_MAX_IMAGE, FIKAREHU_MAX_IMAGE);
         for (size_t name = 0; name < 2 * bays; name++) {
             const uint8_t *head = out + FIKAREHU_FIRST_HEAD + FIKAREHU_HEAD_LENGTH * name;
             const uint8_t kind = name < bays ? FIKAREHU_KIND_CELL : FIKAREHU_KIND_THREAD;
@@ -193,13 +193,22 @@ static void owners(void) {
     }
 }
 
+/* Bays that name another's setting: in the common profile they may. */
+static void settings_of_others(void) {
+    static struct file file;
+    make(&file, table_5, sizeof table_5, BYTES(2, 2, 6, 4, 9, 1, 4, 0xFA, 0), 2);
+    expect_image("two bays", &file, 2,
+                 BYTES(4, 0, 2, 0, 26, 0, 3, 0, 2, 1, 29, 0, 3, 0, 1, 0, 32, 0, 9, 0, 1, 1, 41, 0, 9, 0, 4, 0, 0, 4, 0, 0, 2, 2,
+                       6, 4, 9, 1, 4, 0xFA, 0, 2, 2, 6, 4, 9, 1, 4, 0xFA, 0));
+}
+
 /* "an edition 3 file of zeros loads the same image as its edition 2 twin" */
 static void expect_twins(const char *what, const struct file *file, size_t bays) {
     static struct file twin;
     static uint8_t image[FIKAREHU_MAX_IMAGE];
     make_twin(&twin, file, zeros, 2 * bays);
     CHECK(twin.length == file->length + 4 + 2 * bays, "%s: the twin has %zu bytes", what, twin.length);
-    struct fikarehu_loaded loaded = fikarehu_load(file->bytes, file->length, image, sizeof image);
+    struct fikarehu_loaded loaded = load(file->bytes, file->length, image, sizeof image);
     expect_image(what, &twin, loaded.bays, image, loaded.length);
 }
 
@@ -207,14 +216,22 @@ static void twins(void) {
     static struct file file;
     make_2(&file, table_a, sizeof table_a, BYTES(3), 1);
     expect_twins("case A", &file, 1);
-    make_2(&file, table_5, sizeof table_5, BYTES(2, 2, 6, 4, 9, 0, 4, 0xFA, 0), 9);
-    expect_twins("case B in nine bays", &file, 9);
-    make_2(&file, table_a, sizeof table_a, BYTES(9, 15), FIKAREHU_MAX_BAYS);
+    make_2(&file, table_5, sizeof table_5, BYTES(2, 2, 6, 4, 9, 0, 4, 0xFA, 0), 1);
+    expect_twins("case B", &file, 1);
+    make_2(&file, table_a, sizeof table_a, BYTES(3), FIKAREHU_MAX_BAYS);
     expect_twins("sixteen bays", &file, FIKAREHU_MAX_BAYS);
     make_lambdas(&file);
     expect_twins("lambdas", &file, LAMBDA_BAYS);
     make_cases(&file);
     expect_twins("cases", &file, CASE_BAYS);
+}
+
+static void twins_with_settings_of_others(void) {
+    static struct file file;
+    make_2(&file, table_5, sizeof table_5, BYTES(2, 2, 6, 4, 9, 0, 4, 0xFA, 0), 9);
+    expect_twins("case B in nine bays", &file, 9);
+    make_2(&file, table_a, sizeof table_a, BYTES(9, 15), FIKAREHU_MAX_BAYS);
+    expect_twins("sixteen bays", &file, FIKAREHU_MAX_BAYS);
 }
 
 /* A starting part of another length, after all other causes; 12 comes before it. */
@@ -250,8 +267,15 @@ static void *on_a_thread(void *nothing) {
 }
 
 int main(void) {
+    load = fikarehu_load_separate;
     short_buffers();
     on_a_thread(NULL);
     on_small_stack(SMALL_STACK, on_a_thread, NULL);
+    load = fikarehu_load;
+    short_buffers();
+    on_a_thread(NULL);
+    on_small_stack(SMALL_STACK, on_a_thread, NULL);
+    settings_of_others();
+    twins_with_settings_of_others();
     return finish();
 }

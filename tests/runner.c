@@ -135,12 +135,6 @@ static void expect_run(const char *what, const struct file *file, uint16_t turns
 /* 3 unit to unit, 4 from 3 to 3, 5 from 4 to 3, 6 from 3 to unit, 7 num to cell, 8 cell to unit; all many. */
 static const uint8_t table[] = {0, 0, 0, 1, 0, 0, 2, 1, 0, 4, 0, 0, 4, 3, 3, 4, 4, 3, 4, 3, 0, 4, 1, 2, 4, 2, 0};
 
-/* A term for a bay. */
-struct term {
-    const uint8_t *bytes;
-    size_t length;
-};
-
 #define TERM(...) {(const uint8_t[]){__VA_ARGS__}, sizeof((const uint8_t[]){__VA_ARGS__})}
 #define IDENTITY 1, 3, 0, 0
 #define DOUBLED 2, 1, 4, 1, 3, 2, 0, 1, 2, 0, 1, 0, 0
@@ -161,14 +155,8 @@ static struct file scratch;
 
 /* A file with these terms. */
 static void make_bays(struct file *file, const struct term *terms, size_t bays) {
-    open_file(file, EDITION_1, bays + 1);
-    put_part(file, 0, table, sizeof table);
-    for (size_t bay = 0; bay < bays; bay++) {
-        put_part(file, 1 + bay, terms[bay].bytes, terms[bay].length);
-    }
+    make_terms(file, EDITION_1, table, sizeof table, terms, bays);
 }
-
-#define BAYS(...) ((const struct term[]){__VA_ARGS__}), sizeof((const struct term[]){__VA_ARGS__}) / sizeof(struct term)
 
 static void stops_idle(void) {
     make_bays(&scratch, BAYS(done));

@@ -1,15 +1,20 @@
 /*
- * The step called from C. Prints failures and a last line with the number of checks.
+ * The step of either profile called from C, where both answer the same; tests/separate.c has where they do not. Prints failures and a last
+ * line with the number of checks.
  *
  *   cc -std=c11 -O2 -Wall -Wextra -Werror -pthread tests/step.c target/staticlib/libfikarehu.a -o step && ./step
  */
 #define _GNU_SOURCE
 #include "check.h"
+#include "images.h"
 #include "pattern.h"
 
 #include "../include/fikarehu.h"
 
 enum { ROOM = 1 << 17 };
+
+/* The step that is tried. */
+static struct fikarehu_stepped (*step)(const uint8_t *, size_t, uint64_t, uint8_t *, size_t);
 
 /* The image placed against a page that traps. */
 static const uint8_t *place(const uint8_t *image, size_t length) {
@@ -36,7 +41,7 @@ static void expect(const char *what, const uint8_t *image, size_t length, uint64
                    uint32_t outcome, uint32_t number) {
     uint8_t *out = out_end() - out_length;
     fill(out, out_length);
-    struct fikarehu_stepped stepped = fikarehu_step(place(image, length), length, thread, out, out_length);
+    struct fikarehu_stepped stepped = step(place(image, length), length, thread, out, out_length);
     CHECK(stepped.outcome == outcome, "%s: outcome %u, expected %u", what, stepped.outcome, outcome);
     CHECK(stepped.number == number, "%s: number %u, expected %u", what, stepped.number, number);
     CHECK(stepped.length == 0, "%s: length %llu, expected 0", what, (unsigned long long)stepped.length);
@@ -52,7 +57,7 @@ static void expect_rule(const char *what, const uint8_t *image, size_t length, u
                         const uint8_t *next, size_t next_length) {
     uint8_t *out = out_end() - FIKAREHU_MAX_IMAGE;
     fill(out, FIKAREHU_MAX_IMAGE);
-    struct fikarehu_stepped stepped = fikarehu_step(place(image, length), length, thread, out, FIKAREHU_MAX_IMAGE);
+    struct fikarehu_stepped stepped = step(place(image, length), length, thread, out, FIKAREHU_MAX_IMAGE);
     CHECK(stepped.outcome == FIKAREHU_RULE, "%s: outcome %u, number %u", what, stepped.outcome, stepped.number);
     CHECK(stepped.number == rule, "%s: rule %u, expected %u", what, stepped.number, rule);
     CHECK(stepped.length == next_length, "%s: length %llu, expected %zu", what, (unsigned long long)stepped.length,
@@ -243,44 +248,26 @@ static void owners(void) {
                                {3, 0, 1, 0, 20, 0, 1, 0, 5, 0, 21, 0, 0, 0, 3, 1, 21, 0, 0, 0, 3}, 21, 9});
 }
 
-/* A name to be written into an image: its kind, its companion byte, and the bytes of its expression. */
-struct name {
-    uint8_t kind, companion, expression[4];
-    size_t length;
-};
-
-static size_t write_names(uint8_t *image, const struct name *names, size_t count) {
-    size_t end = FIKAREHU_FIRST_HEAD + FIKAREHU_HEAD_LENGTH * count;
-    image[0] = (uint8_t)count;
-    image[1] = (uint8_t)(count >> 8);
-    for (size_t name = 0; name < count; name++) {
-        const uint8_t head[] = {names[name].kind, names[name].companion, (uint8_t)end, (uint8_t)(end >> 8),
-                                (uint8_t)names[name].length, 0};
-        memcpy(image + FIKAREHU_FIRST_HEAD + FIKAREHU_HEAD_LENGTH * name, head, sizeof head);
-        memcpy(image + end, names[name].expression, names[name].length);
-        end += names[name].length;
-    }
-    return end;
-}
-
 /* An open handle's companion is its future's number, and no owner: 16 and more stand. Thread 0, of bay 2, binds by handle 1 a future of
- * bay 13; the names between are threads of every bay. */
+ * bay 13; the names between are threads of every bay, up to more than bay 2's and bay 13's shares. */
 static void futures_of_high_numbers(void) {
+    static const uint8_t unit[] = {FIKAREHU_TAG_UNIT};
+    static const uint8_t binding[] = {FIKAREHU_TAG_APPLICATION, FIKAREHU_TAG_NAME, 1, FIKAREHU_TAG_UNIT};
     static const uint8_t futures[] = {2, 15, 16, 20, 200, FIKAREHU_MAX_NAMES - 1};
     static uint8_t image[FIKAREHU_MAX_IMAGE], next[FIKAREHU_MAX_IMAGE];
     static struct name names[FIKAREHU_MAX_NAMES];
     for (size_t i = 0; i < sizeof futures; i++) {
         const uint8_t future = futures[i];
         for (size_t name = 2; name < future; name++) {
-            names[name] = (struct name){FIKAREHU_KIND_THREAD, (uint8_t)(name % FIKAREHU_MAX_BAYS), {FIKAREHU_TAG_UNIT}, 1};
+            names[name] = (struct name){FIKAREHU_KIND_THREAD, (uint8_t)(name % FIKAREHU_MAX_BAYS), unit, sizeof unit};
         }
-        names[0] = (struct name){FIKAREHU_KIND_THREAD, 2, {FIKAREHU_TAG_APPLICATION, FIKAREHU_TAG_NAME, 1, FIKAREHU_TAG_UNIT}, 4};
-        names[1] = (struct name){FIKAREHU_KIND_OPEN_HANDLE, future, {0}, 0};
-        names[future] = (struct name){FIKAREHU_KIND_FUTURE, 13, {0}, 0};
+        names[0] = (struct name){FIKAREHU_KIND_THREAD, 2, binding, sizeof binding};
+        names[1] = (struct name){FIKAREHU_KIND_OPEN_HANDLE, future, NULL, 0};
+        names[future] = (struct name){FIKAREHU_KIND_FUTURE, 13, NULL, 0};
         size_t length = write_names(image, names, future + (size_t)1);
-        names[0] = (struct name){FIKAREHU_KIND_THREAD, 2, {FIKAREHU_TAG_UNIT}, 1};
-        names[1] = (struct name){FIKAREHU_KIND_USED_HANDLE, 13, {0}, 0};
-        names[future] = (struct name){FIKAREHU_KIND_THREAD, 13, {FIKAREHU_TAG_UNIT}, 1};
+        names[0] = (struct name){FIKAREHU_KIND_THREAD, 2, unit, sizeof unit};
+        names[1] = (struct name){FIKAREHU_KIND_USED_HANDLE, 13, NULL, 0};
+        names[future] = (struct name){FIKAREHU_KIND_THREAD, 13, unit, sizeof unit};
         size_t next_length = write_names(next, names, future + (size_t)1);
         expect_rule("a future of a high number", image, length, 0, FIKAREHU_HANDLE_BIND, next, next_length);
     }
@@ -302,7 +289,7 @@ static void short_buffers(void) {
                FIKAREHU_REFUSED_BUFFER);
         expect("a short buffer and no image", NULL, 0, 9, lengths[i], FIKAREHU_REFUSED, FIKAREHU_REFUSED_BUFFER);
     }
-    struct fikarehu_stepped stepped = fikarehu_step(NULL, 0, 0, NULL, 0);
+    struct fikarehu_stepped stepped = step(NULL, 0, 0, NULL, 0);
     CHECK(stepped.outcome == FIKAREHU_REFUSED && stepped.number == FIKAREHU_REFUSED_BUFFER,
           "no image and no buffer: number %u",
           stepped.number);
@@ -374,7 +361,7 @@ static size_t copying(size_t uses) {
 static void room(void) {
     uint8_t *out = out_end() - FIKAREHU_MAX_IMAGE;
     size_t length = large_image(copying(62));
-    struct fikarehu_stepped stepped = fikarehu_step(place(large, length), length, 0, out, FIKAREHU_MAX_IMAGE);
+    struct fikarehu_stepped stepped = step(place(large, length), length, 0, out, FIKAREHU_MAX_IMAGE);
     CHECK(stepped.outcome == FIKAREHU_RULE && stepped.number == FIKAREHU_CASE_PAIR, "4,093 nodes: outcome %u, number %u",
           stepped.outcome, stepped.number);
     expect_refusal("4,159 nodes", large, large_image(copying(63)), 0, FIKAREHU_REFUSED_ROOM);
@@ -398,7 +385,6 @@ static void *everything(void *nothing) {
     rules_and_owners();
     bound_futures_and_owners();
     owners();
-    futures_of_high_numbers();
     other_subjects();
     other_answers();
     broken_images();
@@ -411,7 +397,12 @@ static void *everything(void *nothing) {
 }
 
 int main(void) {
+    step = fikarehu_step_separate;
     everything(NULL);
     on_small_stack(SMALL_STACK, everything, NULL);
+    step = fikarehu_step;
+    everything(NULL);
+    on_small_stack(SMALL_STACK, everything, NULL);
+    futures_of_high_numbers();
     return finish();
 }

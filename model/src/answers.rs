@@ -4,6 +4,7 @@
 use crate::limits::MAX_BAYS;
 use crate::load::{self, Loaded};
 use crate::plain;
+use crate::profile::Profile;
 use crate::runner::{self, Buffer, Ran, Stop};
 use crate::step::{self, Outcome};
 use crate::verdict::{self, Verdict};
@@ -88,6 +89,69 @@ pub trait Implementation {
         first: &mut [u8],
         second: &mut [u8],
     ) -> Option<RanAnswer>;
+    /// `None` where a library has no loader of the separate profile.
+    fn load_separate(&self, _recipe: &[u8], _out: &mut [u8]) -> Option<LoadedAnswer> {
+        None
+    }
+    /// `None` where a library has no stepper of the separate profile.
+    fn step_separate(&self, _image: &[u8], _thread: u64, _out: &mut [u8]) -> Option<SteppedAnswer> {
+        None
+    }
+
+    /// The loader of that profile.
+    fn load_in(&self, profile: Profile, recipe: &[u8], out: &mut [u8]) -> Option<LoadedAnswer> {
+        match profile {
+            Profile::Common => self.load(recipe, out),
+            Profile::Separate => self.load_separate(recipe, out),
+        }
+    }
+
+    /// The stepper of that profile.
+    fn step_in(
+        &self,
+        profile: Profile,
+        image: &[u8],
+        thread: u64,
+        out: &mut [u8],
+    ) -> Option<SteppedAnswer> {
+        match profile {
+            Profile::Common => self.step(image, thread, out),
+            Profile::Separate => self.step_separate(image, thread, out),
+        }
+    }
+}
+
+impl From<Loaded> for LoadedAnswer {
+    fn from(loaded: Loaded) -> LoadedAnswer {
+        match loaded {
+            Loaded::Refused(refusal) => LoadedAnswer {
+                refusal,
+                ..LoadedAnswer::default()
+            },
+            Loaded::Accepted(types, length) => LoadedAnswer {
+                refusal: 0,
+                bays: types.len() as u32,
+                types: sixteen(&types),
+                length: length as u64,
+            },
+        }
+    }
+}
+
+impl From<Outcome> for SteppedAnswer {
+    fn from(outcome: Outcome) -> SteppedAnswer {
+        let (outcome, number, length) = match outcome {
+            Outcome::Done => (DONE, 0, 0),
+            Outcome::Rule(rule, length) => (RULE, u32::from(rule), length as u64),
+            Outcome::Waiting(name) => (WAITING, u32::from(name), 0),
+            Outcome::Refused(number) => (REFUSED, number, 0),
+        };
+        SteppedAnswer {
+            outcome,
+            number,
+            length,
+        }
+    }
 }
 
 /// The model.
@@ -109,32 +173,19 @@ impl Implementation for Model {
     }
 
     fn load(&self, recipe: &[u8], out: &mut [u8]) -> Option<LoadedAnswer> {
-        Some(match load::load(recipe, out) {
-            Loaded::Refused(refusal) => LoadedAnswer {
-                refusal,
-                ..LoadedAnswer::default()
-            },
-            Loaded::Accepted(types, length) => LoadedAnswer {
-                refusal: 0,
-                bays: types.len() as u32,
-                types: sixteen(&types),
-                length: length as u64,
-            },
-        })
+        Some(load::load(recipe, out).into())
     }
 
     fn step(&self, image: &[u8], thread: u64, out: &mut [u8]) -> Option<SteppedAnswer> {
-        let (outcome, number, length) = match step::step(image, thread, out) {
-            Outcome::Done => (DONE, 0, 0),
-            Outcome::Rule(rule, length) => (RULE, u32::from(rule), length as u64),
-            Outcome::Waiting(name) => (WAITING, u32::from(name), 0),
-            Outcome::Refused(number) => (REFUSED, number, 0),
-        };
-        Some(SteppedAnswer {
-            outcome,
-            number,
-            length,
-        })
+        Some(step::step(image, thread, out).into())
+    }
+
+    fn load_separate(&self, recipe: &[u8], out: &mut [u8]) -> Option<LoadedAnswer> {
+        Some(load::load_in(Profile::Separate, recipe, out).into())
+    }
+
+    fn step_separate(&self, image: &[u8], thread: u64, out: &mut [u8]) -> Option<SteppedAnswer> {
+        Some(step::step_in(Profile::Separate, image, thread, out).into())
     }
 
     fn run(
@@ -164,6 +215,33 @@ impl Implementation for Model {
     }
 }
 
+impl From<(plain::Answer, usize)> for LoadedAnswer {
+    fn from((answer, length): (plain::Answer, usize)) -> LoadedAnswer {
+        LoadedAnswer {
+            refusal: answer.refusal,
+            bays: answer.bays,
+            types: answer.types,
+            length: length as u64,
+        }
+    }
+}
+
+impl From<plain::Stepped> for SteppedAnswer {
+    fn from(stepped: plain::Stepped) -> SteppedAnswer {
+        let (outcome, number, length) = match stepped {
+            plain::Stepped::Done => (DONE, 0, 0),
+            plain::Stepped::Rule(rule, length) => (RULE, u32::from(rule), length as u64),
+            plain::Stepped::Waiting(name) => (WAITING, u32::from(name), 0),
+            plain::Stepped::Refused(number) => (REFUSED, number, 0),
+        };
+        SteppedAnswer {
+            outcome,
+            number,
+            length,
+        }
+    }
+}
+
 /// The plain implementation.
 pub struct Plain;
 
@@ -178,27 +256,19 @@ impl Implementation for Plain {
     }
 
     fn load(&self, recipe: &[u8], out: &mut [u8]) -> Option<LoadedAnswer> {
-        let (answer, length) = plain::load(recipe, out);
-        Some(LoadedAnswer {
-            refusal: answer.refusal,
-            bays: answer.bays,
-            types: answer.types,
-            length: length as u64,
-        })
+        Some(plain::load(recipe, out).into())
     }
 
     fn step(&self, image: &[u8], thread: u64, out: &mut [u8]) -> Option<SteppedAnswer> {
-        let (outcome, number, length) = match plain::step(image, thread, out) {
-            plain::Stepped::Done => (DONE, 0, 0),
-            plain::Stepped::Rule(rule, length) => (RULE, u32::from(rule), length as u64),
-            plain::Stepped::Waiting(name) => (WAITING, u32::from(name), 0),
-            plain::Stepped::Refused(number) => (REFUSED, number, 0),
-        };
-        Some(SteppedAnswer {
-            outcome,
-            number,
-            length,
-        })
+        Some(plain::step(image, thread, out).into())
+    }
+
+    fn load_separate(&self, recipe: &[u8], out: &mut [u8]) -> Option<LoadedAnswer> {
+        Some(plain::load_separate(recipe, out).into())
+    }
+
+    fn step_separate(&self, image: &[u8], thread: u64, out: &mut [u8]) -> Option<SteppedAnswer> {
+        Some(plain::step_separate(image, thread, out).into())
     }
 
     fn run(

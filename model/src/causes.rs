@@ -38,3 +38,7 @@ pub const WRONG_KIND: u32 = 17;
 pub const SEED: u32 = 18;
 /// A starting part whose length is not twice the number of bays (document 02, T-07).
 pub const STARTING: u32 = 19;
+/// A bay of the separate profile that names another's setting (document 02, T-09).
+pub const OTHER_SETTING: u32 = 20;
+/// A bay of the separate profile that starts above its share (document 02, T-09).
+pub const SHARE: u32 = 21;

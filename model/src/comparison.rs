@@ -2,6 +2,7 @@
 //! inputs that end where a page begins that traps.
 
 mod runner;
+mod separate;
 
 use crate::answers::{
     Implementation, Model, RanAnswer, SteppedAnswer, VerdictAnswer, DONE, RULE, WAITING,
@@ -12,7 +13,9 @@ use crate::generate::instances::constants_at_every_type;
 use crate::generate::{houses, images, recipes};
 use crate::guard::Guarded;
 use crate::limits;
+use crate::profile::Profile;
 use crate::verdict::{derived_types, read_recipe};
+use separate::SeparateCounts;
 use std::fmt;
 
 /// Room for the longest file or image that the generator makes.
@@ -24,6 +27,8 @@ const TABLE_EVERY: u64 = 5_000;
 /// After how many recipes the runner gets one of them, and after how many a house.
 const RUNNER_EVERY: u64 = 4;
 const HOUSE_EVERY: u64 = 50;
+/// After how many recipes the separate profile gets one of its own.
+const SEPARATE_EVERY: u64 = 4;
 /// The most steps of one run.
 const RUN_STEPS: usize = 40;
 
@@ -40,6 +45,7 @@ pub struct Counts {
     /// Of the runs that were not refused, by their stops.
     pub stops: [u64; 3],
     pub turns: u64,
+    pub separate: SeparateCounts,
 }
 
 impl Counts {
@@ -78,11 +84,12 @@ impl fmt::Display for Counts {
         writeln!(f, "step:  done: {}, waiting: {}", self.done, self.waiting)?;
         writeln!(f, "run:   {}", listed(&self.runs, "verdict"))?;
         let [turns, idle, room] = self.stops;
-        write!(
+        writeln!(
             f,
             "run:   all turns: {turns}, idle: {idle}, room: {room}; {} turns in all",
             self.turns
-        )
+        )?;
+        write!(f, "{}", self.separate)
     }
 }
 
@@ -125,12 +132,14 @@ impl<'a, I: Implementation> Comparison<'a, I> {
 
     /// That many recipes: each checked and loaded, every fourth accepted one run; one image from
     /// outside for every second recipe; and now and then every constant at every type of a table. The
-    /// runner gets every fourth recipe, and houses beside them. The recipes are the same with and
-    /// without a stepper and a runner.
+    /// runner gets every fourth recipe, and houses beside them. The separate profile gets all of it too,
+    /// and recipes and images of its own. The recipes are the same with and without a stepper, a runner
+    /// and that profile.
     pub fn compare(&mut self, seed: u64, count: u64) -> Result<(), Difference> {
         let mut for_recipes = Draw::new(seed);
         let mut draw = Draw::new(!seed);
         let mut for_runner = Draw::new(seed.rotate_left(32));
+        let mut for_separate = Draw::new(!seed.rotate_left(32));
         let steps = self.implementation.step(&[], 0, &mut []).is_some();
         for number in 0..count {
             if number % TABLE_EVERY == 0 {
@@ -138,12 +147,17 @@ impl<'a, I: Implementation> Comparison<'a, I> {
             }
             let file = recipes::file(&mut for_recipes);
             let answer = self.compare_check(&file)?;
-            self.compare_load(&mut draw, &file)?;
+            self.compare_load(Profile::Common, &mut draw, &file)?;
+            self.compare_load(Profile::Separate, &mut for_separate, &file)?;
             if steps && answer.refusal == 0 && number % 4 == 0 {
-                self.compare_run(&mut draw, &file)?;
+                self.compare_run(Profile::Common, &mut draw, &file)?;
+                self.compare_run(Profile::Separate, &mut for_separate, &file)?;
             }
             if steps && number % 2 == 0 {
-                self.compare_image(&mut draw)?;
+                self.compare_image(&mut draw, &mut for_separate)?;
+            }
+            if number % SEPARATE_EVERY == 1 {
+                self.compare_separate(&mut for_separate)?;
             }
             if number % RUNNER_EVERY == 1 {
                 let turns = houses::any_turns(&mut for_runner);
@@ -183,39 +197,59 @@ impl<'a, I: Implementation> Comparison<'a, I> {
     }
 
     /// Load: the same answer and the same bytes.
-    pub fn compare_load(&mut self, draw: &mut Draw, file: &[u8]) -> Result<(), Difference> {
+    pub fn compare_load(
+        &mut self,
+        profile: Profile,
+        draw: &mut Draw,
+        file: &[u8],
+    ) -> Result<(), Difference> {
         let length = images::out_length(draw);
         let pattern = pattern(&self.pattern, draw, length);
         let out = self.outs[0].last(length);
         out.copy_from_slice(pattern);
-        let found = match self.implementation.load(self.input.place(file), out) {
+        let placed = self.input.place(file);
+        let found = match self.implementation.load_in(profile, placed, out) {
             Some(found) => found,
             None => return Ok(()),
         };
         self.expected_out.clear();
         self.expected_out.extend_from_slice(pattern);
         let expected_out = &mut self.expected_out;
-        let expected = Model.load(file, expected_out).unwrap_or_default();
-        self.counts.loads[expected.refusal as usize] += 1;
+        let expected = Model.load_in(profile, file, expected_out);
+        let expected = expected.unwrap_or_default();
+        let loads = match profile {
+            Profile::Common => &mut self.counts.loads[..],
+            Profile::Separate => &mut self.counts.separate.loads,
+        };
+        loads[expected.refusal as usize] += 1;
         if found == expected && out == expected_out.as_slice() {
             return Ok(());
         }
         Err(Difference(format!(
-            "load into {length} bytes\nrecipe {}\nmodel {expected:?}\nfound {found:?}\nmodel out {}\nfound out {}",
+            "{profile:?} load into {length} bytes\nrecipe {}\nmodel {expected:?}\nfound {found:?}\nmodel out {}\nfound out {}",
             hexadecimal(file),
             hexadecimal(expected_out),
             hexadecimal(out)
         )))
     }
 
-    /// A run: random threads and buffers, refused and idle steps among them.
-    pub fn compare_run(&mut self, draw: &mut Draw, file: &[u8]) -> Result<(), Difference> {
+    /// A run of a recipe that is not refused: random threads and buffers, refused and idle steps among
+    /// them.
+    pub fn compare_run(
+        &mut self,
+        profile: Profile,
+        draw: &mut Draw,
+        file: &[u8],
+    ) -> Result<(), Difference> {
         let mut out = vec![0; limits::MAX_IMAGE];
-        let loaded = Model.load(file, &mut out).unwrap_or_default();
+        let loaded = Model.load_in(profile, file, &mut out).unwrap_or_default();
+        if loaded.refusal != 0 {
+            return Ok(());
+        }
         let mut image = out[..loaded.length as usize].to_vec();
         let mut thread = images::thread_number(draw, &image);
         for _ in 0..draw.between(1, RUN_STEPS) {
-            let next = self.compare_step(draw, &image, thread)?;
+            let next = self.compare_step(profile, draw, &image, thread)?;
             let moved = next.is_some();
             image = next.unwrap_or(image);
             if !moved && draw.one_in(6) {
@@ -229,11 +263,16 @@ impl<'a, I: Implementation> Comparison<'a, I> {
     }
 
     /// A slice from outside, each of its first threads stepped, and a number that is no thread.
-    pub fn compare_image(&mut self, draw: &mut Draw) -> Result<(), Difference> {
+    pub fn compare_image(
+        &mut self,
+        draw: &mut Draw,
+        for_separate: &mut Draw,
+    ) -> Result<(), Difference> {
         let image = images::image(draw);
         for _ in 0..draw.between(1, 4) {
             let thread = images::thread_number(draw, &image);
-            self.compare_step(draw, &image, thread)?;
+            self.compare_step(Profile::Common, draw, &image, thread)?;
+            self.compare_step(Profile::Separate, for_separate, &image, thread)?;
         }
         Ok(())
     }
@@ -241,6 +280,7 @@ impl<'a, I: Implementation> Comparison<'a, I> {
     /// Step: the same answer and the same bytes. The new image, if a rule was answered.
     pub fn compare_step(
         &mut self,
+        profile: Profile,
         draw: &mut Draw,
         image: &[u8],
         thread: u64,
@@ -250,21 +290,25 @@ impl<'a, I: Implementation> Comparison<'a, I> {
         let out = self.outs[0].last(length);
         out.copy_from_slice(pattern);
         let placed = self.input.place(image);
-        let found = match self.implementation.step(placed, thread, out) {
+        let found = match self.implementation.step_in(profile, placed, thread, out) {
             Some(found) => found,
             None => return Ok(None),
         };
         self.expected_out.clear();
         self.expected_out.extend_from_slice(pattern);
         let expected_out = &mut self.expected_out;
-        let expected = Model.step(image, thread, expected_out).unwrap_or_default();
-        self.counts.note_step(&expected);
+        let expected = Model.step_in(profile, image, thread, expected_out);
+        let expected = expected.unwrap_or_default();
+        match profile {
+            Profile::Common => self.counts.note_step(&expected),
+            Profile::Separate => self.counts.separate.note_step(image, thread, &expected),
+        }
         if found == expected && out == expected_out.as_slice() {
             let written = expected.outcome == RULE;
             return Ok(written.then(|| expected_out[..expected.length as usize].to_vec()));
         }
         Err(Difference(format!(
-            "step of {thread} into {length} bytes\nimage {}\nmodel {expected:?}\nfound {found:?}\nmodel out {}\nfound out {}",
+            "{profile:?} step of {thread} into {length} bytes\nimage {}\nmodel {expected:?}\nfound {found:?}\nmodel out {}\nfound out {}",
             hexadecimal(image),
             hexadecimal(expected_out),
             hexadecimal(out)

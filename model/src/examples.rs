@@ -7,22 +7,23 @@ use crate::editions;
 use crate::format::{hexadecimal, Recipe};
 use crate::image::{read_image, write_image};
 use crate::limits;
-use crate::load::{load, Loaded};
+use crate::load::{load_in, Loaded};
 use crate::nodes::Node;
-use crate::runner::{look, Look};
-use crate::step::{step_configuration, Stepped};
+use crate::profile::Profile;
+use crate::step::{step_configuration_in, Stepped};
 use crate::table::entry;
 use crate::tool::judge;
-use crate::tool::show::shown;
+use crate::tool::show::shown_in;
 use crate::tool::text::spelling::UNICODE;
 use crate::types::{Constant, Multiplicity, Shape};
 use std::fmt::Write;
 
-/// An example: its name, what it does, and its recipe.
+/// An example: its name, what it does, its recipe, and the profile that it is told in.
 pub struct Example {
     pub name: &'static str,
     pub text: &'static str,
     pub recipe: Recipe,
+    pub profile: Profile,
 }
 
 /// The number of the exch constant's type for the settings.
@@ -59,6 +60,7 @@ pub fn all() -> Vec<Example> {
         waiting_for_ever(),
         whose_job(),
         bound_to_itself(),
+        tenants(),
     ];
     examples.extend(refused());
     examples
@@ -70,8 +72,22 @@ pub fn file_of(name: &str) -> Vec<u8> {
     example.expect("an example of that name").file()
 }
 
+/// An example of the common profile.
 fn example(name: &'static str, text: &'static str, recipe: Recipe) -> Example {
-    Example { name, text, recipe }
+    Example {
+        name,
+        text,
+        recipe,
+        profile: Profile::Common,
+    }
+}
+
+/// An example of the separate profile.
+fn separate(name: &'static str, text: &'static str, recipe: Recipe) -> Example {
+    Example {
+        profile: Profile::Separate,
+        ..example(name, text, recipe)
+    }
 }
 
 fn one_bay() -> Example {
@@ -443,7 +459,37 @@ fn bound_to_itself() -> Example {
     example("bound-to-itself", text, types.recipe(vec![term]))
 }
 
-/// One recipe for each refusal from 4 to 11, and one for 19.
+fn tenants() -> Example {
+    let text = "Separate bays, document 02's T-09: two tenants. The tenant of bay 0 opens the vent to 20.0 \
+                percent, doubles a function eight times, which takes 1,540 nodes for a moment, and then \
+                opens to 40.0 percent. The tenant of bay 1 doubles eleven times, and would then open to \
+                90.0 percent. As separate bays (`recipe run --separate`) each bay has 2,048 nodes: bay 1 \
+                lacks room at its ninth doubling, and bay 0 comes to 40.0 percent, as it does beside a \
+                neighbour that does nothing. In the common profile bay 1 takes 3,092 of the 4,096 nodes of \
+                both: then bay 0 lacks room too, and its vent stays at 20.0 percent.";
+    let mut types = Types::new();
+    let exch = setting_exch(&mut types);
+    let function = types.many(UNIT, UNIT);
+    let doubling = types.many(function, function);
+    let last = types.many(function, NUM);
+    let whole = types.many(doubling, NUM);
+    let opened = types.many(NUM, NUM);
+    let twice = apply(variable(1), apply(variable(1), variable(0)));
+    let twice = lambda(doubling, lambda(function, twice));
+    // the identity, doubled so many times, then the vent
+    let growing = |times, vent| {
+        let identity = lambda(function, variable(0));
+        let doubled = (0..times).fold(identity, |f, _| apply(variable(0), f));
+        let body = apply(lambda(last, vent), doubled);
+        apply(lambda(whole, body), twice.clone())
+    };
+    let calm = growing(8, set(exch, 0, 400));
+    let calm = apply(lambda(opened, calm), set(exch, 0, 200));
+    let greedy = growing(11, set(exch, 1, 900));
+    separate("tenants", text, types.recipe(vec![calm, greedy]))
+}
+
+/// One recipe for each refusal from 4 to 11, and one for each from 19 to 21.
 fn refused() -> Vec<Example> {
     vec![
         refused_4(),
@@ -455,6 +501,8 @@ fn refused() -> Vec<Example> {
         refused_10(),
         refused_11(),
         refused_19(),
+        refused_20(),
+        refused_21(),
     ]
 }
 
@@ -538,12 +586,52 @@ fn refused_19() -> Example {
     example("refused-19", text, recipe)
 }
 
+fn refused_20() -> Example {
+    let text =
+        "Refused 20 as separate bays: a bay names another bay's setting. The tenant of bay 1 would open \
+                the vent of bay 0. In the common profile it may.";
+    let mut types = Types::new();
+    let exch = setting_exch(&mut types);
+    let terms = vec![set(exch, 0, 250), set(exch, 0, 900)];
+    separate("refused-20", text, types.recipe(terms))
+}
+
+fn refused_21() -> Example {
+    let text =
+        "Refused 21 as separate bays: a bay starts above its share. Of 16 bays each has 256 nodes; bay 1 \
+                has 256 in its term, and its setting is one more. With one node less it would start. In \
+                the common profile it may.";
+    let mut types = Types::new();
+    let identity = types.many(UNIT, UNIT);
+    let large = (0..85).fold(unit(), |term, _| apply(lambda(identity, variable(0)), term));
+    let mut terms = vec![unit(); limits::MAX_BAYS];
+    terms[1] = large;
+    separate("refused-21", text, types.recipe(terms))
+}
+
 /// How many turns the text of an example follows.
 const TURNS_TOLD: usize = 40;
 
 impl Example {
     pub fn file(&self) -> Vec<u8> {
         self.recipe.write()
+    }
+
+    /// What the loader of the example's profile refuses it for, or 0.
+    pub fn refusal(&self) -> u32 {
+        match self.loaded() {
+            Ok(_) => 0,
+            Err(number) => number,
+        }
+    }
+
+    /// The bays' types and the starting image.
+    fn loaded(&self) -> Result<(Vec<u8>, Vec<u8>), u32> {
+        let mut out = vec![0; limits::MAX_IMAGE];
+        match load_in(self.profile, &self.file(), &mut out) {
+            Loaded::Refused(number) => Err(number),
+            Loaded::Accepted(types, length) => Ok((types, out[..length].to_vec())),
+        }
     }
 
     /// The text beside the file: what it does, its types and terms, its verdict, how it runs.
@@ -557,48 +645,57 @@ impl Example {
     /// The pages name the proved library; where it is built in, the test `examples` asks it.
     fn types_and_terms(&self) -> String {
         let name = format!("{}.recipe", self.name);
-        let shown = shown(&name, &self.file(), &UNICODE);
+        let shown = shown_in(self.profile, &name, &self.file(), &UNICODE);
         let shown = shown.replace(&format!(" by {}", judge::NAME), " by the proved library");
-        format!("As `recipe show` has it (docs/RECIPES.md):\n\n```\n{shown}```\n")
+        let command = match self.profile {
+            Profile::Common => "recipe show",
+            Profile::Separate => "recipe show --separate",
+        };
+        format!("As `{command}` has it (docs/RECIPES.md):\n\n```\n{shown}```\n")
     }
 
     fn verdict_and_run(&self) -> String {
-        let mut out = vec![0; limits::MAX_IMAGE];
-        let (types, length) = match load(&self.file(), &mut out) {
-            Loaded::Refused(number) => return format!("\nVerdict: {number}.\n"),
-            Loaded::Accepted(types, length) => (types, length),
+        let verdict = match self.profile {
+            Profile::Common => "Verdict",
+            Profile::Separate => "Verdict as separate bays",
         };
-        let image = out[..length].to_vec();
+        let (types, image) = match self.loaded() {
+            Err(number) => return format!("\n{verdict}: {number}.\n"),
+            Ok(loaded) => loaded,
+        };
         let types: Vec<String> = types.iter().map(u8::to_string).collect();
-        let mut text = format!("\nVerdict: 0, bay types {}.\n", types.join(", "));
+        let mut text = format!("\n{verdict}: 0, bay types {}.\n", types.join(", "));
         write!(
             text,
             "\nStarting image:\n\n```\n{}\n```\n",
             hexadecimal(&image)
         )
         .expect("a text");
-        text += "\nThe turns of the runner:\n\n";
-        text + &told_run(image)
+        text += match self.profile {
+            Profile::Common => "\nThe turns of the runner:\n\n",
+            Profile::Separate => "\nThe turns in the runner's order, as separate bays:\n\n",
+        };
+        text + &told_run(self.profile, image)
     }
 }
 
-/// The runner's turns, until no thread can go or enough are told.
-fn told_run(mut image: Vec<u8>) -> String {
+/// The turns in the runner's order, until no thread can go or enough are told.
+fn told_run(profile: Profile, mut image: Vec<u8>) -> String {
     let mut text = String::new();
-    let mut last = None;
+    let mut from = 0;
     let mut turns = 0;
     let end = loop {
         let now = read_image(&image).expect("the image of a run");
         if turns == TURNS_TOLD {
             break "And so on.".to_owned();
         }
-        match look(&now, last) {
-            Look::Goes(thread, rule, next) => {
+        match first_that_goes(profile, &now, from) {
+            Some((thread, rule, next)) => {
                 writeln!(text, "- thread {thread}: rule {rule}").expect("a text takes more");
-                (image, last) = (write_image(&next), Some(thread));
+                (image, from) = (write_image(&next), thread + 1);
                 turns += 1;
             }
-            _ => break standing(&now),
+            None => break standing(profile, &now),
         }
     };
     if turns == 0 {
@@ -608,16 +705,35 @@ fn told_run(mut image: Vec<u8>) -> String {
     format!("{text}\n{end} The image is then:\n\n```\n{image}\n```\n")
 }
 
+/// The first thread that goes, round by number from there on; its rule, and what comes of it.
+fn first_that_goes(
+    profile: Profile,
+    now: &Configuration,
+    from: usize,
+) -> Option<(usize, u8, Configuration)> {
+    let mut round = (from..now.names()).chain(0..from);
+    round.find_map(
+        |name| match step_configuration_in(profile, now, name as u64) {
+            Stepped::Rule(rule, next) => Some((name, rule, next)),
+            _ => None,
+        },
+    )
+}
+
 /// Why no thread can go.
-fn standing(now: &Configuration) -> String {
-    let told = (0..now.names()).filter_map(|name| match step_configuration(now, name as u64) {
+fn standing(profile: Profile, now: &Configuration) -> String {
+    let stepped = |name| step_configuration_in(profile, now, name as u64);
+    let told = (0..now.names()).filter_map(|name| match stepped(name) {
         Stepped::Done => Some(format!("thread {name} is done")),
         Stepped::Waiting(awaited) => {
             let [own, other] = [name, usize::from(awaited)].map(|name| now.owners[name]);
             let waits = format!("thread {name} of bay {own} waits");
             Some(format!("{waits} for name {awaited} of bay {other}"))
         }
-        Stepped::Refused(causes::ROOM) => Some(format!("thread {name} lacks room")),
+        Stepped::Refused(causes::ROOM) => {
+            let own = now.owners[name];
+            Some(format!("thread {name} of bay {own} lacks room"))
+        }
         _ => None,
     });
     let told: Vec<String> = told.collect();

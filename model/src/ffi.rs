@@ -26,6 +26,19 @@ extern "C" {
         second: *mut u8,
         second_len: usize,
     ) -> RanAnswer;
+    fn fikarehu_load_separate(
+        recipe: *const u8,
+        recipe_len: usize,
+        out: *mut u8,
+        out_len: usize,
+    ) -> LoadedAnswer;
+    fn fikarehu_step_separate(
+        image: *const u8,
+        image_len: usize,
+        thread: u64,
+        out: *mut u8,
+        out_len: usize,
+    ) -> SteppedAnswer;
 }
 
 /// The verdict on a recipe.
@@ -70,6 +83,26 @@ pub fn run(recipe: &[u8], turns: u16, first: &mut [u8], second: &mut [u8]) -> Ra
     }
 }
 
+/// The starting image of a recipe, in the separate profile.
+pub fn load_separate(recipe: &[u8], out: &mut [u8]) -> LoadedAnswer {
+    // SAFETY: two slices that are lent meanwhile; the second is lent alone, so they do not overlap.
+    unsafe { fikarehu_load_separate(recipe.as_ptr(), recipe.len(), out.as_mut_ptr(), out.len()) }
+}
+
+/// A step of one thread, in the separate profile.
+pub fn step_separate(image: &[u8], thread: u64, out: &mut [u8]) -> SteppedAnswer {
+    // SAFETY: two slices that are lent meanwhile; the second is lent alone, so they do not overlap.
+    unsafe {
+        fikarehu_step_separate(
+            image.as_ptr(),
+            image.len(),
+            thread,
+            out.as_mut_ptr(),
+            out.len(),
+        )
+    }
+}
+
 /// The proved library.
 pub struct Library;
 
@@ -94,5 +127,13 @@ impl Implementation for Library {
         second: &mut [u8],
     ) -> Option<RanAnswer> {
         Some(run(recipe, turns, first, second))
+    }
+
+    fn load_separate(&self, recipe: &[u8], out: &mut [u8]) -> Option<LoadedAnswer> {
+        Some(load_separate(recipe, out))
+    }
+
+    fn step_separate(&self, image: &[u8], thread: u64, out: &mut [u8]) -> Option<SteppedAnswer> {
+        Some(step_separate(image, thread, out))
     }
 }

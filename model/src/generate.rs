@@ -9,6 +9,8 @@ pub mod images;
 pub mod instances;
 pub mod mutants;
 pub mod recipes;
+pub mod separate;
+pub mod shares;
 pub mod starts;
 pub mod tables;
 pub mod terms;

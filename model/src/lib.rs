@@ -29,6 +29,7 @@ pub mod limits;
 pub mod load;
 pub mod nodes;
 pub mod plain;
+pub mod profile;
 pub mod reduce;
 pub mod rows;
 pub mod rules;

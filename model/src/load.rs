@@ -1,4 +1,5 @@
-//! Document 01, "Loading": the starting image of an accepted recipe.
+//! Document 01, "Loading": the starting image of an accepted recipe, and what the separate profile of
+//! document 02, T-09, refuses besides.
 
 use crate::causes;
 use crate::config::{Component, Configuration};
@@ -6,6 +7,7 @@ use crate::expression::Expression;
 use crate::image::write_image;
 use crate::limits;
 use crate::nodes::Node;
+use crate::profile::Profile;
 use crate::verdict::{read_recipe, verdict, Verdict};
 use std::rc::Rc;
 
@@ -30,15 +32,25 @@ pub fn starting_configuration(starts: &[u16], terms: &[Vec<Node>]) -> Configurat
     }
 }
 
-/// The starting image of an accepted file.
-pub fn starting_image(file: &[u8]) -> Option<Vec<u8>> {
+/// The terms of an accepted file, and what it starts with.
+fn start(file: &[u8]) -> Option<(Vec<Vec<Node>>, Configuration)> {
     let recipe = read_recipe(file).ok()?;
-    let starts = recipe.starts?;
-    Some(write_image(&starting_configuration(&starts, &recipe.terms)))
+    let starting = starting_configuration(&recipe.starts?, &recipe.terms);
+    Some((recipe.terms, starting))
 }
 
-/// Loading: 12 first, then the verdict, then the image.
+/// The starting image of an accepted file.
+pub fn starting_image(file: &[u8]) -> Option<Vec<u8>> {
+    start(file).map(|(_, starting)| write_image(&starting))
+}
+
+/// Loading in the common profile.
 pub fn load(file: &[u8], out: &mut [u8]) -> Loaded {
+    load_in(Profile::Common, file, out)
+}
+
+/// Loading: 12 first, then the verdict, then what the profile refuses, then the image.
+pub fn load_in(profile: Profile, file: &[u8], out: &mut [u8]) -> Loaded {
     if out.len() < limits::MAX_IMAGE {
         return Loaded::Refused(causes::BUFFER);
     }
@@ -46,7 +58,11 @@ pub fn load(file: &[u8], out: &mut [u8]) -> Loaded {
         Verdict::Refused(number) => return Loaded::Refused(number),
         Verdict::Accepted(types) => types,
     };
-    let image = starting_image(file).expect("an accepted recipe has a starting image");
+    let (terms, starting) = start(file).expect("an accepted recipe has a start");
+    if let Some(number) = profile.refusal(&terms, &starting) {
+        return Loaded::Refused(number);
+    }
+    let image = write_image(&starting);
     out[..image.len()].copy_from_slice(&image);
     Loaded::Accepted(types, image.len())
 }

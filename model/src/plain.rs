@@ -6,6 +6,7 @@ mod image;
 mod levels;
 mod load;
 mod place;
+mod room;
 mod run;
 mod step;
 mod term;
@@ -14,7 +15,7 @@ mod walk;
 mod write;
 
 pub use check::{check, Answer};
-pub use load::load;
+pub use load::{load, load_separate};
 pub use run::{run, Ran};
-pub use step::{step, Stepped};
+pub use step::{step, step_separate, Stepped};
 pub use test_load::printed;

@@ -1,9 +1,11 @@
-//! Document 01, "A step": 12, 13, 14, then what the thread does, with 15 where there is no room.
+//! Document 01, "A step": 12, 13, 14, then what the thread does, with 15 where there is no room; in the
+//! separate profile of document 02, T-09, room is each bay's share.
 
 use crate::causes;
 use crate::config::{Component, Configuration};
 use crate::image::{read_image, write_image};
 use crate::limits;
+use crate::profile::Profile;
 use crate::reduce::{move_of, Move};
 
 /// The answer of a step.
@@ -26,8 +28,13 @@ pub enum Stepped {
     Refused(u32),
 }
 
-/// A step of that thread with an out buffer of that length.
+/// A step of that thread with an out buffer of that length, in the common profile.
 pub fn stepped(image: &[u8], thread: u64, out_length: usize) -> Stepped {
+    stepped_in(Profile::Common, image, thread, out_length)
+}
+
+/// A step of that thread with an out buffer of that length.
+pub fn stepped_in(profile: Profile, image: &[u8], thread: u64, out_length: usize) -> Stepped {
     if out_length < limits::MAX_IMAGE {
         return Stepped::Refused(causes::BUFFER);
     }
@@ -35,11 +42,20 @@ pub fn stepped(image: &[u8], thread: u64, out_length: usize) -> Stepped {
         Some(configuration) => configuration,
         None => return Stepped::Refused(causes::IMAGE),
     };
-    step_configuration(&configuration, thread)
+    step_configuration_in(profile, &configuration, thread)
+}
+
+/// A step on a configuration that keeps the rules and limits of an image, in the common profile.
+pub fn step_configuration(configuration: &Configuration, thread: u64) -> Stepped {
+    step_configuration_in(Profile::Common, configuration, thread)
 }
 
 /// A step on a configuration that keeps the rules and limits of an image.
-pub fn step_configuration(configuration: &Configuration, thread: u64) -> Stepped {
+pub fn step_configuration_in(
+    profile: Profile,
+    configuration: &Configuration,
+    thread: u64,
+) -> Stepped {
     let place = usize::try_from(thread).ok();
     let component = place.and_then(|place| configuration.components.get(place));
     let place = match (place, component) {
@@ -47,7 +63,9 @@ pub fn step_configuration(configuration: &Configuration, thread: u64) -> Stepped
         _ => return Stepped::Refused(causes::NO_THREAD),
     };
     match move_of(configuration, place) {
-        Move::Rule(_, next) if !next.is_within_limits() => Stepped::Refused(causes::ROOM),
+        Move::Rule(_, next) if !profile.has_room(configuration, &next) => {
+            Stepped::Refused(causes::ROOM)
+        }
         Move::Rule(rule, next) => Stepped::Rule(rule, next),
         Move::Done => Stepped::Done,
         Move::Waiting(name) => Stepped::Waiting(name),
@@ -56,10 +74,15 @@ pub fn step_configuration(configuration: &Configuration, thread: u64) -> Stepped
     }
 }
 
+/// A step in the common profile.
+pub fn step(image: &[u8], thread: u64, out: &mut [u8]) -> Outcome {
+    step_in(Profile::Common, image, thread, out)
+}
+
 /// "After a load or step the out buffer holds the image in its first bytes and is unchanged
 /// beyond." Nothing is written on done, waiting or a refusal.
-pub fn step(image: &[u8], thread: u64, out: &mut [u8]) -> Outcome {
-    match stepped(image, thread, out.len()) {
+pub fn step_in(profile: Profile, image: &[u8], thread: u64, out: &mut [u8]) -> Outcome {
+    match stepped_in(profile, image, thread, out.len()) {
         Stepped::Rule(rule, next) => {
             let written = write_image(&next);
             out[..written.len()].copy_from_slice(&written);

@@ -4,6 +4,7 @@
 mod tool_common;
 
 use model::answers::{RanAnswer, SteppedAnswer, VerdictAnswer};
+use model::profile::Profile;
 use model::tool::compare::pair::Difference;
 use model::tool::compare::report::in_full;
 use model::tool::compare::words::InWords;
@@ -65,6 +66,15 @@ fn a_checker_that_turns_everything_away_and_one_that_passes_everything() {
         text.contains("B has no fikarehu_run: not compared"),
         "{text}"
     );
+    assert!(
+        text.contains("A has no fikarehu_load_separate: not compared"),
+        "{text}"
+    );
+    assert!(
+        text.contains("B has no fikarehu_step_separate: not compared"),
+        "{text}"
+    );
+    assert!(text.contains("\nseparate load: not compared\n"), "{text}");
     assert!(text.ends_with("\nsame\n"), "{text}");
     let differ = recipe(&["compare", &away, &passes, "--count", "20"]);
     assert_eq!(differ.status.code(), Some(1));
@@ -159,13 +169,17 @@ fn verdict(refusal: u32, bays: u32, first: u8, last: u8) -> String {
     answer.in_words()
 }
 
-fn stepped(outcome: u32, number: u32, length: u64) -> String {
+fn stepped_in(profile: Profile, outcome: u32, number: u32, length: u64) -> String {
     let answer = SteppedAnswer {
         outcome,
         number,
         length,
     };
-    answer.in_words()
+    (profile, answer).in_words()
+}
+
+fn stepped(outcome: u32, number: u32, length: u64) -> String {
+    stepped_in(Profile::Common, outcome, number, length)
 }
 
 /// Every field that differs can be read.
@@ -187,6 +201,16 @@ fn answers_in_words() {
     assert_eq!(stepped(2, 5, 0), "waiting for name 5");
     assert_eq!(stepped(3, 14, 0), "refused 14 (number is no thread)");
     assert_eq!(stepped(9, 1, 0), "outcome 9, which there is not, number 1");
+    let room = "refused 15 (a rule applies, outcome above 256 names or 4,096 nodes)";
+    assert_eq!(stepped(3, 15, 0), room);
+    let share = "refused 15 (a rule applies, outcome leaves a bay above its share)";
+    assert_eq!(stepped_in(Profile::Separate, 3, 15, 0), share);
+    let other = "refused 20 (a bay names another bay's setting)";
+    assert_eq!(verdict(20, 0, 0, 0), other);
+    assert_eq!(
+        verdict(21, 0, 0, 0),
+        "refused 21 (a bay starts above its share)"
+    );
     let mut ran = RanAnswer::refused(12);
     assert_eq!(ran.in_words(), "refused 12 (out buffer under 13,826 bytes)");
     (ran.stop, ran.turns, ran.buffer, ran.length) = (1, 3, 1, 20);
@@ -265,6 +289,9 @@ mod with_the_library {
         let compared = steps.into_iter().all(|line| !line.contains("not compared"));
         assert!(compared, "{text}");
         assert!(!text.contains("run:   not compared"), "{text}");
+        let separate = text.lines().filter(|line| line.starts_with("separate "));
+        assert_eq!(separate.count(), 4, "{text}");
+        assert!(!text.contains("not compared"), "{text}");
     }
 
     /// The library with another function of that name, which may call the honest one.
@@ -324,6 +351,52 @@ struct fikarehu_loaded fikarehu_load(const uint8_t *recipe, size_t recipe_len, u
         assert_eq!(output.status.code(), Some(1), "{text}");
         let last = "9 (the owner of name 1), where A has 01, B has 00, the model has 01\n";
         assert!(text.ends_with(last), "{text}");
+    }
+
+    /// Loads as separate bays what the common load takes.
+    const LETS_OTHERS_IN: &str = "\
+#include \"fikarehu.h\"
+struct fikarehu_loaded fikarehu_load_separate(const uint8_t *recipe, size_t recipe_len, uint8_t *out, size_t out_len) {
+    return fikarehu_load(recipe, recipe_len, out, out_len);
+}
+";
+
+    /// Steps separate bays by the common limits.
+    const KNOWS_NO_SHARES: &str = "\
+#include \"fikarehu.h\"
+struct fikarehu_stepped fikarehu_step_separate(const uint8_t *image, size_t image_len, uint64_t thread,
+                                               uint8_t *out, size_t out_len) {
+    return fikarehu_step(image, image_len, thread, out, out_len);
+}
+";
+
+    #[test]
+    fn impostors_of_the_separate_profile() {
+        let folder = Folder::new();
+        let honest = shared(&folder, "honest.so", &archive(), &[]);
+        for (function, source, expected) in [
+            (
+                "load_separate",
+                LETS_OTHERS_IN,
+                ["difference: load_separate into ", "\nA answers: refused 20 ("],
+            ),
+            (
+                "step_separate",
+                KNOWS_NO_SHARES,
+                [
+                    "difference: step_separate of thread ",
+                    "\nA answers: refused 15 (a rule applies, outcome leaves a bay above its share)\n",
+                ],
+            ),
+        ] {
+            let impostor = impostor(&folder, function, source);
+            let output = recipe(&["compare", &honest, &impostor, "--count", "500"]);
+            let text = standard_output(&output);
+            assert_eq!(output.status.code(), Some(1), "{text}");
+            for expected in expected {
+                assert!(text.contains(expected), "{text}");
+            }
+        }
     }
 
     /// Steps as the library does, but for the byte after the image when rule 7 was applied.

@@ -5,8 +5,11 @@ use model::command::on_deep_stack;
 use model::draw::Draw;
 use model::examples;
 use model::format::bytes_of_hexadecimal;
-use model::generate::recipes;
-use model::tool::faults::{fault, Fault, Part, Place};
+use model::generate::{recipes, separate};
+use model::limits::MAX_IMAGE;
+use model::load::{load_in, Loaded};
+use model::profile::Profile;
+use model::tool::faults::{fault, fault_in, Fault, Part, Place};
 use model::tool::show::shown;
 use model::tool::text::spelling::UNICODE;
 use model::verdict::verdict;
@@ -27,6 +30,32 @@ fn the_number_is_the_verdicts() {
             came.insert(number);
         }
         let all = (0..=causes::BAY_ONCE).chain([causes::STARTING]);
+        assert!(came.iter().copied().eq(all), "{came:?}");
+    });
+}
+
+/// In the separate profile it is the loader's.
+#[test]
+fn the_number_is_the_separate_loaders() {
+    on_deep_stack(|| {
+        let mut draw = Draw::new(46);
+        let mut came = BTreeSet::new();
+        for turn in 0..10_000 {
+            let file = match turn % 2 {
+                0 => recipes::file(&mut draw),
+                _ => separate::file(&mut draw),
+            };
+            let number = match load_in(Profile::Separate, &file, &mut [0; MAX_IMAGE]) {
+                Loaded::Refused(number) => number,
+                Loaded::Accepted(..) => 0,
+            };
+            let found = fault_in(Profile::Separate, &file, &[]);
+            assert_eq!(found.as_ref().map_or(0, |fault| fault.number), number);
+            let inside = found.map_or(true, |fault| fault.offset <= file.len());
+            assert!(inside, "a place outside the file");
+            came.insert(number);
+        }
+        let all = (0..=causes::BAY_ONCE).chain(causes::STARTING..=causes::SHARE);
         assert!(came.iter().copied().eq(all), "{came:?}");
     });
 }
@@ -67,6 +96,28 @@ fn places_of_the_examples() {
     for (name, text, offset) in expected {
         assert_eq!(place(name), (text.to_owned(), offset), "{name}");
     }
+}
+
+/// The first name of another's setting, and the first node above the share.
+#[test]
+fn places_of_the_separate_examples() {
+    let found = |name: &str| {
+        let file = examples::file_of(name);
+        assert_eq!(fault(&file), None, "in the common profile");
+        let found = fault_in(Profile::Separate, &file, &[]).expect("a refused example");
+        (found.place.to_string(), found.offset, found.found)
+    };
+    let (place, offset, words) = found("refused-20");
+    assert_eq!((&place[..], offset), ("bay 1, function.argument", 44));
+    assert_eq!(words, "setting0, and bay 1 may name setting1 only");
+    let (place, offset, words) = found("refused-21");
+    assert_eq!((&place[..], offset), ("bay 1, argument×85", 510));
+    assert_eq!(
+        words,
+        "bay 1 has 256 nodes and 1 in its setting; with 16 bays each one's share is 256"
+    );
+    let tenants = examples::file_of("tenants");
+    assert_eq!(fault_in(Profile::Separate, &tenants, &[]), None);
 }
 
 fn told(hexadecimal: &str) -> (u32, Place, usize, String) {

@@ -8,7 +8,9 @@ use model::answers::Model;
 use model::command::on_deep_stack;
 use model::examples;
 use model::generate::test_loads;
+use model::profile::Profile;
 use model::test_load::{printed, Input};
+use model::verdict::verdict;
 use std::path::Path;
 use tool_common::*;
 
@@ -27,10 +29,19 @@ fn compare(kind: &str, name: &str, found: &str) {
     assert_eq!(found, kept, "{}", file.display());
 }
 
+/// The words that ask for the example's profile.
+fn profile_of(example: &examples::Example) -> &'static [&'static str] {
+    match example.profile {
+        Profile::Common => &[],
+        Profile::Separate => &["--separate"],
+    }
+}
+
 #[test]
 fn show() {
     for example in examples::all() {
-        let output = recipe(&["show", &format!("examples/{}.recipe", example.name)]);
+        let file = format!("examples/{}.recipe", example.name);
+        let output = recipe(&[&["show", file.as_str()], profile_of(&example)].concat());
         let refused = example.name.starts_with("refused");
         assert_eq!(output.status.code(), Some(i32::from(refused)));
         compare("show", example.name, &standard_output(&output));
@@ -46,7 +57,8 @@ fn without_first_line(text: &str) -> &str {
 fn run() {
     for example in examples::all() {
         let file = format!("examples/{}.recipe", example.name);
-        let output = recipe(&["run", &file, "--turns", "60"]);
+        let words = ["run", file.as_str(), "--turns", "60"];
+        let output = recipe(&[&words, profile_of(&example)].concat());
         if example.name.starts_with("refused") {
             assert_eq!(output.status.code(), Some(1));
             compare("run", example.name, &standard_error(&output));
@@ -78,12 +90,27 @@ fn orders() {
     );
 }
 
+/// What is told as separate bays runs in the common profile too.
+#[test]
+fn run_in_the_common_profile() {
+    for name in ["tenants", "refused-20", "refused-21"] {
+        let output = recipe(&["run", &format!("examples/{name}.recipe")]);
+        assert_eq!(output.status.code(), Some(0));
+        compare(
+            "run",
+            &format!("{name}, common"),
+            without_first_line(&standard_output(&output)),
+        );
+    }
+}
+
+/// The test load is of the common profile.
 #[test]
 fn draws() {
     for example in examples::all() {
         let file = format!("examples/{}.recipe", example.name);
         let output = recipe(&["draws", &file, "--seed", "1", "--count", "40"]);
-        let refused = example.name.starts_with("refused");
+        let refused = verdict(&example.file()).number() != 0;
         assert_eq!(output.status.code(), Some(i32::from(refused)));
         compare("draws", example.name, &standard_output(&output));
     }

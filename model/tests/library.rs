@@ -24,6 +24,10 @@ fn on_random_recipes() {
         let counts = &comparison.counts;
         assert!(counts.runs[..13].iter().all(|count| *count > 0), "{counts}");
         assert!(counts.stops.iter().all(|count| *count > 5), "{counts}");
+        let separate = &counts.separate;
+        assert!(separate.loads[20..].iter().all(|count| *count > 20));
+        assert!(separate.rules[1..].iter().all(|count| *count > 10));
+        assert!(separate.over_share > 200, "{counts}");
         result.err().map(|difference| difference.0)
     });
     assert_eq!(difference, None);

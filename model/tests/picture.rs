@@ -8,6 +8,7 @@ use model::draw::Draw;
 use model::examples::file_of;
 use model::generate::recipes;
 use model::limits;
+use model::profile::Profile;
 use model::tool::run::history::History;
 use model::tool::run::image_view::ImageView;
 use model::tool::run::order::Order;
@@ -224,7 +225,7 @@ fn a_wait_tells_whose_name_is_awaited_and_has_the_colour_of_its_bay() {
     assert_eq!(stripes, [&colours[1]]);
     let answers: Vec<(u64, Answer)> = [2, 3].map(|t| (t, runner.answer(t))).to_vec();
     assert_eq!(
-        standings(&answers, ImageView(&runner.image)),
+        standings(Profile::Common, &answers, ImageView(&runner.image)),
         "  bay 0   thread 2 waits for name 4, a future of bay 1\n  bay 1   thread 3 is done\n"
     );
 }

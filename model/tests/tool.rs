@@ -28,11 +28,14 @@ fn help() {
     assert!(standard_output(&recipe(&["run", "--help"])).contains("--svg"));
     assert!(standard_output(&recipe(&["help", "draws"])).contains("| test_load"));
     assert!(standard_output(&recipe(&["help", "compare"])).contains("gcc -shared"));
+    for command in ["show", "write", "run"] {
+        assert!(standard_output(&recipe(&["help", command])).contains("\n  --separate "));
+    }
 }
 
 #[test]
 fn wrong_words() {
-    let cases: [(&[&str], &str); 21] = [
+    let cases: [(&[&str], &str); 23] = [
         (&["run", "a", "--svg", "--force"], "--svg needs a value"),
         (&[], "no command is given"),
         (&["fly"], "there is no command fly"),
@@ -76,6 +79,14 @@ fn wrong_words() {
         (
             &["draws", "a", "--seed", "1", "--count", "65536"],
             "--count takes a number up to 65535, not 65536",
+        ),
+        (
+            &["draws", "a", "--separate"],
+            "there is no option --separate",
+        ),
+        (
+            &["run", "a", "--separate", "--separate"],
+            "--separate is given twice",
         ),
         (&["compare", "a"], "a file is missing"),
     ];
@@ -427,4 +438,118 @@ fn draws_that_are_refused() {
         let input = draws(&file, seed, 5, &["--input"]);
         assert_eq!(input.status.code(), Some(0));
     }
+}
+
+/// A text whose bay 1 sets the vent of bay 0, on its second line.
+const OTHERS_VENT: &str = "bay 0 = exch[num ref →ω num →ω num] setting0 250\n\
+                           bay 1 = exch[num ref →ω num →ω num] setting0 900\n";
+
+/// Refused 20 at the place in the text; in the common profile it may.
+#[test]
+fn a_text_with_anothers_setting() {
+    let name = model::tool::judge::NAME;
+    let folder = Folder::new();
+    let text = folder.file("vents.txt", OTHERS_VENT);
+    let told = complaint(&["write", "--separate", &text]);
+    let expected = format!(
+        "vents.txt:2:37: refused 20 by {name}: a bay names another bay's setting; setting0, and bay 1 may name \
+         setting1 only\n"
+    );
+    assert!(told.ends_with(&expected), "{told}");
+    assert!(!folder.0.join("vents.recipe").exists());
+    let forced = recipe(&["write", "--separate", "--even-refused", &text]);
+    let forced = standard_output(&forced);
+    assert!(
+        forced.ends_with(&format!(", refused 20 by {name}\n")),
+        "{forced}"
+    );
+    let common = standard_output(&recipe(&["write", "--force", &text]));
+    assert!(
+        common.ends_with(&format!(", accepted by {name}\n")),
+        "{common}"
+    );
+    let own = folder.file(
+        "own.txt",
+        OTHERS_VENT.replace("setting0 900", "setting1 900"),
+    );
+    let written = standard_output(&recipe(&["write", "--separate", &own]));
+    let accepted = format!(", accepted by {name}, as separate bays\n");
+    assert!(written.ends_with(&accepted), "{written}");
+    let shown = recipe(&["show", "--separate", &folder.path("own.recipe")]);
+    assert_eq!(shown.status.code(), Some(0));
+    assert!(standard_output(&shown).contains(&format!(": accepted by {name}, as separate bays\n")));
+}
+
+/// Refused 21 at the first node above the share.
+#[test]
+fn a_text_above_its_share() {
+    let folder = Folder::new();
+    let bays = |applied: usize| {
+        let large = format!(
+            "{}unit{}",
+            "(λx:unit. x) (".repeat(applied),
+            ")".repeat(applied)
+        );
+        let others: String = (1..16).map(|bay| format!("bay {bay} = unit\n")).collect();
+        format!("bay 0 =\n{large}\n{others}")
+    };
+    let text = folder.file("large.txt", bays(85));
+    let told = complaint(&["write", "--separate", &text]);
+    assert!(told.contains("large.txt:2:1191: refused 21 by "), "{told}");
+    assert!(
+        told.ends_with(
+            "; bay 0 has 256 nodes and 1 in its setting; with 16 bays each one's share is 256\n"
+        ),
+        "{told}"
+    );
+    let less = folder.file("less.txt", bays(84));
+    assert!(recipe(&["write", "--separate", &less]).status.success());
+}
+
+/// A run as separate bays says who is above whose share, and what each bay owns; the runner is not asked.
+#[test]
+fn a_run_as_separate_bays() {
+    let file = "examples/tenants.recipe";
+    let stepper = model::tool::run::STEPPER;
+    let output = recipe(&["run", "--separate", file]);
+    assert_eq!(output.status.code(), Some(0));
+    let text = standard_output(&output);
+    let first = format!("{file} as separate bays, stepped by {stepper}, in the runner's order\n");
+    assert!(text.starts_with(&first), "{text}");
+    let last = "\nStopped after 22 turns: no thread can go, and one lacks room.\n  \
+                bay 0   thread 2 is done\n  \
+                bay 1   thread 3 is refused 15: a rule applies, outcome leaves bay 1 with 3,092 nodes, above its \
+                share of 2,048\n\n\
+                Each bay's share is 128 names and 2,048 nodes.\n\
+                bay  names  nodes  vent\n  0      2      2  40.0 %\n  1      2   1564  0.0 %\n";
+    assert!(text.ends_with(last), "{text}");
+    let by_order = standard_output(&recipe(&["run", "--separate", file, "--order", "3"]));
+    assert!(by_order.contains("  refused 15  "), "{by_order}");
+    let folder = Folder::new();
+    let picture = folder.path("tenants.svg");
+    recipe(&["run", "--separate", file, "--svg", &picture]);
+    let drawn = std::fs::read_to_string(&picture).expect("a picture");
+    assert!(drawn.contains("tenants.recipe as separate bays"), "{drawn}");
+    assert!(drawn.contains("refused 15"), "{drawn}");
+    for (name, number) in [("refused-20", 20), ("refused-21", 21), ("refused-9", 9)] {
+        let file = format!("examples/{name}.recipe");
+        let told = complaint(&["run", "--separate", &file]);
+        assert!(told.contains(&format!(": refused {number} by ")), "{told}");
+    }
+}
+
+/// Names above a share are told too: bay 0 makes cells without end, beside a neighbour with nothing to do.
+#[test]
+fn a_run_above_its_share_of_names() {
+    let folder = Folder::new();
+    let cells = "bay 0 = (λf:unit →ω unit. f unit) (thread[((unit →ω unit) →ω unit →ω unit) →ω unit →ω unit] \
+                 (λf:unit →ω unit. λx:unit. (λy:num ref. f unit) (cell[num →ω num ref] 3)))\nbay 1 = unit";
+    let text = folder.file("cells.txt", cells);
+    assert!(recipe(&["write", &text]).status.success());
+    let file = folder.path("cells.recipe");
+    let text = standard_output(&recipe(&["run", "--separate", &file, "--turns", "3000"]));
+    let expected = "thread 2 is refused 15: a rule applies, outcome leaves bay 0 with 129 names, above its share of 128\n";
+    assert!(text.contains(expected), "{text}");
+    assert!(text.contains("\n  0    128 "), "{text}");
+    assert!(text.contains("\n  1      2      2  0.0 %\n"), "{text}");
 }

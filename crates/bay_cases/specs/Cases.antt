@@ -5,6 +5,7 @@ use mathlib.Core.Option.{some}
 use mathlib.Core.List.{List, [], _∷_, _++_, map}
 use Prim.Native.Nat.{_<_, ℕ, suc, zero}
 use lib.ListN.{length, replicate, take}
+use Rattle.calculus.specs.Profile.{common}
 use Rattle.calculus.specs.Types.{once, LinType, unit-type, num-type, ref, fun, multiplicity}
 use Rattle.calculus.specs.Syntax.{Exp, name, holds, at, sum-in, sum-all}
 use Rattle.calculus.specs.Typing.{TypeNumbers}
@@ -69,16 +70,16 @@ call thread = record { thread = thread; out = out }
 
 -- the run of a row
 unfoldable pub run-of : Row → List Step
-run-of r = steps (type-at (type-table (r .file))) (image-loaded (r .file) out) (types-loaded (r .file)) (map call (r .threads))
+run-of r = steps common (type-at (type-table (r .file))) (image-loaded common (r .file) out) (types-loaded (r .file)) (map call (r .threads))
 
 -- the row with what is computed in place of what is claimed
 unfoldable pub computed : Row → Row
 computed r = record {
   file = r .file;
-  refusal = loaded-of (r .file) (length out) .refusal;
+  refusal = loaded-of common (r .file) (length out) .refusal;
   types = take (verdict-of (r .file) .bays) (verdict-of (r .file) .types);
   threads = r .threads;
-  starting = image-loaded (r .file) out;
+  starting = image-loaded common (r .file) out;
   answers = map answer (run-of r);
   images = map left (run-of r);
 }
@@ -663,6 +664,7 @@ case-A = refl
 -- the step of case C by rule 5: its image is the one that the third step leaves
 abbrev fourth-of-C : Step
 fourth-of-C = record {
+  profile = common;
   image = 0x04 ∷ 0x00 ∷ 0x02 ∷ 0x00 ∷ 0x1A ∷ 0x00 ∷ 0x03 ∷ 0x00 ∷ 0x01 ∷ 0x00 ∷ 0x1D ∷ 0x00 ∷ 0x05 ∷ 0x00 ∷ 0x05 ∷ 0x00 ∷ 0x22 ∷ 0x00 ∷ 0x00 ∷ 0x00 ∷ 0x03 ∷ 0x02 ∷ 0x22 ∷ 0x00 ∷ 0x00 ∷ 0x00 ∷ 0x04 ∷ 0x00 ∷ 0x00 ∷ 0x02 ∷ 0x09 ∷ 0x03 ∷ 0x09 ∷ 0x02 ∷ [];
   types = [];
   call = call 1;

@@ -8,6 +8,7 @@ use Prim.Native.Nat.{ℕ, suc, zero}
 use native.Mathlib.Omega.{arith}
 use lib.Dec.{ltb}
 use lib.ListN.{length, length-replicate}
+use Rattle.calculus.specs.Profile.{Profile, common}
 use Rattle.calculus.specs.Limits.{byte-values}
 use Rattle.calculus.specs.Bytes.{Bytes, two-bytes}
 use Rattle.calculus.specs.Causes.{annotation-cause}
@@ -26,7 +27,7 @@ use Rattle.recipe_file.specs.Whole.{file-of, joined, pairs-of}
 use Rattle.image.specs.Configuration.{config-of}
 use Rattle.runs.specs.Run.{Step, left, types-left, image-loaded, types-loaded}
 use Rattle.demands.specs.Demands.{RunDemand, ThirdDemand}
-use Rattle.demands.specs.Theory.Third.{third-demand}
+use Rattle.demands.specs.Theory.Third.{accepted-demand, third-demand}
 use Rattle.bay_cases.specs.Cases.{out, call, run-of, kept-handle, cases}
 
 -- what the third demand says of what step n leaves in cell k, where that is usable once
@@ -39,7 +40,7 @@ record CellContents : Type 0 where
   -- "From then on acceptance is the second demand's without the narrowing": each term has a derivation under a many type, and no more
   acceptance : {T : Table} → TableRule T → (es : List Exp) → (verdict T es ≡ 0) ↔ EachDerived T es
   -- "and the guarantee about running": of every run of every accepted recipe
-  guarantee : ThirdDemand
+  guarantee : (p : Profile) → ThirdDemand p
   -- "covers cells that hold something usable once": in a run among these, the cell 4 that the fourth step leaves
   covers : (n : Step) × (at (run-of kept-handle) 3 ≡ some n) × CoversOnce (type-at (type-table (kept-handle .file))) n 4
   -- "Refusal 8 loses that cause": what is left is a lambda whose type is no function, or a constant whose type Fig. 8 does not have
@@ -62,8 +63,8 @@ unfolding are-bytes file-of pairs-of joined two-bytes
 kept-bytes = are-bytes-sound (kept-handle .file) refl
 
 -- so the third demand speaks of its run
-kept-run : RunDemand (type-at (type-table (kept-handle .file))) (image-loaded (kept-handle .file) out) (types-loaded (kept-handle .file)) (map call (kept-handle .threads))
-kept-run = third-demand (kept-handle .file) kept-bytes (cases .kept-accepted) out (rw length-replicate (omega arith)) (map call (kept-handle .threads))
+kept-run : RunDemand common (type-at (type-table (kept-handle .file))) (image-loaded common (kept-handle .file) out) (types-loaded (kept-handle .file)) (map call (kept-handle .threads))
+kept-run = accepted-demand (kept-handle .file) kept-bytes (cases .kept-accepted) out (rw length-replicate (omega arith)) (map call (kept-handle .threads))
 
 covered : (n : Step) × (at (run-of kept-handle) 3 ≡ some n) × CoversOnce (type-at (type-table (kept-handle .file))) n 4
 unfolding run-of

@@ -20,3 +20,5 @@ pub mod TestLoads
 pub mod StartingRows
 -- document 02, T-08: rows of recipes of several bays, and steps of images from outside
 pub mod OwnerRows
+-- document 02, T-09: rows of the second loader, and of the second stepper on images from outside
+pub mod SeparateRows

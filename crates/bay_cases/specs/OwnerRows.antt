@@ -39,7 +39,7 @@ use Rattle.load_spec.specs.Loading.{loaded-of, load-refusal, out-after-load}
 use Rattle.calculus.specs.NewTypes.{function-at, result-type, future-and-handle, coming, new-types}
 use Rattle.calculus.specs.Owners.{first-owners, owners-after}
 use Rattle.bay_cases.specs.HouseRuns.{repeated}
-use Rattle.bay_cases.specs.PairSteps.{Turn, turn, still, stepped}
+use Rattle.bay_cases.specs.PairSteps.{Turn, turn, still, stepped, stepped-in}
 use Rattle.bay_cases.specs.StartingRows.{file-3, steps-row, unit-term}
 use Rattle.bay_cases.specs.Cases.{Row, computed, run-of, T7}
 
@@ -145,5 +145,5 @@ pub record OwnerRows : Type 0 where
   turns : map stepped from-outside ≡ from-outside
 
 pub owner-rows : OwnerRows
-unfolding computed run-of steps renewed loaded-of load-refusal out-after-load outcome-of out-after-step out-after-reply function-at new-types coming result-type future-and-handle nums-bytes parts-from outcome-of-reply type-number-in verdict-of refusal bay-type-numbers bay-type-number bay-terms bay-term cause-5 cause-6 cause-4 table-of type-table file-of joined pairs-of two-bytes word bays parts offset-of length-of part table-bytes term-bytes outside cause-1 opens edition-of cause-2 pairs-test table-length-test cause-3 cause-19 starting-nums starting-num starting-bytes exp-of leaf-exp leaf-forms two-exp two-forms nesting one-term of-edition forms-below read read-term form-of forms value-of tabulate each-below sum-below uses nodes test-entry entry-test entry-stands entries-test same-entry new-to distinct-test entry-is table-test on-function on-once-function on-cell is-many scoped-const scoped annotated-const annotated const-number on-number result-number applied-number lambda-number both-number case-number with-components type-number outside-many linear-variable linear every verdict starting-image step-reply config-of decode components image-of encode terms-stand image-stands kind-test companion-test length-test head-agrees head-stands stand-from heads-stand names kind-at companion-at offset-in length-at expression-at encoded-at encoded-all head heads expressions image-bytes bytes const-bytes op-tag both-tag case-tag little-endian loaded bay-types with-type reply-of sum-in sum-all expression-test is-settled is-awaited handle-for component-test each-test limits-test image-test beside within place when-done step-call step-exchange step-meeting step-place step-redex step-case step-subject step-of substitute plug term-of type-at read-deep read-at read-entry one-part two-parts owners-of owner-at owners-after encode-all first-owners stepped repeated
+unfolding computed run-of steps renewed loaded-of load-refusal out-after-load outcome-of out-after-step out-after-reply function-at new-types coming result-type future-and-handle nums-bytes parts-from outcome-of-reply type-number-in verdict-of refusal bay-type-numbers bay-type-number bay-terms bay-term cause-5 cause-6 cause-4 table-of type-table file-of joined pairs-of two-bytes word bays parts offset-of length-of part table-bytes term-bytes outside cause-1 opens edition-of cause-2 pairs-test table-length-test cause-3 cause-19 starting-nums starting-num starting-bytes exp-of leaf-exp leaf-forms two-exp two-forms nesting one-term of-edition forms-below read read-term form-of forms value-of tabulate each-below sum-below uses nodes test-entry entry-test entry-stands entries-test same-entry new-to distinct-test entry-is table-test on-function on-once-function on-cell is-many scoped-const scoped annotated-const annotated const-number on-number result-number applied-number lambda-number both-number case-number with-components type-number outside-many linear-variable linear every verdict starting-image step-reply config-of decode components image-of encode terms-stand image-stands kind-test companion-test length-test head-agrees head-stands stand-from heads-stand names kind-at companion-at offset-in length-at expression-at encoded-at encoded-all head heads expressions image-bytes bytes const-bytes op-tag both-tag case-tag little-endian loaded bay-types with-type reply-of sum-in sum-all expression-test is-settled is-awaited handle-for component-test each-test limits-test image-test beside within place when-done step-call step-exchange step-meeting step-place step-redex step-case step-subject step-of substitute plug term-of type-at read-deep read-at read-entry one-part two-parts owners-of owner-at owners-after encode-all first-owners stepped stepped-in repeated
 owner-rows = record { table = refl; turns = refl }

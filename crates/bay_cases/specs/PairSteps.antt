@@ -22,6 +22,7 @@ use Rattle.image.specs.Stands.{terms-stand, image-stands}
 use Rattle.step_spec.specs.declared.Outcome.{Outcome}
 use Rattle.step_spec.specs.declared.Outcome.the-variants.{Rule, Done, Refused, Waiting}
 use Rattle.step_spec.specs.Stepping.{step-reply, outcome-of-reply, out-after-reply, outcome-of, out-after-step}
+use Rattle.calculus.specs.Profile.{Profile, common}
 use Rattle.runs.specs.Run.{Step, answer, left, renewed}
 use Rattle.bay_cases.specs.Cases.{call}
 
@@ -39,13 +40,16 @@ turn image thread outcome new = record { image = image; thread = thread; outcome
 abbrev pub still : List ℕ → ℕ → Outcome → Turn
 still image thread outcome = turn image thread outcome image
 
--- the step of a turn; its types are not asked
-abbrev pub step-at : Turn → Step
-step-at r = record { image = r .image; types = []; call = call (r .thread) }
+-- the step of a turn under a profile; its types are not asked
+abbrev pub step-at : Profile → Turn → Step
+step-at p r = record { profile = p; image = r .image; types = []; call = call (r .thread) }
 
 -- the turn with what is computed in place of what is claimed
+unfoldable pub stepped-in : Profile → Turn → Turn
+stepped-in p r = turn (r .image) (r .thread) (answer (step-at p r)) (left (step-at p r))
+
 unfoldable pub stepped : Turn → Turn
-stepped r = turn (r .image) (r .thread) (answer (step-at r)) (left (step-at r))
+stepped r = stepped-in common r
 
 -- taking apart "needs its subject's value as an exch does": by what the subject is
 abbrev subjects : List Turn
@@ -179,5 +183,5 @@ turns = subjects ++ places ++ standing
 
 -- what is claimed is what is computed
 each-stepped : map stepped turns ≡ turns
-unfolding two-bytes word exp-of leaf-exp leaf-forms two-exp two-forms one-term read read-term form-of forms value-of tabulate each-below nodes renewed outcome-of out-after-step step-reply outcome-of-reply out-after-reply config-of decode components image-of encode terms-stand image-stands kind-test companion-test length-test head-agrees head-stands stand-from heads-stand names kind-at companion-at offset-in length-at expression-at encoded-at encoded-all head heads expressions image-bytes bytes const-bytes op-tag both-tag case-tag little-endian reply-of sum-in sum-all expression-test is-settled is-awaited handle-for component-test each-test limits-test image-test beside within place when-done step-call step-exchange step-meeting step-place step-redex step-case step-subject step-of substitute plug term-of stepped owners-of owner-at owners-after encode-all
+unfolding two-bytes word exp-of leaf-exp leaf-forms two-exp two-forms one-term read read-term form-of forms value-of tabulate each-below nodes renewed outcome-of out-after-step step-reply outcome-of-reply out-after-reply config-of decode components image-of encode terms-stand image-stands kind-test companion-test length-test head-agrees head-stands stand-from heads-stand names kind-at companion-at offset-in length-at expression-at encoded-at encoded-all head heads expressions image-bytes bytes const-bytes op-tag both-tag case-tag little-endian reply-of sum-in sum-all expression-test is-settled is-awaited handle-for component-test each-test limits-test image-test beside within place when-done step-call step-exchange step-meeting step-place step-redex step-case step-subject step-of substitute plug term-of stepped stepped-in owners-of owner-at owners-after encode-all
 each-stepped = refl

@@ -8,6 +8,7 @@ use Prim.Native.Nat.{ℕ, _<_, _≤_, suc, zero}
 use native.Mathlib.Omega.{arith}
 use borrow.Author.Tests.{not-false}
 use lib.ListN.{getD, length}
+use Rattle.calculus.specs.Profile.{Profile, common}
 use Rattle.calculus.specs.Bytes.{Bytes}
 use Rattle.calculus.specs.Limits.{max-image-length}
 use Rattle.calculus.specs.Causes.{type-entry-cause, no-term-cause, scope-cause, annotation-cause, type-cause, linearity-cause, wrong-kind-cause}
@@ -146,16 +147,16 @@ record PairsAndLists : Type 0 where
   left-first : (s : Shape) (t : ℕ) (e₁ e₂ : Exp) (F : Context) (r : Exp) (d : Redex r) → place e₁ ≡ meet F r d → place (both s t e₁ e₂) ≡ meet (in-first s t F e₂) r d
   right-then : (s : Shape) (t : ℕ) (v e₂ : Exp) (w : Value v) (F : Context) (r : Exp) (d : Redex r) → place e₂ ≡ meet F r d → place (both s t v e₂) ≡ meet (in-second s t v w F) r d
   -- "Taking apart is rule 8 for pairs and 9 for lists"
-  rule-8 : (image : List ℕ) → Bytes image → (x size : ℕ) (out : List ℕ) → (outcome-of image x out ≡ Answers 8 size) ↔ Means image out (TakesApart pair x size)
-  rule-9 : (image : List ℕ) → Bytes image → (x size : ℕ) (out : List ℕ) → (outcome-of image x out ≡ Answers 9 size) ↔ Means image out (TakesApart list x size)
+  rule-8 : (image : List ℕ) → Bytes image → (x size : ℕ) (out : List ℕ) → (outcome-of common image x out ≡ Answers 8 size) ↔ Means image out (TakesApart pair x size)
+  rule-9 : (image : List ℕ) → Bytes image → (x size : ℕ) (out : List ℕ) → (outcome-of common image x out ≡ Answers 9 size) ↔ Means image out (TakesApart list x size)
   -- "and needs its subject's value as an exch does": waiting, and rule 3, after which the case stands with the value
   waits : (image : List ℕ) → Bytes image → (I : Owned) → ImageOf image I → (x y : ℕ) (out : List ℕ) → max-image-length ≤ length out →
-      (F : Context) (s : Shape) (e : Exp) → Has (I .config) x F (case-of s (name y) e) → Unready (I .config) y → outcome-of image x out ≡ Waiting y
+      (F : Context) (s : Shape) (e : Exp) → Has (I .config) x F (case-of s (name y) e) → Unready (I .config) y → outcome-of common image x out ≡ Waiting y
   follows : (C : Config) (x y : ℕ) (F : Context) (s : Shape) (w e : Exp) → Value w → Has C x F (case-of s (name y) e) → at C y ≡ some (thread-of w) →
       Reduces C x FUTURE-DEREF (put C x F (case-of s w e))
   -- "Images may hold the new forms, and a subject of another kind gives 17"
   other-kind : (image : List ℕ) → Bytes image → (I : Owned) → ImageOf image I → (x : ℕ) (out : List ℕ) → max-image-length ≤ length out →
-      (F : Context) (s : Shape) (v e : Exp) → Has (I .config) x F (case-of s v e) → OtherKind (I .config) s v → outcome-of image x out ≡ Refused wrong-kind-cause
+      (F : Context) (s : Shape) (v e : Exp) → Has (I .config) x F (case-of s v e) → OtherKind (I .config) s v → outcome-of common image x out ≡ Refused wrong-kind-cause
   -- "Refusals 7 to 10 cover the new nodes", told by their places
   refusal-7 : {T : Table} → TableRule T → (es : List Exp) → (verdict T es ≡ scope-cause) ↔ Some (Cause7 T (length es)) es
   refusal-8 : {T : Table} → TableRule T → (es : List Exp) →
@@ -185,7 +186,7 @@ record PairsAndLists : Type 0 where
   one-rule : (r r′ : Rule) → number r ≡ number r′ → r ≡ r′
   moves : (C C′ : Config) (x : ℕ) (r : Rule) → (step-of C x ≡ rule r C′) ↔ Reduces C x r C′
   -- "and accepted recipes still never meet a wrong value": no step of a run answers 17, and cells and finished threads have values of their types
-  guarantee : ThirdDemand
+  guarantee : (p : Profile) → ThirdDemand p
 
 -- Fig. 10, read backwards
 module _ {τ : TypeNumbers} {S : List LinType} where
@@ -469,15 +470,15 @@ case-parts : {C C′ : Config} {x : ℕ} {s : Shape} → Reduces C x (CASE s) C�
 case-parts (case-both F s t v₁ v₂ e w w′ h) = (F, t, v₁, v₂, e, w, w′, h, refl)
 
 takes-apart : (s : Shape) (image : List ℕ) → Bytes image → (x size : ℕ) (out : List ℕ) →
-    (outcome-of image x out ≡ Answers (number (CASE s)) size) ↔ Means image out (TakesApart s x size)
+    (outcome-of common image x out ≡ Answers (number (CASE s)) size) ↔ Means image out (TakesApart s x size)
 takes-apart s image b x size out = (
   λ h.
-      let (le, I, io, (by, C′, red, lim, n, z)) = second-demand .step image b x out .rule (number (CASE s)) size .0 h in
+      let (le, I, io, (by, C′, red, lim, n, z)) = second-demand common .step image b x out .rule (number (CASE s)) size .0 h in
       let r : by ≡ CASE s = one-number by (CASE s) (sym n) in
       let (F, t, v₁, v₂, e, w, w′, p, q) = case-parts (rw r at red) in
       (le, I, io, (F, t, v₁, v₂, e, w, w′, p, rw q at lim, rw q at z)),
   λ (le, I, io, (F, t, v₁, v₂, e, w, w′, p, lim, z)).
-      second-demand .step image b x out .rule (number (CASE s)) size .1 (le, I, io, (CASE s, put (I .config) x F (substitute-both v₁ v₂ e), case-both F s t v₁ v₂ e w w′ p, lim, refl, z)),
+      second-demand common .step image b x out .rule (number (CASE s)) size .1 (le, I, io, (CASE s, put (I .config) x F (substitute-both v₁ v₂ e), case-both F s t v₁ v₂ e w w′ p, lim, refl, z)),
 )
 
 -- a subject of another kind
@@ -526,10 +527,10 @@ pairs-and-lists = record {
   right-then = λ s t v e₂ w F r d p. rw (place-value w, p) refl;
   rule-8 = takes-apart pair;
   rule-9 = takes-apart list;
-  waits = λ image b I io x y out le F s e h u. second-demand .step image b x out .waiting y .1 (le, I, io, (to-case F s e h, u));
+  waits = λ image b I io x y out le F s e h u. second-demand common .step image b x out .waiting y .1 (le, I, io, (to-case F s e h, u));
   follows = λ C x y F s w e v h g. future-deref-case F s y w e v h g;
   other-kind = λ image b I io x out le F s v e h o.
-      second-demand .step image b x out .seventeen .1 (le, I, io, wrong-kind-iff (I .config) x (λ f g. io .rule .bound x (thread-of f) g) .0 (is-wrong (I .config) x F e s h o));
+      second-demand common .step image b x out .seventeen .1 (le, I, io, wrong-kind-iff (I .config) x (λ f g. io .rule .bound x (thread-of f) g) .0 (is-wrong (I .config) x F e s h o));
   refusal-7 = λ R es. verdict-means R es .0;
   refusal-8 = λ R es. verdict-means R es .1;
   refusal-9 = λ R es. verdict-means R es .2;
@@ -539,7 +540,7 @@ pairs-and-lists = record {
   kinds-before = λ file laid d k x g l. answers-4 file laid (kind-4 file d k x g l);
   forms-before = λ file b d. parts-old file b d;
   refused-5 = λ file b laid c d bay l n. answers-5 file laid c (no-old-5 file b d bay l n);
-  acceptance = second-demand .accepted;
+  acceptance = second-demand common .accepted;
   nine = in-nine;
   each-number = all-nine;
   one-rule = one-number;

@@ -3,6 +3,7 @@ use mathlib.Core.Path.{_≡_, ap, refl}
 use mathlib.Core.List.{List, [], _∷_, _++_, map}
 use Prim.Native.Nat.{ℕ, _<_}
 use lib.ListN.{replicate}
+use Rattle.calculus.specs.Profile.{common}
 use Rattle.calculus.specs.Syntax.{sum-in, sum-all}
 use Rattle.calculus.specs.Lists.{tabulate, each-below, sum-below}
 use Rattle.calculus.specs.Bytes.{two-byte-values, two-bytes, word}
@@ -314,7 +315,7 @@ pub record StartingRows : Type 0 where
   table : map computed rows ≡ rows
   -- a check says 19 too; 12 before 19, in a load
   checked : verdict-of wrong .refusal ≡ 19
-  short-buffer : load-refusal wrong 13825 ≡ 12
+  short-buffer : load-refusal common wrong 13825 ≡ 12
   -- case A with any starting num; the bound says that its two bytes are bytes
   any-num : (n : ℕ) → n < two-byte-values → computed (A-at (two-bytes n) (two-bytes n)) ≡ A-at (two-bytes n) (two-bytes n)
 

@@ -24,7 +24,7 @@ use Rattle.image.specs.Stands.{terms-stand, image-stands}
 use Rattle.step_spec.specs.declared.Outcome.the-variants.{Rule, Refused}
 use Rattle.step_spec.specs.Stepping.{step-reply, outcome-of-reply, out-after-reply, outcome-of, out-after-step}
 use Rattle.runs.specs.Run.{renewed}
-use Rattle.bay_cases.specs.PairSteps.{Turn, turn, still, stepped}
+use Rattle.bay_cases.specs.PairSteps.{Turn, turn, still, stepped, stepped-in}
 
 -- a value of so many nodes, at least two: lambdas around unit
 unfoldable value : ℕ → List ℕ
@@ -88,5 +88,5 @@ turns =
 
 -- what is claimed is what is computed
 each-stepped : map stepped turns ≡ turns
-unfolding two-bytes word exp-of leaf-exp leaf-forms two-exp two-forms one-term read read-term form-of forms value-of tabulate each-below nodes renewed outcome-of out-after-step step-reply outcome-of-reply out-after-reply config-of decode components image-of encode terms-stand image-stands kind-test companion-test length-test head-agrees head-stands stand-from heads-stand names kind-at companion-at offset-in length-at expression-at encoded-at encoded-all head heads expressions image-bytes bytes const-bytes op-tag both-tag case-tag little-endian reply-of sum-in sum-all expression-test is-settled is-awaited handle-for component-test each-test limits-test image-test beside within place when-done step-call step-exchange step-meeting step-place step-redex step-case step-subject step-of substitute plug term-of stepped value applied beside-value joined owners-of owner-at owners-after encode-all
+unfolding two-bytes word exp-of leaf-exp leaf-forms two-exp two-forms one-term read read-term form-of forms value-of tabulate each-below nodes renewed outcome-of out-after-step step-reply outcome-of-reply out-after-reply config-of decode components image-of encode terms-stand image-stands kind-test companion-test length-test head-agrees head-stands stand-from heads-stand names kind-at companion-at offset-in length-at expression-at encoded-at encoded-all head heads expressions image-bytes bytes const-bytes op-tag both-tag case-tag little-endian reply-of sum-in sum-all expression-test is-settled is-awaited handle-for component-test each-test limits-test image-test beside within place when-done step-call step-exchange step-meeting step-place step-redex step-case step-subject step-of substitute plug term-of stepped stepped-in value applied beside-value joined owners-of owner-at owners-after encode-all
 each-stepped = refl

@@ -76,3 +76,11 @@ seed-cause = 18
 -- T-07: "It refuses a starting part whose length is not twice the number of bays with 19"
 abbrev pub starting-cause : ℕ
 starting-cause = 19
+
+-- T-09: "The loader refuses a bay that names another's setting with 20"
+abbrev pub other-setting-cause : ℕ
+other-setting-cause = 20
+
+-- T-09: "and then a bay that starts above its share with 21"
+abbrev pub share-cause : ℕ
+share-cause = 21

@@ -4,6 +4,7 @@ use mathlib.Core.List.{List, [], _∷_, _++_}
 use Prim.Native.Nat.{ℕ, zero, suc, _%_}
 use lib.Dec.{eqb}
 use lib.ListN.{getD, length}
+use Rattle.calculus.specs.Profile.{common}
 use Rattle.calculus.specs.Kinds.{thread-kind}
 use Rattle.calculus.specs.Limits.{max-image-length}
 use Rattle.calculus.specs.Reply.{Reply, moved, waits, finished, refuses}
@@ -40,7 +41,7 @@ abbrev pub thread : Draw → ℕ
 thread d = picked (d .image) (d .state)
 
 abbrev pub reply : Draw → Reply
-reply d = step-reply (d .image) (thread d) max-image-length
+reply d = step-reply common (d .image) (thread d) max-image-length
 
 abbrev pub outcome : Draw → Outcome
 outcome d = outcome-of-reply (reply d)

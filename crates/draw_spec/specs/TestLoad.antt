@@ -6,6 +6,7 @@ use mathlib.Core.Option.{some}
 use mathlib.Core.List.{List, _∷_, _++_, map}
 use Prim.Native.Nat.{ℕ, suc, _%_, _*_, _+_, _<_, _≤_}
 use lib.ListN.{length, replicate}
+use Rattle.calculus.specs.Profile.{common}
 use Rattle.calculus.specs.Bytes.{Bytes, word}
 use Rattle.calculus.specs.Causes.{seed-cause}
 use Rattle.calculus.specs.Kinds.{thread-kind}
@@ -48,9 +49,9 @@ pub record DrawsDemand (input : List ℕ) (ds : List Draw) : Type 0 where
   -- "that thread is stepped": the draws are the steps of a run; there are calls that step them; the third demand holds along it
   pub followed : (out : List ℕ) → max-image-length ≤ length out → (calls : List Call) × Follows (map thread ds) calls
   pub stepped : (out : List ℕ) → max-image-length ≤ length out → (calls : List Call) → Follows (map thread ds) calls →
-      (i : ℕ) (d : Draw) → at ds i ≡ some d → (n : Step) × (at (steps-of (recipe-in input) out calls) i ≡ some n) × IsStep d n
+      (i : ℕ) (d : Draw) → at ds i ≡ some d → (n : Step) × (at (steps-of common (recipe-in input) out calls) i ≡ some n) × IsStep d n
   pub demanded : (out : List ℕ) → max-image-length ≤ length out → (calls : List Call) →
-      RunDemand (type-at (type-table (recipe-in input))) (image-loaded (recipe-in input) out) (types-loaded (recipe-in input)) calls
+      RunDemand common (type-at (type-table (recipe-in input))) (image-loaded common (recipe-in input) out) (types-loaded (recipe-in input)) calls
 
 -- of every input
 pub record TestLoad : Type 0 where

@@ -8,6 +8,7 @@ use native.Mathlib.Omega.{arith}
 use denote.Enum.Declared.{tagOf}
 use types.Run.{OneOf}
 use lib.ListN.{length, take}
+use Rattle.calculus.specs.Profile.{common}
 use Rattle.calculus.specs.Image.{nodes-all}
 use Rattle.calculus.specs.Limits.{max-image-length, max-names}
 use Rattle.buffer.specs.Written.{Wrote}
@@ -34,14 +35,14 @@ module _ {image out out′ : List ℕ} {state : ℕ} {d : Drawn} (a : Alive imag
 
   -- an awaited name and a thread's are below 256
   pub name-small : NameSmall (d .outcome)
-  name-small = subst⁻¹ NameSmall (w .answers) (waiting-small image (d .thread) out)
+  name-small = subst⁻¹ NameSmall (w .answers) (waiting-small common image (d .thread) out)
 
   pub thread-small : d .thread < max-names
   thread-small = omega (arith, w .picks, picked-listed a state .0, alive-few a)
 
   -- its line
   pub line-is : line (d .thread) (d .outcome) ≡ line (thread this) (outcome this)
-  line-is = rw (w .answers, long-outcome image (d .thread) out long, w .picks) refl
+  line-is = rw (w .answers, long-outcome common image (d .thread) out long, w .picks) refl
 
   -- the nodes of the image that is left
   pub counts-is : nodes-all (config-of (image-after (reply this) image)) ≡ d .nodes

@@ -7,6 +7,7 @@ use native.Mathlib.Omega.{arith}
 use lib.Dec.{eqb}
 use lib.ListN.{length, take}
 use lib.Seq.{getD-drop}
+use Rattle.calculus.specs.Profile.{common}
 use Rattle.calculus.specs.Bytes.{Bytes}
 use Rattle.calculus.specs.Causes.{seed-cause, starting-cause}
 use Rattle.calculus.specs.Image.{nodes-all}
@@ -46,8 +47,8 @@ module _ (input text : List ℕ) (long : max-text-length ≤ length text) where
 pub record Loads (input : List ℕ) (seed : ℕ) (out : List ℕ) (l : Loaded) (out′ : List ℕ) : Type 0 where
   pub bytes : Bytes input
   pub seed-is : seed ≡ seed-in input
-  pub answer : l ≡ loaded-of (recipe-in input) (length out)
-  pub left : out′ ≡ out-after-load (recipe-in input) out
+  pub answer : l ≡ loaded-of common (recipe-in input) (length out)
+  pub left : out′ ≡ out-after-load common (recipe-in input) out
   pub long : max-image-length ≤ length out
   pub kept : length out′ ≡ length out
 

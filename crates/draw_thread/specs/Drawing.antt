@@ -4,6 +4,7 @@ use mathlib.Core.Bool.{Bool, cond}
 use mathlib.Core.List.{List}
 use Prim.Native.Nat.{ℕ, _≤_}
 use lib.ListN.{length, take}
+use Rattle.calculus.specs.Profile.{common}
 use Rattle.calculus.specs.Image.{nodes-all}
 use Rattle.calculus.specs.Limits.{max-image-length}
 use Rattle.image.specs.Configuration.{config-of}
@@ -20,9 +21,9 @@ pub record Present (image : List ℕ) (nodes : ℕ) : Type 0 where
 -- a draw from this image with the out buffer `out`: the thread picked, what the contract of step says of it, and the nodes of the image that is left
 pub record Drew (image : List ℕ) (state : ℕ) (out : List ℕ) (d : Drawn) (out′ : List ℕ) : Type 0 where
   pub picks : d .thread ≡ picked image state
-  pub answers : d .outcome ≡ outcome-of image (d .thread) out
-  pub leaves : out′ ≡ out-after-step image (d .thread) out
-  pub counts : nodes-all (config-of (image-after (step-reply image (d .thread) max-image-length) image)) ≡ d .nodes
+  pub answers : d .outcome ≡ outcome-of common image (d .thread) out
+  pub leaves : out′ ≡ out-after-step common image (d .thread) out
+  pub counts : nodes-all (config-of (image-after (step-reply common image (d .thread) max-image-length) image)) ≡ d .nodes
 
 -- a draw can be made from the buffer that holds the present image, the second if `odd`, into the other
 pub record Ready (odd : Bool) (size nodes : ℕ) (first second : List ℕ) : Type 0 where

@@ -5,6 +5,7 @@ use mathlib.Core.List.{List, [], _++_, _∷_, map}
 use Prim.Native.Nat.{ℕ}
 use lib.Dec.{eqb}
 use lib.ListN.{drop, length, replicate}
+use Rattle.calculus.specs.Profile.{common}
 use Rattle.calculus.specs.Limits.{max-bays}
 use Rattle.calculus.specs.Reply.{Reply, moved, waits, finished, refuses}
 use Rattle.check_spec.specs.declared.Verdict.{Verdict}
@@ -72,14 +73,14 @@ unfoldable pub reloaded : LoadRow → LoadRow
 reloaded r = record {
   file = r .file;
   room = r .room;
-  loaded = loaded-of (r .file) (r .room);
-  image = cond (eqb (load-refusal (r .file) (r .room)) 0) (starting-image (r .file)) [];
+  loaded = loaded-of common (r .file) (r .room);
+  image = cond (eqb (load-refusal common (r .file) (r .room)) 0) (starting-image (r .file)) [];
 }
 
 -- what a row says of a load into any buffer of its length, whatever that holds
 pub record Loads (r : LoadRow) : Type 0 where
-  pub answers : (out : List ℕ) → length out ≡ r .room → loaded-of (r .file) (length out) ≡ r .loaded
-  pub leaves : (out : List ℕ) → length out ≡ r .room → out-after-load (r .file) out ≡ written-to out (r .image)
+  pub answers : (out : List ℕ) → length out ≡ r .room → loaded-of common (r .file) (length out) ≡ r .loaded
+  pub leaves : (out : List ℕ) → length out ≡ r .room → out-after-load common (r .file) out ≡ written-to out (r .image)
 
 image-or-none : (b : Bool) (image out : List ℕ) → cond b (written-to out image) out ≡ written-to out (cond b image [])
 image-or-none false image out = refl
@@ -89,10 +90,10 @@ image-or-none true image out = refl
 pub loads : (r : LoadRow) → reloaded r ≡ r → Loads r
 unfolding reloaded out-after-load
 loads r e = record {
-  answers = λ out h. ap (loaded-of (r .file)) h ∙ ap (λ q. q .loaded) e;
+  answers = λ out h. ap (loaded-of common (r .file)) h ∙ ap (λ q. q .loaded) e;
   leaves = λ out h.
-      ap (λ room. cond (eqb (load-refusal (r .file) room) 0) (written-to out (starting-image (r .file))) out) h
-      ∙ image-or-none (eqb (load-refusal (r .file) (r .room)) 0) (starting-image (r .file)) out
+      ap (λ room. cond (eqb (load-refusal common (r .file) room) 0) (written-to out (starting-image (r .file))) out) h
+      ∙ image-or-none (eqb (load-refusal common (r .file) (r .room)) 0) (starting-image (r .file)) out
       ∙ ap (λ q. written-to out (q .image)) e;
 }
 
@@ -119,14 +120,14 @@ restepped r = record {
   image = r .image;
   thread = r .thread;
   room = r .room;
-  outcome = outcome-of-reply (step-reply (r .image) (r .thread) (r .room));
-  new = new-image (step-reply (r .image) (r .thread) (r .room));
+  outcome = outcome-of-reply (step-reply common (r .image) (r .thread) (r .room));
+  new = new-image (step-reply common (r .image) (r .thread) (r .room));
 }
 
 -- what a row says of a step into any buffer of its length, whatever that holds
 pub record Steps (r : StepRow) : Type 0 where
-  pub answers : (out : List ℕ) → length out ≡ r .room → outcome-of (r .image) (r .thread) out ≡ r .outcome
-  pub leaves : (out : List ℕ) → length out ≡ r .room → out-after-step (r .image) (r .thread) out ≡ written-to out (r .new)
+  pub answers : (out : List ℕ) → length out ≡ r .room → outcome-of common (r .image) (r .thread) out ≡ r .outcome
+  pub leaves : (out : List ℕ) → length out ≡ r .room → out-after-step common (r .image) (r .thread) out ≡ written-to out (r .new)
 
 new-or-none : (reply : Reply) (out : List ℕ) → out-after-reply reply out ≡ written-to out (new-image reply)
 unfolding out-after-reply new-image
@@ -139,9 +140,9 @@ new-or-none (refuses number) out = refl
 pub steps : (r : StepRow) → restepped r ≡ r → Steps r
 unfolding restepped outcome-of out-after-step
 steps r e = record {
-  answers = λ out h. ap (λ room. outcome-of-reply (step-reply (r .image) (r .thread) room)) h ∙ ap (λ q. q .outcome) e;
+  answers = λ out h. ap (λ room. outcome-of-reply (step-reply common (r .image) (r .thread) room)) h ∙ ap (λ q. q .outcome) e;
   leaves = λ out h.
-      ap (λ room. out-after-reply (step-reply (r .image) (r .thread) room) out) h
-      ∙ new-or-none (step-reply (r .image) (r .thread) (r .room)) out
+      ap (λ room. out-after-reply (step-reply common (r .image) (r .thread) room) out) h
+      ∙ new-or-none (step-reply common (r .image) (r .thread) (r .room)) out
       ∙ ap (λ q. written-to out (q .new)) e;
 }

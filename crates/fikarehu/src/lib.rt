@@ -5,6 +5,7 @@ use run_spec::Ending;
 use step_spec::Outcome;
 ghost use mathlib.Core.Path.{_≡_};
 ghost use lib.ListN.{length};
+ghost use Rattle.calculus.specs.Profile.{common, separate};
 ghost use Rattle.check_spec.specs.Verdict.{verdict-of};
 ghost use Rattle.load_spec.specs.Loading as load;
 ghost use Rattle.step_spec.specs.Stepping.{out-after-step, outcome-of};
@@ -59,10 +60,19 @@ pub extern "C" fn fikarehu_check(recipe: &[u8]) -> Verdict
 // "loading also the image's length". The out buffer must not overlap the recipe.
 #[no_mangle]
 pub extern "C" fn fikarehu_load(recipe: &[u8], out: &mut [u8]) -> Loaded
-    ensures { λ r. ⌜ r ≡ load.loaded-of (now (recipe .entry)) (length (now (out .entry))) ⌝ }
-    ensures { λ r. ⌜ now (out .exit) ≡ load.out-after-load (now (recipe .entry)) (now (out .entry)) ⌝ }
+    ensures { λ r. ⌜ r ≡ load.loaded-of common (now (recipe .entry)) (length (now (out .entry))) ⌝ }
+    ensures { λ r. ⌜ now (out .exit) ≡ load.out-after-load common (now (recipe .entry)) (now (out .entry)) ⌝ }
 {
     load_recipe::load(recipe, out)
+}
+
+// T-09: the same in the separate profile.
+#[no_mangle]
+pub extern "C" fn fikarehu_load_separate(recipe: &[u8], out: &mut [u8]) -> Loaded
+    ensures { λ r. ⌜ r ≡ load.loaded-of separate (now (recipe .entry)) (length (now (out .entry))) ⌝ }
+    ensures { λ r. ⌜ now (out .exit) ≡ load.out-after-load separate (now (recipe .entry)) (now (out .entry)) ⌝ }
+{
+    load_separate::load(recipe, out)
 }
 
 // An outcome in numbers.
@@ -97,10 +107,19 @@ fn step_numbers(outcome: Outcome) -> Stepped
 // A step of one thread. "image and out must not overlap there".
 #[no_mangle]
 pub extern "C" fn fikarehu_step(image: &[u8], thread: u64, out: &mut [u8]) -> Stepped
-    ensures { λ r. ⌜ r ≡ step-numbers (outcome-of (now (image .entry)) thread (now (out .entry))) ⌝ }
-    ensures { λ r. ⌜ now (out .exit) ≡ out-after-step (now (image .entry)) thread (now (out .entry)) ⌝ }
+    ensures { λ r. ⌜ r ≡ step-numbers (outcome-of common (now (image .entry)) thread (now (out .entry))) ⌝ }
+    ensures { λ r. ⌜ now (out .exit) ≡ out-after-step common (now (image .entry)) thread (now (out .entry)) ⌝ }
 {
     step_numbers(step_thread::step(image, thread as usize, out))
+}
+
+// T-09: the same in the separate profile.
+#[no_mangle]
+pub extern "C" fn fikarehu_step_separate(image: &[u8], thread: u64, out: &mut [u8]) -> Stepped
+    ensures { λ r. ⌜ r ≡ step-numbers (outcome-of separate (now (image .entry)) thread (now (out .entry))) ⌝ }
+    ensures { λ r. ⌜ now (out .exit) ≡ out-after-step separate (now (image .entry)) thread (now (out .entry)) ⌝ }
+{
+    step_numbers(step_separate::step(image, thread as usize, out))
 }
 
 // The numbers of a run that stopped.

@@ -4,5 +4,7 @@
 pub mod Image
 -- what is answered and left, from the first cause that fits
 pub mod Answers
+-- T-09: what 20 and 21 ask of the recipe that a file says
+pub mod Suited
 -- what a load into a buffer that is long enough says
 pub mod Told

@@ -6,6 +6,7 @@ use mathlib.Core.Option.{some}
 use mathlib.Core.List.{List, _++_, _∷_}
 use Prim.Native.Nat.{ℕ, _*_, _+_, _-_, _<_, _≤_}
 use lib.ListN.{getD, length, replicate}
+use Rattle.calculus.specs.Profile.{common}
 use Rattle.calculus.specs.Bytes.{Bytes, word}
 use Rattle.calculus.specs.Limits.{max-image-length}
 use Rattle.calculus.specs.Causes.{opening-cause, starting-cause}
@@ -44,7 +45,7 @@ StartsWith file bay n = at (starting-state file .owned .config) bay ≡ some (se
 
 -- the files are loaded with the same answer, and leave the same bytes in any buffer
 abbrev pub LoadsAlike : List ℕ → List ℕ → Type 0
-LoadsAlike file file′ = (out : List ℕ) → (loaded-of file (length out) ≡ loaded-of file′ (length out)) × (out-after-load file out ≡ out-after-load file′ out)
+LoadsAlike file file′ = (out : List ℕ) → (loaded-of common file (length out) ≡ loaded-of common file′ (length out)) × (out-after-load common file out ≡ out-after-load common file′ out)
 
 -- causes 1 to 11
 abbrev pub causes-to-11 : List ℕ → List Cause

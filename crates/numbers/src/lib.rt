@@ -171,6 +171,10 @@ impl Cause {
     pub const SEED: u8 = 18;
 
     pub const STARTING: u8 = 19;
+
+    pub const OTHER_SETTING: u8 = 20;
+
+    pub const SHARE: u8 = 21;
 }
 
 pub fn byte_values() -> usize
@@ -269,7 +273,7 @@ pub fn rules() -> [u8; 9]
     ]
 }
 
-pub fn causes() -> [u8; 19]
+pub fn causes() -> [u8; 21]
     ensures { λ r. ⌜ r ≡ causes ⌝ }
 {
     [
@@ -292,5 +296,7 @@ pub fn causes() -> [u8; 19]
         Cause::WRONG_KIND,
         Cause::SEED,
         Cause::STARTING,
+        Cause::OTHER_SETTING,
+        Cause::SHARE,
     ]
 }

@@ -8,9 +8,10 @@ use native.Mathlib.Omega.{arith}
 use lib.Dec.{eqb}
 use lib.ListN.{length, take}
 use lib.Seq.{take-all}
+use Rattle.calculus.specs.Profile.{common}
 use Rattle.calculus.specs.Owners.{Owned}
 use Rattle.calculus.specs.Limits.{max-image-length}
-use Rattle.calculus.specs.Image.{nodes-all, within-limits}
+use Rattle.calculus.specs.Image.{nodes-all}
 use Rattle.calculus.specs.Reply.{Reply, moved, reply-to}
 use Rattle.calculus.specs.Theory.ConfigRuns.{state-after, state-left}
 use Rattle.calculus.specs.Theory.Tests.{eqb-complete, eqb-differ}
@@ -64,9 +65,9 @@ module _ {at : At} {buffer : List ℕ} (p : Present at buffer) where
   present-below = omega (arith, p .below, ap names (p .holds), reached-names (p .reached))
 
   -- what the turn's step replies, from what the image says
-  moves-as : {at′ : At} {out : List ℕ} (w : Went (take (at .length) buffer) (at .next) at′ out) → reply-to within-limits (p .state .owned) (w .thread) ≡ moved (w .rule) (w .outcome)
+  moves-as : {at′ : At} {out : List ℕ} (w : Went (take (at .length) buffer) (at .next) at′ out) → reply-to common (p .state .owned) (w .thread) ≡ moved (w .rule) (w .outcome)
   moves-as w =
-      ap (λ (I : Owned). reply-to within-limits I (w .thread)) (sym (ap owned-of (p .holds) ∙ reached-owned (p .reached))) ∙ w .moves
+      ap (λ (I : Owned). reply-to common I (w .thread)) (sym (ap owned-of (p .holds) ∙ reached-owned (p .reached))) ∙ w .moves
 
   -- after a turn
   present-on : {at′ : At} {out : List ℕ} → Went (take (at .length) buffer) (at .next) at′ out → Present at′ out
@@ -77,11 +78,11 @@ module _ {at : At} {buffer : List ℕ} (p : Present at buffer) where
       let x = w .thread in
       let found-is : search-from (image-of (s .owned)) (at .next) ≡ found x (image-of (w .outcome)) = rw (p .holds) at (w .found-is) in
       let g = turn-goes (image-of (s .owned)) (at .next) found-is in
-      let moves : reply-to within-limits (s .owned) x ≡ moved (w .rule) (w .outcome) = moves-as w in
-      let is : state-after (p .numbers) s (stepping x) .owned ≡ w .outcome = ap (λ (q : Reply). state-left (p .numbers) s x q .owned) (long-reply r x max-image-length (omega arith) ∙ moves) in
+      let moves : reply-to common (s .owned) x ≡ moved (w .rule) (w .outcome) = moves-as w in
+      let is : state-after common (p .numbers) s (stepping x) .owned ≡ w .outcome = ap (λ (q : Reply). state-left (p .numbers) s x q .owned) (long-reply r x max-image-length (omega arith) ∙ moves) in
       record {
         numbers = p .numbers;
-        state = state-after (p .numbers) s (stepping x);
+        state = state-after common (p .numbers) s (stepping x);
         reached = reached-after r (stepping x);
         holds = w .holds ∙ ap image-of (sym is);
         long = w .long ∙ ap (λ (I : Owned). length (image-of I)) (sym is);

@@ -8,6 +8,7 @@ use native.Mathlib.Decide.{decLt}
 use native.Mathlib.Omega.{arith}
 use lib.Dec.{ltb}
 use lib.ListN.{drop, length, take, take-append-drop}
+use Rattle.calculus.specs.Profile.{common}
 use Rattle.calculus.specs.Bytes.{Bytes}
 use Rattle.calculus.specs.Causes.{buffer-cause}
 use Rattle.calculus.specs.Limits.{max-image-length}
@@ -75,12 +76,12 @@ module _ (file : List ℕ) (k : ℕ) (first second : List ℕ) where
 pub record Loads (file first second : List ℕ) (l : Loaded) (first′ : List ℕ) : Type 0 where
   pub bytes : Bytes file
   pub second-long : max-image-length ≤ length second
-  pub answer : l ≡ loaded-of file (length first)
-  pub left : first′ ≡ out-after-load file first
+  pub answer : l ≡ loaded-of common file (length first)
+  pub left : first′ ≡ out-after-load common file first
 
 module _ {file first second : List ℕ} (k : ℕ) {l : Loaded} {first′ : List ℕ} (d : Loads file first second l first′) where
-  number-is : l .refusal ≡ load-refusal file (length first)
-  number-is = ap (λ (x : Loaded). x .refusal) (d .answer) ∙ load-refusal-is file (length first)
+  number-is : l .refusal ≡ load-refusal common file (length first)
+  number-is = ap (λ (x : Loaded). x .refusal) (d .answer) ∙ load-refusal-is common file (length first)
 
   -- the causes that are left are those of the load
   refusal-is : run-refusal file (length first) (length second) ≡ l .refusal
@@ -94,7 +95,7 @@ module _ {file first second : List ℕ} (k : ℕ) {l : Loaded} {first′ : List 
   -- one that is refused leaves both buffers
   pub load-refused : ¬ (l .refusal ≡ 0) → Answers file k first second (Refused (l .refusal)) first′ second
   load-refused n =
-      let same : first′ ≡ first = d .left ∙ left-alone file first (λ z. n (number-is ∙ z)) in
+      let same : first′ ≡ first = d .left ∙ left-alone common file first (λ z. n (number-is ∙ z)) in
       subst (λ (f : List ℕ). Answers file k first second (Refused (l .refusal)) f second) (sym same) (refuses file k first second (l .refusal) refusal-is n)
 
   -- one that is not is of an accepted recipe
@@ -122,13 +123,13 @@ module _ {file first second : List ℕ} (k : ℕ) {l : Loaded} {first′ : List 
 
     pub loaded-stands : image-stands (take (l .length) first′) ≡ true
     unfolding starting-image
-    loaded-stands = ap image-stands loaded-image ∙ reached-stands (reached-start file (d .bytes) accepted)
+    loaded-stands = ap image-stands loaded-image ∙ reached-stands (reached-start common file (d .bytes) accepted)
 
     pub loaded-starts : (nodes : ℕ) → nodes ≡ nodes-all (config-of (take (l .length) first′)) → length first′ ≡ length first →
         Starts (record { next = 0; length = l .length; nodes = nodes }) first′ second
     unfolding starting-image
     loaded-starts nodes n same =
-        let r = reached-start file (d .bytes) accepted in
+        let r = reached-start common file (d .bytes) accepted in
         record {
           present = record {
             numbers = type-at (type-table file);

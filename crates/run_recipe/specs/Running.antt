@@ -4,6 +4,7 @@ use mathlib.Core.Bool.{Bool, cond}
 use mathlib.Core.List.{List}
 use Prim.Native.Nat.{ℕ, _≤_}
 use lib.ListN.{length, take}
+use Rattle.calculus.specs.Profile.{common}
 use Rattle.calculus.specs.Typing.{TypeNumbers}
 use Rattle.calculus.specs.State.{State}
 use Rattle.calculus.specs.Limits.{max-image-length}
@@ -28,7 +29,7 @@ pub record Ready (odd : Bool) (at : At) (first second : List ℕ) : Type 0 where
 pub record Present (at : At) (buffer : List ℕ) : Type 0 where
   pub numbers : TypeNumbers
   pub state : State
-  pub reached : Reached numbers state
+  pub reached : Reached common numbers state
   pub holds : take (at .length) buffer ≡ image-of (state .owned)
   pub long : at .length ≡ length (image-of (state .owned))
   pub nodes : at .nodes ≡ nodes-all (state .owned .config)

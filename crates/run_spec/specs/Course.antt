@@ -3,6 +3,7 @@ use mathlib.Core.Bool.{Bool, cond, false, true}
 use mathlib.Core.List.{List, [], _∷_, _++_}
 use Prim.Native.Nat.{ℕ, zero, suc, _+_, _-_}
 use lib.Dec.{eqb}
+use Rattle.calculus.specs.Profile.{common}
 use Rattle.calculus.specs.Limits.{max-image-length}
 use Rattle.calculus.specs.Causes.{no-thread-cause, room-cause}
 use Rattle.calculus.specs.Reply.{Reply, moved, waits, finished, refuses}
@@ -27,7 +28,7 @@ look-of (refuses number) = cond (eqb number room-cause) lacks-room (cond (eqb nu
 
 -- a look at name x, into a buffer that is long enough for any image
 unfoldable pub look : List ℕ → ℕ → Look
-look image x = look-of (step-reply image x max-image-length)
+look image x = look-of (step-reply common image x max-image-length)
 
 -- n numbers from x up
 unfoldable pub upward : ℕ → ℕ → List ℕ

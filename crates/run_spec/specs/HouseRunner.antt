@@ -8,6 +8,7 @@ use mathlib.Core.List.{List, [], _∷_, _++_, map}
 use Prim.Native.Nat.{ℕ, suc, _%_, _+_, _<_, _≤_}
 use lib.Dec.{eqb}
 use lib.ListN.{length, take}
+use Rattle.calculus.specs.Profile.{common}
 use Rattle.calculus.specs.Bytes.{Bytes}
 use Rattle.calculus.specs.Causes.{buffer-cause, room-cause}
 use Rattle.calculus.specs.Limits.{max-image-length, max-names}
@@ -27,11 +28,11 @@ use Rattle.run_spec.specs.Ending.{Leaves, ran}
 
 -- "that a rule moves and that has room": a step of x, into any buffer that is long enough, answers a rule
 abbrev pub CanStep : List ℕ → ℕ → Type 0
-CanStep image x = (rule size : ℕ) × ((out : List ℕ) → max-image-length ≤ length out → outcome-of image x out ≡ Rule rule size)
+CanStep image x = (rule size : ℕ) × ((out : List ℕ) → max-image-length ≤ length out → outcome-of common image x out ≡ Rule rule size)
 
 -- a rule moves it, and it lacks room: the step answers 15
 abbrev pub OutOfRoom : List ℕ → ℕ → Type 0
-OutOfRoom image x = (out : List ℕ) → max-image-length ≤ length out → outcome-of image x out ≡ Refused room-cause
+OutOfRoom image x = (out : List ℕ) → max-image-length ≤ length out → outcome-of common image x out ≡ Refused room-cause
 
 -- the numbers of a list up to x
 unfoldable pub up-to : ℕ → List ℕ → List ℕ
@@ -52,9 +53,9 @@ stepped c = map (λ (t : Turn). t .thread) (c .turns)
 
 -- they are the turns: as many; each answers a rule, is handed the image of its place in the chain, and leaves the next one
 pub record IsChain (file out : List ℕ) (c : Course) (calls : List Call) : Type 0 where
-  pub begins : at (chain c) 0 ≡ some (image-loaded file out)
-  pub as-many : length (steps-of file out calls) ≡ length (c .turns)
-  pub each : (i : ℕ) (n : Step) → at (steps-of file out calls) i ≡ some n →
+  pub begins : at (chain c) 0 ≡ some (image-loaded common file out)
+  pub as-many : length (steps-of common file out calls) ≡ length (c .turns)
+  pub each : (i : ℕ) (n : Step) → at (steps-of common file out calls) i ≡ some n →
       ((rule size : ℕ) × (answer n ≡ Rule rule size)) × ((at (chain c) i ≡ some (n .image)) × (at (chain c) (suc i) ≡ some (left n)))
 
 -- n turns on end from turn i on, each the step of another than x; wherever x's number comes round in them, a rule moves it and it has room. In between it may wait; a turn
@@ -84,7 +85,7 @@ pub record TurnsDemand (file : List ℕ) (k : ℕ) (c : Course) (e : Ending) : T
   pub followed : (out : List ℕ) → max-image-length ≤ length out → (calls : List Call) × Follows (stepped c) calls
   pub chained : (out : List ℕ) → max-image-length ≤ length out → (calls : List Call) → Follows (stepped c) calls → IsChain file out c calls
   pub demanded : (out : List ℕ) → max-image-length ≤ length out → (calls : List Call) → Follows (stepped c) calls →
-      RunDemand (type-at (type-table file)) (image-loaded file out) (types-loaded file) calls
+      RunDemand common (type-at (type-table file)) (image-loaded common file out) (types-loaded file) calls
   -- "No thread that a rule moves, and that finds room when its number comes round, sees more than 255 steps of others before its own"
   pub fair : (x i n : ℕ) → Sees (c .turns) x i n → n < max-names
 

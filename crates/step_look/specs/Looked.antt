@@ -4,7 +4,8 @@ use mathlib.Core.Bool.{Bool, _&&_, true}
 use mathlib.Core.List.{List}
 use Prim.Native.Nat.{ℕ}
 use lib.Dec.{eqb, ltb}
-use Rattle.calculus.specs.Image.{limits-test, nodes-all, within-limits}
+use Rattle.calculus.specs.Image.{limits-test, nodes-all}
+use Rattle.calculus.specs.Profile.{common}
 use Rattle.calculus.specs.Kinds.{thread-kind}
 use Rattle.calculus.specs.Reply.{Reply, reply-to}
 use Rattle.image_layout.specs.Slice.{kind-at, names}
@@ -37,9 +38,9 @@ stays (DecisionGoes step) = Done
 stays (Waits y) = Waiting y
 stays (Refuses number) = Refused number
 
--- the calculus's reply to a step of thread x
+-- the calculus's reply to a step of thread x, by document 01's limits
 abbrev pub reply-in : List ℕ → ℕ → Reply
-reply-in s x = reply-to within-limits (owned-of s) x
+reply-in s x = reply-to common (owned-of s) x
 
 -- the thread goes by this step, and the outcome is within the limits; what the writer is handed, and how many nodes there are then
 pub record Going (s : List ℕ) (x : ℕ) (step : Step) (after : Size) : Type 0 where

@@ -4,3 +4,5 @@
 pub mod Ways
 -- the step of a thread that goes can be written
 pub mod Writing
+-- what a step answers and leaves under a profile
+pub mod Answers

@@ -11,6 +11,7 @@ use Rattle.term_redex.specs.declared.Meeting.{Meeting}
 use Rattle.image_layout.specs.Encoded.{Encoded}
 use Rattle.image_layout.specs.Slice.{names}
 use Rattle.image.specs.Holding.{thread-holding, cell-holding, handle-open, handle-used, future-awaited}
+use Rattle.step_rules.specs.declared.Carried.{Carried}
 use Rattle.step_rules.specs.declared.Move.{Move}
 use Rattle.step_rules.specs.declared.Move.the-variants.{Beta, ThreadNew, FutureDeref, HandleNew, HandleBind, CellNew, CellExch, CasePair, CaseList}
 use Rattle.step_rules.specs.Positions.{name-length, to-body, to-component}
@@ -138,3 +139,21 @@ effect-of s m (CellExch cell from to) =
     }
 effect-of s m (CasePair rest) = taken-apart s m rest
 effect-of s m (CaseList rest) = taken-apart s m rest
+
+-- T-09: nothing is carried into another name than the thread's own
+abbrev pub nothing : ℕ → Carried
+nothing x = record { name = x; gained = 0; lost = 0 }
+
+-- what a move of thread x at the meeting m carries into another name
+unfoldable pub carried-of : List ℕ → ℕ → Meeting → Move → Carried
+carried-of s x m Beta = nothing x
+carried-of s x m ThreadNew = nothing x
+carried-of s x m (FutureDeref from to) = nothing x
+carried-of s x m HandleNew = nothing x
+-- the future gets the argument
+carried-of s x m (HandleBind handle future) = record { name = future; gained = nodes (term-at s (m .second)); lost = 0 }
+carried-of s x m CellNew = nothing x
+-- the cell gets the argument and gives its value
+carried-of s x m (CellExch cell from to) = record { name = cell; gained = nodes (term-at s (m .second)); lost = nodes (term-at s from) }
+carried-of s x m (CasePair rest) = nothing x
+carried-of s x m (CaseList rest) = nothing x

@@ -8,12 +8,17 @@ use Rattle.calculus.specs.Lists.{tabulate}
 use Rattle.image_layout.specs.Encoded.{Encoded, image-bytes}
 use Rattle.image_layout.specs.Slice.{names, owner-at, offset-at, length-at, encoded-at}
 use Rattle.image.specs.Holding.{thread-holding}
+use Rattle.step_rules.specs.declared.Carried.{Carried}
 use Rattle.step_rules.specs.declared.Step.{Step}
-use Rattle.step_rules.specs.Effects.{bytes-between, Unowned, Named, named, Effect, effect-of}
+use Rattle.step_rules.specs.Effects.{bytes-between, Unowned, Named, named, Effect, effect-of, carried-of}
 
 -- what a step makes of the image s
 abbrev pub effect : List ℕ → Step → Effect
 effect s step = effect-of s (step .meeting) (step .by)
+
+-- what it carries into another name
+abbrev pub carried : List ℕ → Step → Carried
+carried s step = carried-of s (step .thread) (step .meeting) (step .by)
 
 -- the thread's expression: what stands in place of the application or case, the rest of it as it was
 unfoldable pub expression-after : List ℕ → Step → List ℕ

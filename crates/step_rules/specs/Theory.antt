@@ -8,6 +8,8 @@ pub mod Changes
 pub mod Meeting
 -- what a writer needs
 pub mod Writers
+-- T-09: how a step changes the nodes of each bay
+pub mod Carrying
 -- how long what a step writes is
 pub mod Lengths
 -- what rules 1, 8 and 9 put in a body

@@ -30,6 +30,14 @@ pub struct Step {
     pub by: Move,
 }
 
+// T-09: what a step carries into another name than the thread's: that name, the nodes that come to it, and those that it gives to the thread. Where that is
+// nothing, the name is the thread's own.
+pub struct Carried {
+    pub name: usize,
+    pub gained: usize,
+    pub lost: usize,
+}
+
 // Places in an application or case where values meet, by the table of node forms.
 impl Step {
     // The bytes of an application before its function, of a lambda before its body, of a variable, a name, a constant with a type, and unit.

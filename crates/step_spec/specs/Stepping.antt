@@ -6,7 +6,7 @@ use Prim.Native.Nat.{ℕ}
 use lib.Dec.{ltb}
 use lib.ListN.{drop, length}
 use Rattle.calculus.specs.Limits.{max-image-length}
-use Rattle.calculus.specs.Image.{within-limits}
+use Rattle.calculus.specs.Profile.{Profile}
 use Rattle.calculus.specs.Causes.{buffer-cause, image-cause}
 use Rattle.calculus.specs.Reply.{Reply, moved, waits, finished, refuses, reply-to}
 use Rattle.image.specs.Configuration.{image-of, owned-of}
@@ -14,9 +14,9 @@ use Rattle.image.specs.Stands.{image-stands}
 use Rattle.step_spec.specs.declared.Outcome.{Outcome}
 use Rattle.step_spec.specs.declared.Outcome.the-variants.{Rule, Done, Waiting, Refused}
 
--- document 01, "loading and stepping try 12 first", then 13, then 14 to 17 as the calculus has them; `room` is the length of the out buffer
-unfoldable pub step-reply : List ℕ → ℕ → ℕ → Reply
-step-reply s x room = cond (ltb room max-image-length) (refuses buffer-cause) (cond (image-stands s) (reply-to within-limits (owned-of s) x) (refuses image-cause))
+-- document 01, "loading and stepping try 12 first", then 13, then 14 to 17 as the calculus has them, 15 by the profile's limit; `room` is the length of the out buffer
+unfoldable pub step-reply : Profile → List ℕ → ℕ → ℕ → Reply
+step-reply p s x room = cond (ltb room max-image-length) (refuses buffer-cause) (cond (image-stands s) (reply-to p (owned-of s) x) (refuses image-cause))
 
 -- what is answered: "A step answers with its rule and the new image's length"
 unfoldable pub outcome-of-reply : Reply → Outcome
@@ -32,9 +32,9 @@ out-after-reply (waits y) out = out
 out-after-reply finished out = out
 out-after-reply (refuses number) out = out
 
--- a step of thread x of the image s with the out buffer `out`
-unfoldable pub outcome-of : List ℕ → ℕ → List ℕ → Outcome
-outcome-of s x out = outcome-of-reply (step-reply s x (length out))
+-- a step of thread x of the image s with the out buffer `out`, under a profile (T-09)
+unfoldable pub outcome-of : Profile → List ℕ → ℕ → List ℕ → Outcome
+outcome-of p s x out = outcome-of-reply (step-reply p s x (length out))
 
-unfoldable pub out-after-step : List ℕ → ℕ → List ℕ → List ℕ
-out-after-step s x out = out-after-reply (step-reply s x (length out)) out
+unfoldable pub out-after-step : Profile → List ℕ → ℕ → List ℕ → List ℕ
+out-after-step p s x out = out-after-reply (step-reply p s x (length out)) out

@@ -8,6 +8,7 @@ ghost use mathlib.Core.Path.{_≡_};
 ghost use Prim.Native.Nat.{_≤_};
 ghost use lib.ListN.{length};
 ghost use Rattle.calculus.specs.Limits.{max-image-length};
+ghost use Rattle.calculus.specs.Profile.{common};
 ghost use Rattle.step_look.specs.Looked.{Stands, reply-in};
 ghost use Rattle.step_spec.specs.Stepping.{outcome-of-reply, outcome-of, out-after-step, out-after-reply};
 ghost use Rattle.step_thread.specs.Counted.{nodes-after};
@@ -43,8 +44,8 @@ pub fn step_checked(image: &[u8], nodes: usize, thread: usize, out: &mut [u8]) -
 
 // Document 01, "A step", for every slice, thread number and out buffer.
 pub fn step(image: &[u8], thread: usize, out: &mut [u8]) -> Outcome
-    ensures { λ r. ⌜ r ≡ outcome-of (now (image .entry)) thread (now (out .entry)) ⌝ }
-    ensures { λ r. ⌜ now (out .exit) ≡ out-after-step (now (image .entry)) thread (now (out .entry)) ⌝ }
+    ensures { λ r. ⌜ r ≡ outcome-of common (now (image .entry)) thread (now (out .entry)) ⌝ }
+    ensures { λ r. ⌜ now (out .exit) ≡ out-after-step common (now (image .entry)) thread (now (out .entry)) ⌝ }
 {
     if out.len() < Image::MAX_LENGTH {
         return Outcome::Refused(Cause::BUFFER);

@@ -4,6 +4,7 @@ use mathlib.Core.Logic.{_↔_}
 use mathlib.Core.List.{List, [], _∷_}
 use Prim.Native.Nat.{ℕ, _*_, _+_, _-_, _<_, _≤_, suc}
 use lib.ListN.{length}
+use Rattle.calculus.specs.Profile.{common}
 use Rattle.calculus.specs.Bytes.{Bytes}
 use Rattle.calculus.specs.Limits.{max-image-length, max-nodes}
 use Rattle.calculus.specs.Causes.{room-cause}
@@ -52,7 +53,7 @@ pub record PutIn (image : List ℕ) (x : ℕ) (out : List ℕ) (rule : ℕ) (I :
   pub is-rule : rule ≡ number by
   pub thread : Has (I .config) x context redex
   pub puts : PutsIn by redex body values outcome
-  pub written : Written (image-of (grown I x (put (I .config) x context outcome))) out (out-after-step image x out)
+  pub written : Written (image-of (grown I x (put (I .config) x context outcome))) out (out-after-step common image x out)
   -- "the outcome has the body's nodes plus, for each place, its value's nodes less one"
   pub nodes-are : nodes outcome ≡ weighed body values
   -- the same of bytes, of which a variable has two: each place's come, and the variable's go
@@ -61,11 +62,11 @@ pub record PutIn (image : List ℕ) (x : ℕ) (out : List ℕ) (rule : ℕ) (I :
 pub record WeighedFirst : Type 0 where
   -- "Prove that the outcome has the body's nodes plus, for each place, its value's nodes less one": wherever a step answers rule 1, 8 or 9
   pub outcome : (image : List ℕ) → Bytes image → (x : ℕ) (out : List ℕ) (rule size : ℕ) → PutsValues rule →
-      outcome-of image x out ≡ Answers rule size → Means image out (PutIn image x out rule)
+      outcome-of common image x out ≡ Answers rule size → Means image out (PutIn image x out rule)
   -- "and decide room in rules 1, 8 and 9 by that": there is room exactly where the nodes of all names, with what is so told in place of the application or case, are within the limit
   pub room : (image : List ℕ) → Bytes image → (I : Owned) → ImageOf image I → (x : ℕ) (out : List ℕ) → max-image-length ≤ length out →
       {by : Rule} (F : Context) {redex body e : Exp} {values : List Exp} → Has (I .config) x F redex → PutsIn by redex body values e →
-      (outcome-of image x out ≡ Answers (number by) (length (image-of (grown I x (put (I .config) x F e))))) ↔ (nodes-all (I .config) + weighed body values ≤ max-nodes + nodes redex)
+      (outcome-of common image x out ≡ Answers (number by) (length (image-of (grown I x (put (I .config) x F e))))) ↔ (nodes-all (I .config) + weighed body values ≤ max-nodes + nodes redex)
   pub no-room : (image : List ℕ) → Bytes image → (I : Owned) → ImageOf image I → (x : ℕ) (out : List ℕ) → max-image-length ≤ length out →
       {by : Rule} (F : Context) {redex body e : Exp} {values : List Exp} → Has (I .config) x F redex → PutsIn by redex body values e →
-      (outcome-of image x out ≡ Refused room-cause) ↔ (max-nodes + nodes redex < nodes-all (I .config) + weighed body values)
+      (outcome-of common image x out ≡ Refused room-cause) ↔ (max-nodes + nodes redex < nodes-all (I .config) + weighed body values)

@@ -208,7 +208,7 @@ fn value_nodes(draw: &mut Draw, names: usize, fuel: usize) -> Vec<Node> {
     maker.nodes
 }
 
-fn tree(nodes: &[Node]) -> Rc<Expression> {
+pub(super) fn tree(nodes: &[Node]) -> Rc<Expression> {
     Rc::new(Expression::of_nodes(nodes))
 }
 
@@ -286,7 +286,7 @@ pub fn configuration(draw: &mut Draw) -> Configuration {
     configuration_of(draw, names, fuel)
 }
 
-fn threads_of(configuration: &Configuration) -> Vec<usize> {
+pub(super) fn threads_of(configuration: &Configuration) -> Vec<usize> {
     (0..configuration.names())
         .filter(|name| matches!(configuration.components[*name], Component::Thread(_)))
         .collect()
@@ -307,7 +307,7 @@ pub fn meeting_names(draw: &mut Draw) -> Configuration {
 }
 
 /// z v, exch y v or c x, for an open handle z, a cell y, a constant c that makes names and any name x.
-fn meeting_a_name(draw: &mut Draw, configuration: &Configuration) -> Vec<Node> {
+pub(super) fn meeting_a_name(draw: &mut Draw, configuration: &Configuration) -> Vec<Node> {
     let form = draw.below(4);
     let name = some_name(draw, configuration, |component| match form {
         0 => matches!(component, Component::OpenHandle(_)),
@@ -379,7 +379,7 @@ pub fn outcome_at_limit(draw: &mut Draw) -> Configuration {
 }
 
 /// (λx. x (x .. unit)) v, with a value large enough that rule 1 adds nodes.
-fn growing(draw: &mut Draw) -> Vec<Node> {
+pub(super) fn growing(draw: &mut Draw) -> Vec<Node> {
     let mut term = vec![Node::Application, Node::Lambda(1)];
     for _ in 0..draw.between(2, 4) {
         term.extend([Node::Application, Node::Variable(0)]);
@@ -391,7 +391,7 @@ fn growing(draw: &mut Draw) -> Vec<Node> {
 }
 
 /// case (v, w) of (x, y) ⇒ (x, (y, .. unit)), with values large enough that rule 8 or 9 adds nodes.
-fn growing_case(draw: &mut Draw) -> Vec<Node> {
+pub(super) fn growing_case(draw: &mut Draw) -> Vec<Node> {
     let (shape, compound) =
         draw.pick(&[(Shape::Pair, Node::Pair(3)), (Shape::List, Node::Front(4))]);
     let mut term = vec![Node::Case(shape), compound];

@@ -6,6 +6,7 @@ use crate::limits;
 use crate::nodes::{standings, Node};
 use crate::table::{NUM_ENTRY, SETTING_ENTRY, UNIT_ENTRY};
 use crate::types::{Constant, Multiplicity, Shape};
+use std::ops::Range;
 
 /// The types that growth needs.
 struct Steps {
@@ -79,10 +80,11 @@ impl Steps {
     }
 }
 
-/// The places of units and nums (or nums alone) that are not too deep to grow.
-fn leaves(draft: &Draft, only_nums: bool) -> Vec<(usize, usize)> {
+/// The places of units and nums (or nums alone) in these bays that are not too deep to grow.
+fn leaves(draft: &Draft, bays: &Range<usize>, only_nums: bool) -> Vec<(usize, usize)> {
     let mut places = Vec::new();
-    for (bay, term) in draft.terms.iter().enumerate() {
+    for bay in bays.clone() {
+        let term = &draft.terms[bay];
         let standing = standings(term);
         for (at, (node, here)) in term.iter().zip(standing).enumerate() {
             let wanted = matches!(node, Node::Num(_)) || (*node == Node::Unit && !only_nums);
@@ -96,13 +98,34 @@ fn leaves(draft: &Draft, only_nums: bool) -> Vec<(usize, usize)> {
 
 /// Grows to that many nodes exactly; `None` when it cannot be met.
 pub fn grow_to_nodes(draft: &mut Draft, draw: &mut Draw, wanted: usize) -> Option<()> {
+    let all = 0..draft.terms.len();
+    grow_bays_to_nodes(draft, draw, &all, wanted)
+}
+
+/// The same of one bay's term.
+pub fn grow_bay_to_nodes(
+    draft: &mut Draft,
+    draw: &mut Draw,
+    bay: usize,
+    wanted: usize,
+) -> Option<()> {
+    grow_bays_to_nodes(draft, draw, &(bay..bay + 1), wanted)
+}
+
+fn grow_bays_to_nodes(
+    draft: &mut Draft,
+    draw: &mut Draw,
+    bays: &Range<usize>,
+    wanted: usize,
+) -> Option<()> {
     let steps = Steps::new(draft)?;
-    let missing = wanted.checked_sub(draft.nodes())?;
+    let nodes: usize = draft.terms[bays.clone()].iter().map(Vec::len).sum();
+    let missing = wanted.checked_sub(nodes)?;
     let fours = missing % 3;
     let threes = missing.checked_sub(4 * fours)? / 3;
     for grown in 0..threes + fours {
         let by_four = grown >= threes;
-        let places = leaves(draft, by_four);
+        let places = leaves(draft, bays, by_four);
         if places.is_empty() {
             return None;
         }
@@ -118,10 +141,23 @@ pub fn grow_to_nodes(draft: &mut Draft, draw: &mut Draw, wanted: usize) -> Optio
     Some(())
 }
 
+/// Some num of that bay's term becomes what a setting held, into which the num goes.
+pub fn exchange_a_num(draft: &mut Draft, draw: &mut Draw, bay: usize) -> Option<()> {
+    let steps = Steps::new(draft)?;
+    let places = leaves(draft, &(bay..bay + 1), true);
+    if places.is_empty() {
+        return None;
+    }
+    let (_, at) = draw.pick(&places);
+    let more = steps.four_more(draft.terms[bay][at]);
+    draft.terms[bay].splice(at..=at, more);
+    Some(())
+}
+
 /// Nests identities and cases until the deepest node has that nesting.
 pub fn grow_to_nesting(draft: &mut Draft, draw: &mut Draw, wanted: usize) -> Option<()> {
     let steps = Steps::new(draft)?;
-    let places = leaves(draft, false);
+    let places = leaves(draft, &(0..draft.terms.len()), false);
     if places.is_empty() {
         return None;
     }

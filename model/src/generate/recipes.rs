@@ -122,6 +122,17 @@ pub fn with_faults(draw: &mut Draw) -> Recipe {
     draft(draw, faults).finish()
 }
 
+/// A well-typed draft of so many bays, each term of about twice that fuel in nodes.
+pub fn drafted(draw: &mut Draw, bays: usize, fuel: usize) -> Draft {
+    let wish = Wish {
+        bays,
+        fuel,
+        deepest: 30,
+        faults: Faults::default(),
+    };
+    draft_as_wished(draw, &wish)
+}
+
 fn draft(draw: &mut Draw, faults: Faults) -> Draft {
     let bays = match draw.below(8) {
         0 => draw.between(1, limits::MAX_BAYS),

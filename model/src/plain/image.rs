@@ -4,6 +4,7 @@ use crate::kinds;
 use crate::limits;
 use crate::nodes::FORMS;
 use crate::plain::levels::{Levels, Passed};
+use crate::plain::room::Room;
 use crate::tags;
 
 /// A sound image and its number of nodes.
@@ -49,8 +50,12 @@ fn number_at(bytes: &[u8], at: usize) -> usize {
     usize::from(bytes[at]) + 256 * usize::from(bytes[at + 1])
 }
 
-/// The image, if it keeps every rule and limit.
-pub fn read<'a>(levels: &mut ExpressionLevels, bytes: &'a [u8]) -> Option<PlainImage<'a>> {
+/// The image, if it keeps every rule and limit; the owner and the nodes of each name are noted.
+pub fn read<'a, R: Room>(
+    levels: &mut ExpressionLevels,
+    room: &mut R,
+    bytes: &'a [u8],
+) -> Option<PlainImage<'a>> {
     if !(limits::FIRST_HEAD..=limits::MAX_IMAGE).contains(&bytes.len()) {
         return None;
     }
@@ -65,9 +70,12 @@ pub fn read<'a>(levels: &mut ExpressionLevels, bytes: &'a [u8]) -> Option<PlainI
     };
     check_heads(image)?;
     for name in 0..names {
+        let mut nodes = 0;
         if image.kind(name) <= kinds::CELL {
-            image.nodes += scan(levels, image.expression(name), names)?;
+            nodes = scan(levels, image.expression(name), names)?;
         }
+        image.nodes += nodes;
+        room.note(image.owner(name), nodes);
         if image.kind(name) == kinds::CELL && !crate::plain::place::is_value(image.expression(name))
         {
             return None;

@@ -3,11 +3,26 @@
 use crate::causes;
 use crate::kinds;
 use crate::limits;
+use crate::nodes::FORMS;
 use crate::plain::check::{check, Answer, PlainParts};
 use crate::tags;
 
 /// The verdict, and the length of the image written (0 on a refusal).
 pub fn load(file: &[u8], out: &mut [u8]) -> (Answer, usize) {
+    load_unless(|_, _| 0, file, out)
+}
+
+/// The same with separate bays.
+pub fn load_separate(file: &[u8], out: &mut [u8]) -> (Answer, usize) {
+    load_unless(not_separate, file, out)
+}
+
+/// The same; a recipe that the checker accepts may still be refused, for its terms of so many bays.
+fn load_unless(
+    refusal: fn(PlainParts, usize) -> u32,
+    file: &[u8],
+    out: &mut [u8],
+) -> (Answer, usize) {
     if out.len() < limits::MAX_IMAGE {
         return (Answer::refused(causes::BUFFER), 0);
     }
@@ -17,6 +32,42 @@ pub fn load(file: &[u8], out: &mut [u8]) -> (Answer, usize) {
     }
     let bays = answer.bays as usize;
     let parts = PlainParts::of_accepted(file);
+    let refusal = refusal(parts, bays);
+    if refusal != 0 {
+        return (Answer::refused(refusal), 0);
+    }
+    (answer, write_start(parts, bays, out))
+}
+
+/// Cause 20 or 21, or 0: a bay has two names, the node of its setting and those of its term.
+fn not_separate(parts: PlainParts, bays: usize) -> u32 {
+    let mut refusal = 0;
+    for bay in 0..bays {
+        match own_nodes(parts.term(bay), bay) {
+            None => return causes::OTHER_SETTING,
+            Some(nodes) if 1 + nodes > limits::MAX_NODES / bays => refusal = causes::SHARE,
+            _ => {}
+        }
+    }
+    refusal
+}
+
+/// The nodes of a term that names only that bay's setting.
+fn own_nodes(term: &[u8], bay: usize) -> Option<usize> {
+    let mut at = 0;
+    let mut nodes = 0;
+    while at < term.len() {
+        if term[at] == tags::NAME && usize::from(term[at + 1]) != bay {
+            return None;
+        }
+        at += 1 + FORMS[usize::from(term[at])].after;
+        nodes += 1;
+    }
+    Some(nodes)
+}
+
+/// Writes the starting image; its length.
+fn write_start(parts: PlainParts, bays: usize, out: &mut [u8]) -> usize {
     let starting = parts.starting();
     let mut end = limits::FIRST_HEAD + limits::HEAD_LENGTH * 2 * bays;
     out[..2].copy_from_slice(&(2 * bays as u16).to_le_bytes());
@@ -36,7 +87,7 @@ pub fn load(file: &[u8], out: &mut [u8]) -> (Answer, usize) {
         out[end..end + expression.len()].copy_from_slice(expression);
         end += expression.len();
     }
-    (answer, end)
+    end
 }
 
 /// The num that a bay's setting starts with, as an expression.

@@ -7,6 +7,7 @@ use crate::nodes::FORMS;
 use crate::plain::image::{measure, read, ExpressionLevels, PlainImage};
 use crate::plain::levels::Passed;
 use crate::plain::place::{find, is_value, Place};
+use crate::plain::room::{Applied, Room, Shares, Whole};
 use crate::plain::write::{write, Change};
 use crate::rules;
 use crate::tags;
@@ -22,11 +23,20 @@ pub enum Stepped {
 
 /// One step of that thread.
 pub fn step(bytes: &[u8], thread: u64, out: &mut [u8]) -> Stepped {
+    step_within(Whole, bytes, thread, out)
+}
+
+/// One step of that thread, within the bays' shares.
+pub fn step_separate(bytes: &[u8], thread: u64, out: &mut [u8]) -> Stepped {
+    step_within(Shares::new(), bytes, thread, out)
+}
+
+fn step_within<R: Room>(mut room: R, bytes: &[u8], thread: u64, out: &mut [u8]) -> Stepped {
     if out.len() < limits::MAX_IMAGE {
         return Stepped::Refused(causes::BUFFER);
     }
     let mut levels = ExpressionLevels::new();
-    let image = match read(&mut levels, bytes) {
+    let image = match read(&mut levels, &mut room, bytes) {
         Some(image) => image,
         None => return Stepped::Refused(causes::IMAGE),
     };
@@ -43,9 +53,13 @@ pub fn step(bytes: &[u8], thread: u64, out: &mut [u8]) -> Stepped {
         Ok(change) => change,
         Err(answer) => return answer,
     };
-    let names = image.names + change.new_names();
-    let nodes = nodes_after(&mut levels, image, expression, place, change);
-    if names > limits::MAX_NAMES || nodes > limits::MAX_NODES {
+    let applied = Applied {
+        image,
+        thread,
+        place,
+        change,
+    };
+    if !room.suffices(&mut levels, applied) {
         return Stepped::Refused(causes::ROOM);
     }
     let length = write(&mut levels, image, thread, place, change, out);
@@ -121,16 +135,11 @@ fn decide_handle(image: PlainImage, name: u8) -> Result<Change, Stepped> {
     }
 }
 
-/// The nodes after the change.
-fn nodes_after(
-    levels: &mut ExpressionLevels,
-    image: PlainImage,
-    expression: &[u8],
-    place: Place,
-    change: Change,
-) -> usize {
-    let nodes = image.nodes;
-    match change {
+/// So many nodes, those of the stepping thread among them, after the rule.
+pub fn nodes_after(levels: &mut ExpressionLevels, applied: Applied, nodes: usize) -> usize {
+    let Applied { image, place, .. } = applied;
+    let expression = image.expression(applied.thread);
+    match applied.change {
         Change::Beta => {
             let places = uses(levels, &expression[place.first() + 2..], 0);
             let value = place.second_nodes;

@@ -1,10 +1,14 @@
 //! The words after a command: files, options with a value, and options without one.
 
+use crate::profile::Profile;
 use crate::tool::help;
 use crate::tool::problem::Problem;
 use std::ffi::OsString;
 use std::path::PathBuf;
 use std::str::FromStr;
+
+/// The option for the separate profile.
+pub const SEPARATE: &str = "--separate";
 
 /// What a command takes.
 pub struct Form {
@@ -85,6 +89,14 @@ impl Form {
 impl Arguments {
     pub fn has(&self, name: &str) -> bool {
         self.value(name).is_some()
+    }
+
+    /// The profile that was asked for.
+    pub fn profile(&self) -> Profile {
+        match self.has(SEPARATE) {
+            false => Profile::Common,
+            true => Profile::Separate,
+        }
     }
 
     pub fn value(&self, name: &str) -> Option<&str> {

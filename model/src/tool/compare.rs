@@ -7,7 +7,8 @@ pub mod words;
 
 use crate::draw::Draw;
 use crate::examples;
-use crate::generate::{houses, images, recipes};
+use crate::generate::{houses, images, recipes, separate, shares};
+use crate::profile::{Profile, PROFILES};
 use crate::tool::arguments::Form;
 use crate::tool::problem::{message, Outcome};
 use crate::tool::progress::Progress;
@@ -67,7 +68,8 @@ pub fn command(words: &[OsString], out: &mut dyn Write) -> Outcome {
 }
 
 /// The examples, then that many recipes: checked, loaded, the accepted ones stepped, all handed to the
-/// runners; an image from outside for every second recipe; and houses for the runners.
+/// runners; an image from outside for every second recipe; and houses for the runners. The separate profile
+/// gets the same, and for every second recipe one of its own and an image about the shares.
 fn compare(
     pair: &mut Pair,
     seed: u64,
@@ -76,17 +78,24 @@ fn compare(
 ) -> Result<(), Box<Difference>> {
     let mut draw = Draw::new(seed);
     let mut for_runner = Draw::new(!seed);
+    let mut for_separate = Draw::new(seed.rotate_left(32));
     let examples: Vec<Vec<u8>> = examples::all().iter().map(|e| e.file()).collect();
     for recipe in &examples {
-        compare_recipe(pair, &mut draw, recipe)?;
+        pair.check(recipe)?;
+        compare_recipe(Profile::Common, pair, &mut draw, recipe)?;
+        compare_recipe(Profile::Separate, pair, &mut for_separate, recipe)?;
         compare_run(pair, &mut for_runner, recipe)?;
     }
     for number in 0..count {
         let recipe = recipes::file(&mut draw);
-        compare_recipe(pair, &mut draw, &recipe)?;
+        pair.check(&recipe)?;
+        compare_recipe(Profile::Common, pair, &mut draw, &recipe)?;
+        compare_recipe(Profile::Separate, pair, &mut for_separate, &recipe)?;
         compare_run(pair, &mut for_runner, &recipe)?;
         if number % 2 == 0 {
-            compare_image(pair, &mut draw)?;
+            compare_image(pair, &mut draw, &mut for_separate)?;
+        } else {
+            compare_separate(pair, &mut for_separate)?;
         }
         if number % HOUSE_EVERY == 0 {
             let house = houses::house(&mut for_runner).write();
@@ -97,17 +106,22 @@ fn compare(
     Ok(())
 }
 
-fn compare_recipe(pair: &mut Pair, draw: &mut Draw, recipe: &[u8]) -> Result<(), Box<Difference>> {
-    pair.check(recipe)?;
+fn compare_recipe(
+    profile: Profile,
+    pair: &mut Pair,
+    draw: &mut Draw,
+    recipe: &[u8],
+) -> Result<(), Box<Difference>> {
     let room = images::out_length(draw);
-    let mut image = match pair.load(recipe, room)? {
+    let mut image = match pair.load(profile, recipe, room)? {
         Some(image) => image,
         None => return Ok(()),
     };
     let mut thread = images::thread_number(draw, &image);
     for turn in 1..=draw.between(1, TURNS) {
         let room = images::out_length(draw);
-        let after = pair.step(Some((recipe, turn)), &image, thread, room)?;
+        let of = (profile, Some((recipe, turn)));
+        let after = pair.step(of, &image, thread, room)?;
         let moved = after.is_some();
         image = after.unwrap_or(image);
         if !moved && draw.one_in(6) {
@@ -126,12 +140,30 @@ fn compare_run(pair: &mut Pair, draw: &mut Draw, recipe: &[u8]) -> Result<(), Bo
     pair.run(recipe, turns, rooms)
 }
 
-fn compare_image(pair: &mut Pair, draw: &mut Draw) -> Result<(), Box<Difference>> {
+fn compare_image(
+    pair: &mut Pair,
+    draw: &mut Draw,
+    for_separate: &mut Draw,
+) -> Result<(), Box<Difference>> {
     let image = images::image(draw);
     for _ in 0..draw.between(1, 4) {
         let thread = images::thread_number(draw, &image);
         let room = images::out_length(draw);
-        pair.step(None, &image, thread, room)?;
+        pair.step((Profile::Common, None), &image, thread, room)?;
+        let room = images::out_length(for_separate);
+        pair.step((Profile::Separate, None), &image, thread, room)?;
+    }
+    Ok(())
+}
+
+/// A recipe for the separate profile, and an image about the shares.
+fn compare_separate(pair: &mut Pair, draw: &mut Draw) -> Result<(), Box<Difference>> {
+    let recipe = separate::file(draw);
+    compare_recipe(Profile::Separate, pair, draw, &recipe)?;
+    let (image, thread) = shares::image(draw);
+    for profile in PROFILES {
+        let room = images::out_length(draw);
+        pair.step((profile, None), &image, thread, room)?;
     }
     Ok(())
 }

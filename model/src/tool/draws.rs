@@ -2,6 +2,7 @@
 //! built in; or what the program is given.
 
 use crate::causes;
+use crate::profile::Profile;
 use crate::test_load::{verdict_line, Input, TestLoad};
 use crate::tool::arguments::{Arguments, Form};
 use crate::tool::files;
@@ -63,6 +64,6 @@ where
 fn refused(number: u32, recipe: &[u8]) -> String {
     match number {
         causes::SEED => format!("refused {number}: {}", refusals::in_words(number)),
-        _ => Refusal::of(number, recipe, &[]).in_full(),
+        _ => Refusal::of(Profile::Common, number, recipe, &[]).in_full(),
     }
 }

@@ -3,6 +3,7 @@
 pub mod bytes;
 pub mod entries;
 pub mod marks;
+pub mod separate;
 pub mod starting;
 pub mod terms;
 pub mod typing;
@@ -11,6 +12,7 @@ pub mod usage;
 use crate::editions::{self, Edition};
 use crate::format::{self, pairs};
 use crate::nodes::{Node, FORMS};
+use crate::profile::Profile;
 use crate::table::{entries_of, Entry};
 use crate::tool::text::spot::Spot;
 use std::fmt;
@@ -82,17 +84,17 @@ pub struct Fault {
     pub found: String,
 }
 
-/// What is wrong with a file, if anything is.
+/// What is wrong with a file, if anything is, in the common profile.
 pub fn fault(file: &[u8]) -> Option<Fault> {
-    fault_in(file, &[])
+    fault_in(Profile::Common, file, &[])
 }
 
-/// The same for a file made from a text, in the text's own names and places.
-pub fn fault_in(file: &[u8], spots: &[Vec<Spot>]) -> Option<Fault> {
-    find(file, spots).err()
+/// The same in that profile, for a file made from a text in the text's own names and places.
+pub fn fault_in(profile: Profile, file: &[u8], spots: &[Vec<Spot>]) -> Option<Fault> {
+    find(profile, file, spots).err()
 }
 
-fn find(file: &[u8], spots: &[Vec<Spot>]) -> Result<(), Fault> {
+fn find(profile: Profile, file: &[u8], spots: &[Vec<Spot>]) -> Result<(), Fault> {
     bytes::length(file)?;
     let edition = bytes::opening(file)?;
     bytes::layout(edition, file)?;
@@ -108,7 +110,14 @@ fn find(file: &[u8], spots: &[Vec<Spot>]) -> Result<(), Fault> {
     typing::agree(&recipe, &terms)?;
     usage::once(&recipe, &terms)?;
     usage::bays_are_many(&recipe, &terms)?;
-    starting::twice_the_bays(&recipe)
+    starting::twice_the_bays(&recipe)?;
+    match profile {
+        Profile::Common => Ok(()),
+        Profile::Separate => {
+            separate::own_settings(&recipe, &terms)?;
+            separate::within_shares(&recipe, &terms)
+        }
+    }
 }
 
 /// The parts of a file whose layout is sound, and where they begin.

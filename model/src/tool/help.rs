@@ -20,14 +20,16 @@ difference or a file that cannot be read or written, 2 for wrong usage.
 ";
 
 const SHOW: &str = "\
-recipe show FILE [--ascii]
+recipe show FILE [--ascii] [--separate]
 
 Prints the types, each bay's term and, in edition 3, what its setting starts with, in the form that
 `recipe write` reads.
 For a refused file it says the refusal, the place (part, path from the root, byte offset), what
 was found there, and shows as much of the file as it can; the exit status is then 1.
 
-  --ascii   \\ for λ, -1> for →1, -w> for →ω, *1 for ×1, *w for ×ω, listw for listω, => for ⇒
+  --ascii      \\ for λ, -1> for →1, -w> for →ω, *1 for ×1, *w for ×ω, listw for listω, => for ⇒
+  --separate   judges it as separate bays: a bay that names another's setting is refused (20), then one
+               that starts above its share (21)
 
   num ref        the type of a cell of num        unit, num, t5   types; t5 is entry 5
   num →1 unit    a function usable once           num →ω unit     one usable many times
@@ -42,7 +44,7 @@ was found there, and shows as much of the file as it can; the exit status is the
 ";
 
 const WRITE: &str = "\
-recipe write FILE.txt [OUT] [--force] [--even-refused]
+recipe write FILE.txt [OUT] [--force] [--even-refused] [--separate]
 
 Reads a text and writes the recipe file OUT; without OUT, the text's name with .recipe at the end;
 - is standard output. An error is told as FILE:LINE:COLUMN. A recipe that would be refused is not
@@ -50,6 +52,7 @@ written, and no file is written over.
 
   --force          writes over a file
   --even-refused   writes also what would be refused
+  --separate       judges it as separate bays, as `recipe show` does; the file is the same
 
 The smallest text, and one that opens a vent to 25 percent (types that are used but not listed are
 added by themselves):
@@ -64,12 +67,14 @@ one without as edition 1 or 2, the least that has all its types and terms:
 ";
 
 const RUN: &str = "\
-recipe run FILE [--turns N] [--seed S | --order 1,2,..] [--svg OUT [--force]] [--progress]
+recipe run FILE [--separate] [--turns N] [--seed S | --order 1,2,..] [--svg OUT [--force]] [--progress]
 
 Checks, loads and steps the recipe, and prints for each turn the thread, the bay that it belongs to,
 its answer and the settings, up to 1000 in tenths of a percent; at the end why it stopped, how the
 threads of each bay stand and for whose names they wait, and the vents.
 
+  --separate      loads and steps as separate bays: each bay names its own setting only, and has its own
+                  share of the names and nodes; at the end what each bay owns is told
   --turns N       at most N turns (1000)
   --seed S        threads by chance, the same for the same S
   --order 1,2,1   these threads, over and over
@@ -79,9 +84,9 @@ threads of each bay stand and for whose names they wait, and the vents.
 
 Without --seed and --order the turns are those of the runner: the first thread that can go, going
 round by number from the one after the last; those that are done, wait or lack room are passed over
-and take no turn. Up to 65535 turns the runner itself is asked too, in one call, and its answer told.
-The run stops when all turns are taken, or when no thread can go: each is done or waits (idle), or
-one lacks room.
+and take no turn. Up to 65535 turns the runner itself is asked too, in one call, and its answer told;
+not with --separate, for the runner knows no separate bays. The run stops when all turns are taken, or
+when no thread can go: each is done or waits (idle), or one lacks room.
 ";
 
 const DRAWS: &str = "\
@@ -107,10 +112,11 @@ const COMPARE: &str = "\
 recipe compare A B [--seed S] [--count N] [--limit SECONDS] [--progress]
 
 Opens two shared libraries that offer the C interface, gives both the same recipes, images and
-turns, and compares every answer and every byte of the out buffers; of a run by the runner the last
-image, for the rest is free. Says \"same\", or shows the
-first difference in full, with the model's answer beside it; the exit status is then 1. So it is
-when a library is stopped, ends the program or gives no answer in time; library and input are told.
+turns, in the common profile and as separate bays, and compares every answer and every byte of the out
+buffers; of a run by the runner the last image, for the rest is free. A function that a library does
+not have is told and not compared. Says \"same\", or shows the first difference in full, with the
+model's answer beside it; the exit status is then 1. So it is when a library is stopped, ends the
+program or gives no answer in time; library and input are told.
 
   --seed S       other recipes (2006)
   --count N      so many recipes (20000), beside the examples

@@ -5,6 +5,8 @@ use crate::answers::Implementation;
 pub use crate::answers::Model as Judge;
 #[cfg(feature = "library")]
 pub use crate::ffi::Library as Judge;
+use crate::limits;
+use crate::profile::Profile;
 use crate::tool::faults::{fault_in, Fault};
 use crate::tool::refusals;
 use crate::tool::text::spot::Spot;
@@ -23,8 +25,8 @@ pub struct Refusal {
 }
 
 impl Refusal {
-    pub fn of(number: u32, file: &[u8], spots: &[Vec<Spot>]) -> Refusal {
-        let fault = fault_in(file, spots).filter(|fault| fault.number == number);
+    pub fn of(profile: Profile, number: u32, file: &[u8], spots: &[Vec<Spot>]) -> Refusal {
+        let fault = fault_in(profile, file, spots).filter(|fault| fault.number == number);
         Refusal { number, fault }
     }
 
@@ -48,13 +50,29 @@ impl Refusal {
     }
 }
 
-/// Why a file is refused, if it is.
-pub fn refusal(file: &[u8]) -> Option<Refusal> {
-    refusal_in(file, &[])
+/// "accepted by the proved library", and in the separate profile how.
+pub fn accepted(profile: Profile) -> String {
+    match profile {
+        Profile::Common => format!("accepted by {NAME}"),
+        Profile::Separate => format!("accepted by {NAME}, as separate bays"),
+    }
+}
+
+/// Why a file is refused in that profile, if it is.
+pub fn refusal(profile: Profile, file: &[u8]) -> Option<Refusal> {
+    refusal_in(profile, file, &[])
 }
 
 /// The same for a file made from a text, in the text's own names and places.
-pub fn refusal_in(file: &[u8], spots: &[Vec<Spot>]) -> Option<Refusal> {
-    let number = Judge.check(file).refusal;
-    (number != 0).then(|| Refusal::of(number, file, spots))
+pub fn refusal_in(profile: Profile, file: &[u8], spots: &[Vec<Spot>]) -> Option<Refusal> {
+    let number = match profile {
+        Profile::Common => Judge.check(file).refusal,
+        // there is no check of its own: the load tells
+        Profile::Separate => {
+            let mut out = vec![0; limits::MAX_IMAGE];
+            let loaded = Judge.load_in(profile, file, &mut out);
+            loaded.unwrap_or_default().refusal
+        }
+    };
+    (number != 0).then(|| Refusal::of(profile, number, file, spots))
 }

@@ -1,7 +1,10 @@
 //! The refusals in the documents' words, and the rules by name.
 
+use crate::causes;
+use crate::profile::Profile;
+
 /// The cause of each number, 1 first.
-const CAUSES: [&str; 19] = [
+const CAUSES: [&str; 21] = [
     "file length outside 12 to 8,192",
     "first two bytes, edition, or n outside 2 to 17, in edition 3 outside 3 to 18",
     "pairs break the layout; table length no multiple of 3, or outside 9 to 768",
@@ -21,6 +24,8 @@ const CAUSES: [&str; 19] = [
     "two values meet, neither a rule, nor waiting, nor 16",
     "a seed of zero",
     "a starting part whose length is not twice the number of bays",
+    "a bay names another bay's setting",
+    "a bay starts above its share",
 ];
 
 /// The rules in Fig. 5's order, 1 first, and document 02's two.
@@ -39,6 +44,14 @@ const RULES: [&str; 9] = [
 /// The cause of that number in words.
 pub fn in_words(number: u32) -> &'static str {
     named(&CAUSES, number).unwrap_or("a number that the documents do not have")
+}
+
+/// The same where a step of that profile answers it.
+pub fn in_words_of(profile: Profile, number: u32) -> &'static str {
+    match (profile, number) {
+        (Profile::Separate, causes::ROOM) => "a rule applies, outcome leaves a bay above its share",
+        _ => in_words(number),
+    }
 }
 
 /// The name of that rule.

@@ -1,15 +1,17 @@
-//! `recipe run`: checks, loads and steps a recipe, through the proved library where it is built in; in
-//! the runner's order, the runner is asked too.
+//! `recipe run`: checks, loads and steps a recipe in either profile, through the proved library where it is
+//! built in; in the runner's order, the runner is asked too, which is of the common profile.
 
 pub mod history;
 pub mod image_view;
 pub mod order;
 pub mod report;
 pub mod runner;
+pub mod shares;
 
 use crate::answers::{Implementation, RanAnswer};
 use crate::limits;
-use crate::tool::arguments::{Arguments, Form};
+use crate::profile::Profile;
+use crate::tool::arguments::{Arguments, Form, SEPARATE};
 use crate::tool::files;
 use crate::tool::judge::{self, Judge, Refusal};
 use crate::tool::problem::{message, Outcome, Problem};
@@ -28,7 +30,7 @@ const FORM: Form = Form {
     command: "run",
     files: (1, 1),
     with_value: &["--turns", "--seed", "--order", "--svg"],
-    without_value: &["--force", "--progress"],
+    without_value: &["--force", "--progress", SEPARATE],
 };
 
 /// The turns of a run that is told no other number.
@@ -45,24 +47,21 @@ pub fn command(words: &[OsString], out: &mut dyn Write) -> Outcome {
     let given = FORM.read(words)?;
     let turns = FORM.value(&given, "--turns")?.unwrap_or(TURNS);
     let order = order(&given)?;
-    let path = &given.files[0];
+    let (path, profile) = (&given.files[0], given.profile());
     let recipe = files::read(path)?;
-    let (bays, image) = load(path, &recipe)?;
+    let loaded = load(profile, path, &recipe)?;
     let picture = given.value("--svg").map(PathBuf::from);
     let force = given.has("--force");
     if let Some(to) = &picture {
         files::refuse_existing(to, force)?;
     }
     let progress = Progress::beside_lines(given.has("--progress"));
-    writeln!(
-        out,
-        "{}, stepped by {STEPPER}, {}",
-        path.display(),
-        order.in_words()
-    )?;
-    let history = run(out, &recipe, (bays, image), (turns, order), progress)?;
+    let title = titled(profile, path);
+    writeln!(out, "{title}, stepped by {STEPPER}, {}", order.in_words())?;
+    let recipe = (profile, &recipe[..]);
+    let history = run(out, recipe, loaded, (turns, order), progress)?;
     if let Some(to) = picture {
-        let drawn = svg::picture(&path.display().to_string(), &history);
+        let drawn = svg::picture(&title, &history);
         files::write(&to, force, drawn.as_bytes())?;
         writeln!(out, "\n{}: vents and threads over the turns", to.display())?;
     }
@@ -80,27 +79,36 @@ fn order(given: &Arguments) -> Result<Order, Problem> {
     }
 }
 
+/// The file, and in the separate profile how it is run.
+fn titled(profile: Profile, path: &Path) -> String {
+    match profile {
+        Profile::Common => path.display().to_string(),
+        Profile::Separate => format!("{} as separate bays", path.display()),
+    }
+}
+
 /// The number of bays and the starting image.
-fn load(path: &Path, recipe: &[u8]) -> Result<(usize, Vec<u8>), Problem> {
+fn load(profile: Profile, path: &Path, recipe: &[u8]) -> Result<(usize, Vec<u8>), Problem> {
     let mut image = vec![0; limits::MAX_IMAGE];
-    let loaded = Judge.load(recipe, &mut image).unwrap_or_default();
+    let loaded = Judge.load_in(profile, recipe, &mut image);
+    let loaded = loaded.unwrap_or_default();
     if loaded.refusal == 0 {
         image.truncate(loaded.length as usize);
         return Ok((loaded.bays as usize, image));
     }
-    let why = Refusal::of(loaded.refusal, recipe, &[]).in_full();
+    let why = Refusal::of(profile, loaded.refusal, recipe, &[]).in_full();
     Err(message(format!("{}: {why}", path.display())))
 }
 
 /// The turns, printed one by one; then the end.
 fn run(
     out: &mut dyn Write,
-    recipe: &[u8],
+    (profile, recipe): (Profile, &[u8]),
     (bays, image): (usize, Vec<u8>),
     (turns, mut order): (u64, Order),
     progress: Progress,
 ) -> Result<History, Problem> {
-    let mut runner = Runner::new(&Judge, image);
+    let mut runner = Runner::new_in(profile, &Judge, image);
     let mut history = History::start(bays, &runner.image);
     let start = ImageView(&runner.image).vents(bays);
     let columns = Columns::of(&order);
@@ -114,8 +122,9 @@ fn run(
     let threads: Vec<_> = threads.iter().map(|t| (*t, runner.answer(*t))).collect();
     let view = ImageView(&runner.image);
     write!(out, "\n{}", report::ending(history.turns, ending))?;
-    write!(out, "{}", report::standings(&threads, view))?;
-    if let (true, Ok(turns)) = (order.passes_over(), u16::try_from(turns)) {
+    write!(out, "{}", report::standings(profile, &threads, view))?;
+    let asked = profile == Profile::Common && order.passes_over();
+    if let (true, Ok(turns)) = (asked, u16::try_from(turns)) {
         let steps = (ending, history.turns, &runner.image[..]);
         write!(
             out,
@@ -123,7 +132,10 @@ fn run(
             report::one_call(&one_call(recipe, turns, steps)?)
         )?;
     }
-    write!(out, "\n{}", report::vents(view, bays))?;
+    match profile {
+        Profile::Common => write!(out, "\n{}", report::vents(view, bays))?,
+        Profile::Separate => write!(out, "\n{}", shares::shares_and_vents(view, bays))?,
+    }
     Ok(history)
 }
 

@@ -18,6 +18,12 @@ extern "C" {
     fn dlerror() -> *const c_char;
 }
 
+const LOAD: &str = "fikarehu_load";
+const STEP: &str = "fikarehu_step";
+const RUN: &str = "fikarehu_run";
+const LOAD_SEPARATE: &str = "fikarehu_load_separate";
+const STEP_SEPARATE: &str = "fikarehu_step_separate";
+
 /// Every name looked up at once, and none lent to other libraries.
 const NOW_AND_LOCAL: c_int = 2;
 
@@ -27,6 +33,8 @@ pub struct SharedLibrary {
     load: Option<Load>,
     step: Option<Step>,
     run: Option<Run>,
+    load_separate: Option<Load>,
+    step_separate: Option<Step>,
 }
 
 impl SharedLibrary {
@@ -44,30 +52,37 @@ impl SharedLibrary {
         let check = check.ok_or_else(|| cannot("it has no fikarehu_check".to_owned()))?;
         // SAFETY: functions of these names have these types, as the header declares them.
         unsafe {
+            let load = |name| {
+                let found = symbol(library, name);
+                found.map(|found| std::mem::transmute::<*mut c_void, Load>(found))
+            };
+            let step = |name| {
+                let found = symbol(library, name);
+                found.map(|found| std::mem::transmute::<*mut c_void, Step>(found))
+            };
             Ok(SharedLibrary {
                 check: std::mem::transmute::<*mut c_void, Check>(check),
-                load: symbol(library, "fikarehu_load")
-                    .map(|found| std::mem::transmute::<*mut c_void, Load>(found)),
-                step: symbol(library, "fikarehu_step")
-                    .map(|found| std::mem::transmute::<*mut c_void, Step>(found)),
-                run: symbol(library, "fikarehu_run")
+                load: load(LOAD),
+                step: step(STEP),
+                run: symbol(library, RUN)
                     .map(|found| std::mem::transmute::<*mut c_void, Run>(found)),
+                load_separate: load(LOAD_SEPARATE),
+                step_separate: step(STEP_SEPARATE),
             })
         }
     }
-}
 
-impl SharedLibrary {
-    pub fn has_load(&self) -> bool {
-        self.load.is_some()
-    }
-
-    pub fn has_step(&self) -> bool {
-        self.step.is_some()
-    }
-
-    pub fn has_run(&self) -> bool {
-        self.run.is_some()
+    /// The functions beside the check that it does not have.
+    pub fn missing(&self) -> Vec<&'static str> {
+        let all = [
+            (LOAD, self.load.is_some()),
+            (STEP, self.step.is_some()),
+            (RUN, self.run.is_some()),
+            (LOAD_SEPARATE, self.load_separate.is_some()),
+            (STEP_SEPARATE, self.step_separate.is_some()),
+        ];
+        let missing = all.iter().filter(|(_, has)| !has);
+        missing.map(|(name, _)| *name).collect()
     }
 }
 
@@ -90,6 +105,17 @@ fn last_error() -> String {
     }
 }
 
+fn call_load(load: Load, recipe: &[u8], out: &mut [u8]) -> LoadedAnswer {
+    // SAFETY: two slices that are lent meanwhile, the second alone.
+    unsafe { load(recipe.as_ptr(), recipe.len(), out.as_mut_ptr(), out.len()) }
+}
+
+fn call_step(step: Step, image: &[u8], thread: u64, out: &mut [u8]) -> SteppedAnswer {
+    let room = out.len();
+    // SAFETY: two slices that are lent meanwhile, the second alone.
+    unsafe { step(image.as_ptr(), image.len(), thread, out.as_mut_ptr(), room) }
+}
+
 impl Implementation for SharedLibrary {
     fn check(&self, recipe: &[u8]) -> VerdictAnswer {
         // SAFETY: the pointer and the length are those of a slice that is lent meanwhile.
@@ -97,16 +123,19 @@ impl Implementation for SharedLibrary {
     }
 
     fn load(&self, recipe: &[u8], out: &mut [u8]) -> Option<LoadedAnswer> {
-        let load = self.load?;
-        // SAFETY: two slices that are lent meanwhile, the second alone.
-        Some(unsafe { load(recipe.as_ptr(), recipe.len(), out.as_mut_ptr(), out.len()) })
+        Some(call_load(self.load?, recipe, out))
     }
 
     fn step(&self, image: &[u8], thread: u64, out: &mut [u8]) -> Option<SteppedAnswer> {
-        let step = self.step?;
-        let room = out.len();
-        // SAFETY: two slices that are lent meanwhile, the second alone.
-        Some(unsafe { step(image.as_ptr(), image.len(), thread, out.as_mut_ptr(), room) })
+        Some(call_step(self.step?, image, thread, out))
+    }
+
+    fn load_separate(&self, recipe: &[u8], out: &mut [u8]) -> Option<LoadedAnswer> {
+        Some(call_load(self.load_separate?, recipe, out))
+    }
+
+    fn step_separate(&self, image: &[u8], thread: u64, out: &mut [u8]) -> Option<SteppedAnswer> {
+        Some(call_step(self.step_separate?, image, thread, out))
     }
 
     fn run(

@@ -4,8 +4,9 @@ pub mod remains;
 
 use crate::editions;
 use crate::format::hexadecimal;
+use crate::profile::Profile;
 use crate::table::Table;
-use crate::tool::arguments::Form;
+use crate::tool::arguments::{Form, SEPARATE};
 use crate::tool::faults::{self, Parts, Place};
 use crate::tool::files;
 use crate::tool::judge::{self, Refusal};
@@ -23,7 +24,7 @@ const FORM: Form = Form {
     command: "show",
     files: (1, 1),
     with_value: &[],
-    without_value: &["--ascii"],
+    without_value: &["--ascii", SEPARATE],
 };
 
 pub fn command(words: &[OsString], out: &mut dyn Write) -> Outcome {
@@ -35,20 +36,25 @@ pub fn command(words: &[OsString], out: &mut dyn Write) -> Outcome {
     } else {
         &UNICODE
     };
-    let name = path.display().to_string();
-    out.write_all(shown(&name, &file, spelling).as_bytes())?;
-    match judge::refusal(&file) {
+    let (name, profile) = (path.display().to_string(), read.profile());
+    out.write_all(shown_in(profile, &name, &file, spelling).as_bytes())?;
+    match judge::refusal(profile, &file) {
         None => Ok(()),
         Some(refusal) => Err(message(format!("{name}: {}", refusal.short()))),
     }
 }
 
-/// The file as text, with what is known of it in lines that `write` reads over.
+/// The file as text in the common profile, with what is known of it in lines that `write` reads over.
 pub fn shown(name: &str, file: &[u8], spelling: &'static Spelling) -> String {
+    shown_in(Profile::Common, name, file, spelling)
+}
+
+/// The same in that profile.
+pub fn shown_in(profile: Profile, name: &str, file: &[u8], spelling: &'static Spelling) -> String {
     let parts = Parts::of(file);
-    let mut text = match judge::refusal(file) {
+    let mut text = match judge::refusal(profile, file) {
         Some(refusal) => told(name, &refusal) + &first_bytes(file, &parts),
-        None => format!("# {}: accepted by {}\n", one_line(name), judge::NAME),
+        None => format!("# {}: {}\n", one_line(name), judge::accepted(profile)),
     };
     if parts.entries.is_empty() {
         return text;

@@ -1,6 +1,7 @@
 //! `recipe write`: a text as a file of bytes.
 
-use crate::tool::arguments::Form;
+use crate::profile::Profile;
+use crate::tool::arguments::{Form, SEPARATE};
 use crate::tool::faults::Place;
 use crate::tool::files;
 use crate::tool::judge::{self, Refusal};
@@ -16,7 +17,7 @@ const FORM: Form = Form {
     command: "write",
     files: (1, 2),
     with_value: &[],
-    without_value: &["--force", "--even-refused"],
+    without_value: &["--force", "--even-refused", SEPARATE],
 };
 
 pub fn command(words: &[OsString], out: &mut dyn Write) -> Outcome {
@@ -27,7 +28,7 @@ pub fn command(words: &[OsString], out: &mut dyn Write) -> Outcome {
         None => beside(from)?,
     };
     let bytes = files::read(from)?;
-    let made = judged(&bytes, given.has("--even-refused"));
+    let made = judged(given.profile(), &bytes, given.has("--even-refused"));
     let (made, verdict) = made.map_err(|text| message(format!("{}{text}", from.display())))?;
     if to == Path::new("-") {
         out.write_all(&made)?;
@@ -50,21 +51,27 @@ fn beside(from: &Path) -> Result<PathBuf, Problem> {
     Ok(from.with_extension("recipe"))
 }
 
-/// The bytes of a text; an error begins with its place, to stand after the file's name.
+/// The bytes of a text in the common profile; an error begins with its place, to stand after the file's
+/// name.
 pub fn made(text: &[u8], even_refused: bool) -> Result<Vec<u8>, String> {
-    judged(text, even_refused).map(|(file, _)| file)
+    made_in(Profile::Common, text, even_refused)
+}
+
+/// The same in that profile.
+pub fn made_in(profile: Profile, text: &[u8], even_refused: bool) -> Result<Vec<u8>, String> {
+    judged(profile, text, even_refused).map(|(file, _)| file)
 }
 
 /// The same with the verdict in words.
-fn judged(text: &[u8], even_refused: bool) -> Result<(Vec<u8>, String), String> {
+fn judged(profile: Profile, text: &[u8], even_refused: bool) -> Result<(Vec<u8>, String), String> {
     let no_text = |at| format!(": {}", hints::no_text(text, at));
     let text = std::str::from_utf8(text).map_err(|error| no_text(error.valid_up_to()))?;
     let read = read(text).map_err(|error| placed(&error))?;
     let file = read.file();
-    match judge::refusal_in(&file, &read.nodes) {
+    match judge::refusal_in(profile, &file, &read.nodes) {
         Some(refusal) if !even_refused => Err(refused(&read, &refusal)),
         Some(refusal) => Ok((file, refusal.short())),
-        None => Ok((file, format!("accepted by {}", judge::NAME))),
+        None => Ok((file, judge::accepted(profile))),
     }
 }
 

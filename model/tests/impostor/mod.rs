@@ -13,12 +13,14 @@ pub type Load = fn(&[u8], &mut [u8]) -> LoadedAnswer;
 pub type Step = fn(&[u8], u64, &mut [u8]) -> SteppedAnswer;
 pub type Run = fn(&[u8], u16, &mut [u8], &mut [u8]) -> RanAnswer;
 
-/// An implementation put together from four functions.
+/// An implementation put together from functions.
 pub struct Impostor {
     pub check: Check,
     pub load: Load,
     pub step: Step,
     pub run: Run,
+    pub load_separate: Load,
+    pub step_separate: Step,
 }
 
 impl Implementation for Impostor {
@@ -43,6 +45,14 @@ impl Implementation for Impostor {
     ) -> Option<RanAnswer> {
         Some((self.run)(recipe, turns, first, second))
     }
+
+    fn load_separate(&self, recipe: &[u8], out: &mut [u8]) -> Option<LoadedAnswer> {
+        Some((self.load_separate)(recipe, out))
+    }
+
+    fn step_separate(&self, image: &[u8], thread: u64, out: &mut [u8]) -> Option<SteppedAnswer> {
+        Some((self.step_separate)(image, thread, out))
+    }
 }
 
 pub fn check(recipe: &[u8]) -> VerdictAnswer {
@@ -62,6 +72,15 @@ pub fn run(recipe: &[u8], turns: u16, first: &mut [u8], second: &mut [u8]) -> Ra
     answer.unwrap_or_default()
 }
 
+pub fn load_separate(recipe: &[u8], out: &mut [u8]) -> LoadedAnswer {
+    Model.load_separate(recipe, out).unwrap_or_default()
+}
+
+pub fn step_separate(image: &[u8], thread: u64, out: &mut [u8]) -> SteppedAnswer {
+    let answer = Model.step_separate(image, thread, out);
+    answer.unwrap_or_default()
+}
+
 /// "image breaks a rule or limit"
 pub const BROKEN: SteppedAnswer = SteppedAnswer {
     outcome: REFUSED,
@@ -74,6 +93,8 @@ pub const HONEST: Impostor = Impostor {
     load,
     step,
     run,
+    load_separate,
+    step_separate,
 };
 
 /// Honest but for one call.
@@ -91,6 +112,20 @@ pub fn with_step(step: Step) -> Impostor {
 
 pub fn with_run(run: Run) -> Impostor {
     Impostor { run, ..HONEST }
+}
+
+pub fn with_load_separate(load_separate: Load) -> Impostor {
+    Impostor {
+        load_separate,
+        ..HONEST
+    }
+}
+
+pub fn with_step_separate(step_separate: Step) -> Impostor {
+    Impostor {
+        step_separate,
+        ..HONEST
+    }
 }
 
 pub fn is_found(impostor: &Impostor) -> bool {

@@ -9,6 +9,7 @@ use Rattle.calculus.specs.Owners.{Owned}
 use Rattle.calculus.specs.Reduction.{substitute, plug, THREAD-NEW, FUTURE-DEREF, CELL-NEW}
 use Rattle.calculus.specs.Step.{beside, place, rule, waiting, done, no-thread, when-done, step-call, step-exchange, step-meeting, step-place, step-of, within, step-subject, step-case, step-redex}
 use Rattle.calculus.specs.NewTypes.{function-at, result-type, future-and-handle, coming, new-types}
+use Rattle.calculus.specs.Profile.{common}
 use Rattle.calculus.specs.Reply.{refuses, reply-of}
 use Rattle.calculus.specs.Theory.ConfigRuns.{config-reply, state-left, config-steps}
 use Rattle.calculus.specs.Image.{nodes, nodes-all, expression-test, is-settled, is-awaited, handle-for, component-test, each-test, limits-test, image-test}
@@ -31,21 +32,21 @@ abbrev with-thread : Exp
 with-thread = app (const (op thread 0)) (name 0)
 
 case-K :
-    (answer-number (config-reply (of-bay-0 (thread-of with-handle ∷ replicate 253 used)) (call 0)) ≡ 4) ×
-    (answer-number (config-reply (of-bay-0 (thread-of with-handle ∷ replicate 254 used)) (call 0)) ≡ 15) ×
+    (answer-number (config-reply common (of-bay-0 (thread-of with-handle ∷ replicate 253 used)) (call 0)) ≡ 4) ×
+    (answer-number (config-reply common (of-bay-0 (thread-of with-handle ∷ replicate 254 used)) (call 0)) ≡ 15) ×
     (nodes-all (thread-of with-thread ∷ holds (deep 4091) ∷ []) ≡ 4095) ×
-    (answer-number (config-reply (of-bay-0 (thread-of with-thread ∷ holds (deep 4091) ∷ [])) (call 0)) ≡ 2) ×
-    (answer-number (config-reply (of-bay-0 (thread-of with-thread ∷ holds (deep 4092) ∷ [])) (call 0)) ≡ 15) ×
-    (answer-number (config-reply (of-bay-0 (thread-of with-thread ∷ holds (deep 4092) ∷ [])) (record { thread = 7; buffer = 13825 })) ≡ 12) ×
-    (answer-number (config-reply (of-bay-0 (thread-of with-thread ∷ holds (deep 4092) ∷ [])) (call 1)) ≡ 14) ×
-    (answer-number (config-reply (of-bay-0 (thread-of with-thread ∷ holds (deep 4093) ∷ [])) (call 1)) ≡ 13)
+    (answer-number (config-reply common (of-bay-0 (thread-of with-thread ∷ holds (deep 4091) ∷ [])) (call 0)) ≡ 2) ×
+    (answer-number (config-reply common (of-bay-0 (thread-of with-thread ∷ holds (deep 4092) ∷ [])) (call 0)) ≡ 15) ×
+    (answer-number (config-reply common (of-bay-0 (thread-of with-thread ∷ holds (deep 4092) ∷ [])) (record { thread = 7; buffer = 13825 })) ≡ 12) ×
+    (answer-number (config-reply common (of-bay-0 (thread-of with-thread ∷ holds (deep 4092) ∷ [])) (call 1)) ≡ 14) ×
+    (answer-number (config-reply common (of-bay-0 (thread-of with-thread ∷ holds (deep 4093) ∷ [])) (call 1)) ≡ 13)
 unfolding deep config-steps state-left config-reply reply-of image-test limits-test each-test component-test expression-test is-settled is-awaited handle-for sum-all nodes sum-in step-of step-place step-redex step-case step-subject step-meeting step-call step-exchange when-done place within beside substitute plug function-at result-type future-and-handle coming new-types
 case-K = (refl, refl, refl, refl, refl, refl, refl, refl)
 
 -- case L: a used handle, and a cell, applied to unit
 case-L :
-    (config-reply (of-bay-0 (thread-of (app (name 1) (const unit)) ∷ used ∷ [])) (call 0) ≡ refuses 16) ×
-    (config-reply (of-bay-0 (thread-of (app (name 1) (const unit)) ∷ holds (const unit) ∷ [])) (call 0) ≡ refuses 17)
+    (config-reply common (of-bay-0 (thread-of (app (name 1) (const unit)) ∷ used ∷ [])) (call 0) ≡ refuses 16) ×
+    (config-reply common (of-bay-0 (thread-of (app (name 1) (const unit)) ∷ holds (const unit) ∷ [])) (call 0) ≡ refuses 17)
 unfolding config-steps state-left config-reply reply-of image-test limits-test each-test component-test expression-test is-settled is-awaited handle-for sum-all nodes sum-in step-of step-place step-redex step-case step-subject step-meeting step-call step-exchange when-done place within beside substitute plug function-at result-type future-and-handle coming new-types
 case-L = (refl, refl)
 
@@ -74,6 +75,6 @@ unfolding config-steps state-left config-reply reply-of image-test limits-test e
 broken-images = refl
 
 -- 13 comes before 14, and 12 before 13
-broken-replies : (config-reply (of-bay-0 (awaited ∷ [])) (call 0) ≡ refuses 13) × (config-reply (of-bay-0 (awaited ∷ [])) (record { thread = 0; buffer = 0 }) ≡ refuses 12)
+broken-replies : (config-reply common (of-bay-0 (awaited ∷ [])) (call 0) ≡ refuses 13) × (config-reply common (of-bay-0 (awaited ∷ [])) (record { thread = 0; buffer = 0 }) ≡ refuses 12)
 unfolding config-steps state-left config-reply reply-of image-test limits-test each-test component-test expression-test is-settled is-awaited handle-for sum-all nodes sum-in step-of step-place step-redex step-case step-subject step-meeting step-call step-exchange when-done place within beside substitute plug function-at result-type future-and-handle coming new-types
 broken-replies = (refl, refl)

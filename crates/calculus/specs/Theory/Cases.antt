@@ -17,6 +17,7 @@ use Rattle.calculus.specs.Step.{beside, place, when-done, step-call, ste
 use Rattle.calculus.specs.NewTypes.{function-at, result-type, future-and-handle, coming, new-types}
 use Rattle.calculus.specs.Limits.{max-image-length}
 use Rattle.calculus.specs.State.{State}
+use Rattle.calculus.specs.Profile.{common}
 use Rattle.calculus.specs.Reply.{Reply, moved, waits, finished, refuses, reply-of}
 use Rattle.calculus.specs.Theory.ConfigRuns.{ConfigCall, config-reply, state-left, state-after, ConfigStep, config-steps, config-replied, ConfigBinds, ConfigDemand}
 use Rattle.calculus.specs.Recipe.{loaded, with-type, bay-types, start, Admitted}
@@ -78,12 +79,12 @@ answer-number finished = 0
 answer-number (refuses k) = k
 
 abbrev pub answered : ConfigStep → ℕ
-answered n = answer-number (config-replied n)
+answered n = answer-number (config-replied common n)
 
 -- what a run leaves
 unfoldable pub end : TypeNumbers → State → List ConfigCall → State
 end τ s [] = s
-end τ s (a ∷ rest) = end τ (state-after τ s a) rest
+end τ s (a ∷ rest) = end τ (state-after common τ s a) rest
 
 -- a refused recipe is not loaded
 abbrev pub if-accepted : {A : Type 0} → ℕ → List A → List A
@@ -101,7 +102,7 @@ computed r = record {
   verdict-is = verdict (r .table) (r .terms);
   type-numbers = if-accepted (verdict (r .table) (r .terms)) (map (λ e. type-number (r .table) [] e) (r .terms));
   threads = r .threads;
-  rules = map answered (config-steps (type-at (r .table)) (start (r .table) (zeros (r .terms)) (r .terms)) (map call (r .threads)));
+  rules = map answered (config-steps common (type-at (r .table)) (start (r .table) (zeros (r .terms)) (r .terms)) (map call (r .threads)));
   last = if-accepted (verdict (r .table) (r .terms)) (end (type-at (r .table)) (start (r .table) (zeros (r .terms)) (r .terms)) (map call (r .threads)) .owned .config);
 }
 
@@ -151,7 +152,7 @@ unfolding verdict every scoped scoped-const annotated annotated-const on-functio
 lowest = (refl, refl, refl, refl)
 
 -- case C among steps that answer something else: done, 14, 12
-case-C-answers : map answered (config-steps (type-at T7) (start T7 (0 ∷ []) (term-C ∷ [])) (call 1 ∷ call 0 ∷ call 1 ∷ record { thread = 1; buffer = 13825 } ∷ call 1 ∷ call 3 ∷ call 1 ∷ call 1 ∷ [])) ≡
+case-C-answers : map answered (config-steps common (type-at T7) (start T7 (0 ∷ []) (term-C ∷ [])) (call 1 ∷ call 0 ∷ call 1 ∷ record { thread = 1; buffer = 13825 } ∷ call 1 ∷ call 3 ∷ call 1 ∷ call 1 ∷ [])) ≡
     4 ∷ 14 ∷ 1 ∷ 12 ∷ 1 ∷ 14 ∷ 5 ∷ 0 ∷ []
 unfolding type-number const-number applied-number lambda-number both-number case-number with-components on-function test-entry result-number on-number loaded with-type bay-types config-steps state-left config-reply reply-of image-test limits-test each-test component-test expression-test is-settled is-awaited handle-for sum-all nodes sum-in step-of step-place step-redex step-case step-subject step-meeting step-call step-exchange when-done place within beside substitute plug function-at result-type future-and-handle coming new-types type-at read-deep read-at read-entry one-part two-parts
 case-C-answers = refl
@@ -162,7 +163,7 @@ unfolding end type-number const-number applied-number lambda-number both-number 
 case-C-names = refl
 
 -- the last of the four applies handle 3 and binds future 2
-case-C-binds : (n : ConfigStep) × (at (config-steps (type-at T7) (start T7 (0 ∷ []) (term-C ∷ [])) (replicate 4 (call 1))) 3 ≡ some n) × ConfigBinds n 2
+case-C-binds : (n : ConfigStep) × (at (config-steps common (type-at T7) (start T7 (0 ∷ []) (term-C ∷ [])) (replicate 4 (call 1))) 3 ≡ some n) × ConfigBinds common n 2
 unfolding type-number const-number applied-number lambda-number both-number case-number with-components on-function test-entry result-number on-number loaded with-type bay-types config-steps state-left config-reply reply-of image-test limits-test each-test component-test expression-test is-settled is-awaited handle-for sum-all nodes sum-in step-of step-place step-redex step-case step-subject step-meeting step-call step-exchange when-done place within beside substitute plug function-at result-type future-and-handle coming new-types type-at read-deep read-at read-entry one-part two-parts
 case-C-binds = (_, refl, (3, (_, refl, refl), refl))
 
@@ -187,5 +188,5 @@ case-C-admitted = record {
         (each-app (each-const (omega arith)) (each-lam (omega arith) (each-lam (omega arith) (each-app (each-var (omega arith)) (each-var (omega arith))))))
     written (suc i) e h = absurd (clash (cc))
 
-case-C-demand : (run : List ConfigCall) → ConfigDemand (type-at T7) (start T7 (0 ∷ []) (term-C ∷ [])) run
-case-C-demand = demand case-C-admitted
+case-C-demand : (run : List ConfigCall) → ConfigDemand common (type-at T7) (start T7 (0 ∷ []) (term-C ∷ [])) run
+case-C-demand = demand case-C-admitted common

@@ -7,6 +7,7 @@ use lib.ListN.{length}
 use Rattle.calculus.specs.Types.{many, LinType, multiplicity}
 use Rattle.calculus.specs.Syntax.{Exp, at}
 use Rattle.calculus.specs.Typing.{NameTypes, Derivation}
+use Rattle.calculus.specs.Profile.{Profile}
 use Rattle.calculus.specs.Theory.ConfigRuns.{ConfigCall, state-after, ConfigStep, config-steps, ConfigDemand}
 use Rattle.calculus.specs.Table.{Table, TableRule, type-at}
 use Rattle.calculus.specs.Verdict.{type-number, verdict}
@@ -29,16 +30,17 @@ bays-typed {T} R es accepted = found-typed T es λ i e h.
     let (α, q, d, m) = accepted-iff R (length es) e n .0 a in
     (n, α, a .no-cause-9, q, d, m)
 
-module _ {T : Table} {ns : List ℕ} {es : List Exp} (a : Admitted T ns es) (run : List ConfigCall) where
-  -- the third demand
-  pub demand : ConfigDemand (type-at T) (start T ns es) run
-  demand = recipe-demand (bays-typed (a .table) es (a .accepted)) (a .starts) (a .written) (a .bays) (a .size) run
-
+module _ {T : Table} {ns : List ℕ} {es : List Exp} (a : Admitted T ns es) where
   -- every image, that loaded and those that steps are handed and leave, breaks no rule and no limit, the node forms can write its indices, type
   -- numbers and nums, and its owners are bays of the recipe
   pub image-loaded : Kept (length es) (start T ns es .owned)
-  image-loaded = recipe-loaded (bays-typed (a .table) es (a .accepted)) (a .starts) (a .written) (a .bays) (a .size) run
+  image-loaded = recipe-loaded (bays-typed (a .table) es (a .accepted)) (a .starts) (a .written) (a .bays) (a .size)
 
-  pub images : (i : ℕ) (n : ConfigStep) → at (config-steps (type-at T) (start T ns es) run) i ≡ some n →
-      Kept (length es) (n .before .owned) × Kept (length es) (state-after (type-at T) (n .before) (n .call) .owned)
-  images = recipe-images (bays-typed (a .table) es (a .accepted)) (a .starts) (a .written) (a .bays) (a .size) run
+  module _ (profile : Profile) (run : List ConfigCall) where
+    pub images : (i : ℕ) (n : ConfigStep) → at (config-steps profile (type-at T) (start T ns es) run) i ≡ some n →
+        Kept (length es) (n .before .owned) × Kept (length es) (state-after profile (type-at T) (n .before) (n .call) .owned)
+    images = recipe-images (bays-typed (a .table) es (a .accepted)) (a .starts) (a .written) (a .bays) (a .size) profile run
+
+    -- the third demand
+    pub demand : ConfigDemand profile (type-at T) (start T ns es) run
+    demand = recipe-demand (bays-typed (a .table) es (a .accepted)) (a .starts) (a .written) (a .bays) (a .size) profile run

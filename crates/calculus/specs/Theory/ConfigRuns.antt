@@ -11,7 +11,8 @@ use Rattle.calculus.specs.Owners.{Owned, grown}
 use Rattle.calculus.specs.Typing.{TypeNumbers}
 use Rattle.calculus.specs.NewTypes.{function-at, new-types}
 use Rattle.calculus.specs.Limits.{max-image-length}
-use Rattle.calculus.specs.Image.{image-test, within-limits}
+use Rattle.calculus.specs.Image.{image-test}
+use Rattle.calculus.specs.Profile.{Profile}
 use Rattle.calculus.specs.State.{State, ValuesTyped}
 use Rattle.calculus.specs.Reply.{Reply, moved, waits, finished, refuses, reply-to}
 
@@ -21,8 +22,8 @@ pub record ConfigCall : Type 0 where
   pub buffer : ℕ
 
 -- document 01, "The lowest number that fits wins": 12, 13, then the others
-unfoldable pub config-reply : Owned → ConfigCall → Reply
-config-reply I a = cond (ltb (a .buffer) max-image-length) (refuses 12) (cond (image-test (I .config)) (reply-to within-limits I (a .thread)) (refuses 13))
+unfoldable pub config-reply : Profile → Owned → ConfigCall → Reply
+config-reply p I a = cond (ltb (a .buffer) max-image-length) (refuses 12) (cond (image-test (I .config)) (reply-to p I (a .thread)) (refuses 13))
 
 -- document 01, "the new image if that answered a rule, else the same image again". New names have their types.
 abbrev pub state-with : TypeNumbers → State → ℕ → Owned → State
@@ -37,29 +38,29 @@ state-left τ s x (waits y) = s
 state-left τ s x finished = s
 state-left τ s x (refuses k) = s
 
-abbrev pub state-after : TypeNumbers → State → ConfigCall → State
-state-after τ s a = state-left τ s (a .thread) (config-reply (s .owned) a)
+abbrev pub state-after : Profile → TypeNumbers → State → ConfigCall → State
+state-after p τ s a = state-left τ s (a .thread) (config-reply p (s .owned) a)
 
 -- document 01, "Each later one is handed what the step before it left": the steps of a run, each with the state handed to it
 pub record ConfigStep : Type 0 where
   pub before : State
   pub call : ConfigCall
 
-unfoldable pub config-steps : TypeNumbers → State → List ConfigCall → List ConfigStep
-config-steps τ s [] = []
-config-steps τ s (a ∷ rest) = record { before = s; call = a } ∷ config-steps τ (state-after τ s a) rest
+unfoldable pub config-steps : Profile → TypeNumbers → State → List ConfigCall → List ConfigStep
+config-steps p τ s [] = []
+config-steps p τ s (a ∷ rest) = record { before = s; call = a } ∷ config-steps p τ (state-after p τ s a) rest
 
 -- what a step of a run answers
-abbrev pub config-replied : ConfigStep → Reply
-config-replied n = config-reply (n .before .owned) (n .call)
+abbrev pub config-replied : Profile → ConfigStep → Reply
+config-replied p n = config-reply p (n .before .owned) (n .call)
 
 -- document 01, "A step that answers rule 5 applies the handle whose name is the function at its place"
-abbrev pub ConfigApplies : ConfigStep → ℕ → Type 0
-ConfigApplies n z = (I′ : Owned) × (config-replied n ≡ moved 5 I′) × (function-at (n .before .owned .config) (n .call .thread) ≡ some (name z))
+abbrev pub ConfigApplies : Profile → ConfigStep → ℕ → Type 0
+ConfigApplies p n z = (I′ : Owned) × (config-replied p n ≡ moved 5 I′) × (function-at (n .before .owned .config) (n .call .thread) ≡ some (name z))
 
 -- document 01, "and binds the future that is this handle's companion in the image handed in"
-abbrev pub ConfigBinds : ConfigStep → ℕ → Type 0
-ConfigBinds n y = (z : ℕ) × ConfigApplies n z × (at (n .before .owned .config) z ≡ some (open-for y))
+abbrev pub ConfigBinds : Profile → ConfigStep → ℕ → Type 0
+ConfigBinds p n y = (z : ℕ) × ConfigApplies p n z × (at (n .before .owned .config) z ≡ some (open-for y))
 
 -- document 01, "its number is .. [a] thread of the image handed in"
 abbrev pub ConfigIsThread : ConfigStep → Type 0
@@ -73,20 +74,20 @@ ReplyGoes finished = Unit {0}
 ReplyGoes (refuses k) = k ≡ 15
 
 -- document 01, the third demand: "For every run: ..", for a run from state s
-pub record ConfigDemand (τ : TypeNumbers) (s : State) (run : List ConfigCall) : Type 0 where
+pub record ConfigDemand (p : Profile) (τ : TypeNumbers) (s : State) (run : List ConfigCall) : Type 0 where
   -- "no handle is applied in two of its steps"
-  pub one-application : (z i j : ℕ) (m n : ConfigStep) → at (config-steps τ s run) i ≡ some m → at (config-steps τ s run) j ≡ some n → ConfigApplies m z → ConfigApplies n z → i ≡ j
+  pub one-application : (z i j : ℕ) (m n : ConfigStep) → at (config-steps p τ s run) i ≡ some m → at (config-steps p τ s run) j ≡ some n → ConfigApplies p m z → ConfigApplies p n z → i ≡ j
   -- "and no future is bound in two"
-  pub one-binding : (y i j : ℕ) (m n : ConfigStep) → at (config-steps τ s run) i ≡ some m → at (config-steps τ s run) j ≡ some n → ConfigBinds m y → ConfigBinds n y → i ≡ j
+  pub one-binding : (y i j : ℕ) (m n : ConfigStep) → at (config-steps p τ s run) i ≡ some m → at (config-steps p τ s run) j ≡ some n → ConfigBinds p m y → ConfigBinds p n y → i ≡ j
   -- "no step answers 13, 16 or 17"
-  pub no-13-16-17 : (i : ℕ) (n : ConfigStep) → at (config-steps τ s run) i ≡ some n →
-      (¬ (config-replied n ≡ refuses 13)) × (¬ (config-replied n ≡ refuses 16)) × (¬ (config-replied n ≡ refuses 17))
+  pub no-13-16-17 : (i : ℕ) (n : ConfigStep) → at (config-steps p τ s run) i ≡ some n →
+      (¬ (config-replied p n ≡ refuses 13)) × (¬ (config-replied p n ≡ refuses 16)) × (¬ (config-replied p n ≡ refuses 17))
   -- "a step answers 12 exactly when its out buffer is under 13,826 bytes"
-  pub twelve : (i : ℕ) (n : ConfigStep) → at (config-steps τ s run) i ≡ some n → (config-replied n ≡ refuses 12) ↔ (n .call .buffer < max-image-length)
+  pub twelve : (i : ℕ) (n : ConfigStep) → at (config-steps p τ s run) i ≡ some n → (config-replied p n ≡ refuses 12) ↔ (n .call .buffer < max-image-length)
   -- "otherwise 14 exactly when its number is no thread of the image handed in"
-  pub fourteen : (i : ℕ) (n : ConfigStep) → at (config-steps τ s run) i ≡ some n → ¬ (n .call .buffer < max-image-length) → (config-replied n ≡ refuses 14) ↔ (¬ ConfigIsThread n)
+  pub fourteen : (i : ℕ) (n : ConfigStep) → at (config-steps p τ s run) i ≡ some n → ¬ (n .call .buffer < max-image-length) → (config-replied p n ≡ refuses 14) ↔ (¬ ConfigIsThread n)
   -- "and otherwise a rule, done, waiting or 15"
-  pub otherwise : (i : ℕ) (n : ConfigStep) → at (config-steps τ s run) i ≡ some n → ¬ (n .call .buffer < max-image-length) → ConfigIsThread n → ReplyGoes (config-replied n)
+  pub otherwise : (i : ℕ) (n : ConfigStep) → at (config-steps p τ s run) i ≡ some n → ¬ (n .call .buffer < max-image-length) → ConfigIsThread n → ReplyGoes (config-replied p n)
   -- "after the load and after every step each cell and finished thread has a value of its type"
   pub typed-loaded : ValuesTyped τ s
-  pub typed-after : (i : ℕ) (n : ConfigStep) → at (config-steps τ s run) i ≡ some n → ValuesTyped τ (state-after τ (n .before) (n .call))
+  pub typed-after : (i : ℕ) (n : ConfigStep) → at (config-steps p τ s run) i ≡ some n → ValuesTyped τ (state-after p τ (n .before) (n .call))

@@ -11,7 +11,8 @@ use Rattle.calculus.specs.Syntax.{Const, unit, num, op, Exp, var, name, 
 use Rattle.calculus.specs.Typing.{TypeNumbers, of-op, fig10-list, split-nil, Derivation, d-const, d-name, d-app, d-both}
 use Rattle.calculus.specs.Reduction.{Rule, Reduces}
 use Rattle.calculus.specs.Names.{OnceName}
-use Rattle.calculus.specs.Owners.{Owned, OwnersRule}
+use Rattle.calculus.specs.Owners.{Owned, grown, OwnersRule}
+use Rattle.calculus.specs.Profile.{Profile, HasRoom}
 use Rattle.calculus.specs.State.{State}
 use Rattle.calculus.specs.Theory.ConfigRuns.{ConfigCall, state-grown, state-after, ConfigStep, config-steps}
 use Rattle.calculus.specs.Limits.{max-image-length}
@@ -21,6 +22,7 @@ use Rattle.calculus.specs.Theory.Lists.{at-bound, at-below}
 use Rattle.calculus.specs.Theory.Expressions.{derivation-closed}
 use Rattle.calculus.specs.Theory.Sound.{Fits, Sound, absent-of}
 use Rattle.calculus.specs.Theory.Owners.{more-bays, owners-kept}
+use Rattle.calculus.specs.Theory.Shares.{room-limits}
 use Rattle.calculus.specs.Theory.Replies.{after-keeps, run-keeps}
 use Rattle.calculus.specs.Theory.Runs.{SoundState}
 use Rattle.calculus.specs.Theory.Each.{each-step}
@@ -125,12 +127,12 @@ good-image (d, a, w, o) = record { keeps = sound-image d w; writable = a; owns =
 futures-there : {τ : TypeNumbers} {S : List LinType} {C : Config} → Sound τ S C → WithinLimits C → (z y : ℕ) → at C z ≡ some (open-for y) → y < length C
 futures-there {C = C} d w z y h = at-bound C y (sound-image d w .companions z y h)
 
-good-kept : (b : ℕ) (τ : TypeNumbers) (s : State) → Good b τ s → (x : ℕ) (r : Rule) (C′ : Config) → Reduces (s .owned .config) x r C′ → WithinLimits C′ → Good b τ (state-grown τ s x C′)
-good-kept b τ s (sound, each, within, owns) x r C′ d w = (preservation sound d, each-step Writable tt each d, w, owners-kept owns (futures-there sound within) d)
+pub good-kept : (profile : Profile) (b : ℕ) (τ : TypeNumbers) (s : State) → Good b τ s → (x : ℕ) (r : Rule) (C′ : Config) → Reduces (s .owned .config) x r C′ → HasRoom profile (s .owned) (grown (s .owned) x C′) → Good b τ (state-grown τ s x C′)
+good-kept profile b τ s (sound, each, within, owns) x r C′ d w = (preservation sound d, each-step Writable tt each d, room-limits profile (s .owned) (grown (s .owned) x C′) w, owners-kept owns (futures-there sound within) d)
 
 -- every step of a run is handed an image that keeps its rules, which can be written, and leaves one
-pub run-images : (b : ℕ) (τ : TypeNumbers) (s : State) → Good b τ s → (run : List ConfigCall) (i : ℕ) (n : ConfigStep) → at (config-steps τ s run) i ≡ some n →
-    Kept b (n .before .owned) × Kept b (state-after τ (n .before) (n .call) .owned)
-run-images b τ s g run i n h =
-    let p = run-keeps τ (Good b τ) (good-kept b τ) s g run i n h in
-    (good-image p, good-image (after-keeps τ (Good b τ) (good-kept b τ) (n .before) p (n .call)))
+pub run-images : (profile : Profile) (b : ℕ) (τ : TypeNumbers) (s : State) → Good b τ s → (run : List ConfigCall) (i : ℕ) (n : ConfigStep) → at (config-steps profile τ s run) i ≡ some n →
+    Kept b (n .before .owned) × Kept b (state-after profile τ (n .before) (n .call) .owned)
+run-images profile b τ s g run i n h =
+    let p = run-keeps profile τ (Good b τ) (good-kept profile b τ) s g run i n h in
+    (good-image p, good-image (after-keeps profile τ (Good b τ) (good-kept profile b τ) (n .before) p (n .call)))

@@ -9,6 +9,7 @@ use Rattle.calculus.specs.Reduction.{substitute, plug, BETA, FUTURE-DERE
 use Rattle.calculus.specs.Names.{uses}
 use Rattle.calculus.specs.Step.{beside, place, rule, when-done, step-call, step-exchange, step-meeting, step-place, step-of, within, step-subject, step-case, step-redex}
 use Rattle.calculus.specs.NewTypes.{function-at, result-type, future-and-handle, coming, new-types}
+use Rattle.calculus.specs.Profile.{common}
 use Rattle.calculus.specs.Reply.{reply-of}
 use Rattle.calculus.specs.Theory.ConfigRuns.{config-reply, state-left, config-steps}
 use Rattle.calculus.specs.Recipe.{loaded}
@@ -46,8 +47,8 @@ unfolding verdict every scoped scoped-const annotated annotated-const on-functio
 both-refused = (refl, refl)
 
 both-go-wrong : (τ : TypeNumbers) →
-    (map answered (config-steps τ (loaded (0 ∷ []) (runs-twice ∷ []) (unit-type ∷ [])) (replicate 9 (call 1))) ≡ 4 ∷ 1 ∷ 1 ∷ 1 ∷ 1 ∷ 5 ∷ 1 ∷ 1 ∷ 16 ∷ []) ×
-    (map answered (config-steps τ (loaded (0 ∷ []) (used-twice ∷ []) (unit-type ∷ [])) (replicate 6 (call 1))) ≡ 4 ∷ 1 ∷ 1 ∷ 5 ∷ 1 ∷ 16 ∷ [])
+    (map answered (config-steps common τ (loaded (0 ∷ []) (runs-twice ∷ []) (unit-type ∷ [])) (replicate 9 (call 1))) ≡ 4 ∷ 1 ∷ 1 ∷ 1 ∷ 1 ∷ 5 ∷ 1 ∷ 1 ∷ 16 ∷ []) ×
+    (map answered (config-steps common τ (loaded (0 ∷ []) (used-twice ∷ []) (unit-type ∷ [])) (replicate 6 (call 1))) ≡ 4 ∷ 1 ∷ 1 ∷ 5 ∷ 1 ∷ 16 ∷ [])
 unfolding loaded config-steps state-left config-reply reply-of image-test limits-test each-test component-test expression-test is-settled is-awaited handle-for sum-all nodes sum-in step-of step-place step-redex step-case step-subject step-meeting step-call step-exchange when-done place within beside substitute plug function-at result-type future-and-handle coming new-types
 both-go-wrong τ = (refl, refl)
 

@@ -12,6 +12,7 @@ use Rattle.calculus.specs.Syntax.{num, Exp, is-const, Component, thread-
 use Rattle.calculus.specs.Typing.{TypeNumbers, NameTypes, of-num, no-once-nil, Derivation, d-const}
 use Rattle.calculus.specs.Names.{OnceName}
 use Rattle.calculus.specs.Owners.{OwnersRule}
+use Rattle.calculus.specs.Profile.{Profile}
 use Rattle.calculus.specs.Theory.ConfigRuns.{ConfigCall, state-after, ConfigStep, config-steps, ConfigDemand}
 use Rattle.calculus.specs.Recipe.{setting-types, setting-with, loaded, Starts}
 use Rattle.calculus.specs.Limits.{max-bays, max-recipe-nodes}
@@ -155,17 +156,17 @@ module _ {τ : TypeNumbers} {ns : List ℕ} {es : List Exp} {αs : List LinType}
 
   -- document 01's third demand, of terms that can be written and are not too many; and every step is handed an image that breaks no rule and that can
   -- be written
-  module _ (written : (i : ℕ) (e : Exp) → at es i ≡ some e → Each Writable e) (bays : length es ≤ max-bays) (size : nodes-all (map thread-of es) ≤ max-recipe-nodes)
-      (run : List ConfigCall) where
-    start-good : Good (length es) τ (loaded ns es αs)
+  module _ (written : (i : ℕ) (e : Exp) → at es i ≡ some e → Each Writable e) (bays : length es ≤ max-bays) (size : nodes-all (map thread-of es) ≤ max-recipe-nodes) where
+    pub start-good : Good (length es) τ (loaded ns es αs)
     start-good = (start-sound, start-each Writable ns (starts .two-byte) es αs written, start-within ns es αs (starts .one-each) bays size, start-owners)
 
     pub recipe-loaded : Kept (length es) (loaded ns es αs .owned)
     recipe-loaded = good-image start-good
 
-    pub recipe-images : (i : ℕ) (n : ConfigStep) → at (config-steps τ (loaded ns es αs) run) i ≡ some n →
-        Kept (length es) (n .before .owned) × Kept (length es) (state-after τ (n .before) (n .call) .owned)
-    recipe-images = run-images (length es) τ (loaded ns es αs) start-good run
+    module _ (profile : Profile) (run : List ConfigCall) where
+      pub recipe-images : (i : ℕ) (n : ConfigStep) → at (config-steps profile τ (loaded ns es αs) run) i ≡ some n →
+          Kept (length es) (n .before .owned) × Kept (length es) (state-after profile τ (n .before) (n .call) .owned)
+      recipe-images = run-images profile (length es) τ (loaded ns es αs) start-good run
 
-    pub recipe-demand : ConfigDemand τ (loaded ns es αs) run
-    recipe-demand = run-demand (loaded ns es αs) start-sound run (λ i n h. recipe-images i n h .0 .keeps)
+      pub recipe-demand : ConfigDemand profile τ (loaded ns es αs) run
+      recipe-demand = run-demand profile (loaded ns es αs) start-sound run (λ i n h. recipe-images i n h .0 .keeps)

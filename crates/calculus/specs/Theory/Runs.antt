@@ -15,7 +15,9 @@ use Rattle.calculus.specs.Reduction.{plug, Rule, number, Reduces, beta, 
 use Rattle.calculus.specs.Names.{count, Outside, OnceNamesOnce}
 use Rattle.calculus.specs.Step.{step-of, application}
 use Rattle.calculus.specs.NewTypes.{function-at}
-use Rattle.calculus.specs.Image.{WithinLimits, ImageRule}
+use Rattle.calculus.specs.Image.{ImageRule}
+use Rattle.calculus.specs.Owners.{grown}
+use Rattle.calculus.specs.Profile.{Profile, HasRoom}
 use Rattle.calculus.specs.State.{State, ValuesTyped}
 use Rattle.calculus.specs.Theory.ConfigRuns.{ConfigCall, state-grown, state-left, state-after, ConfigStep, config-steps, ConfigApplies, ConfigBinds, ConfigDemand}
 use Rattle.calculus.specs.Theory.Tests.{clash}
@@ -120,39 +122,39 @@ later {C = C} {x = x} s (cell-exch F t y v w wv h g) = later-trans (later-thread
 later {C = C} {x = x} s (case-both F s′ t v₁ v₂ e w₁ w₂ h) = later-thread C x _ _ h
 
 -- every state of a run is sound, and later than the first
-module _ {τ : TypeNumbers} (s : State) (d : SoundState τ s) where
+module _ (profile : Profile) {τ : TypeNumbers} (s : State) (d : SoundState τ s) where
   SoundLater : State → Type 0
   SoundLater u = SoundState τ u × Later (s .owned .config) (u .owned .config)
 
-  kept : (u : State) → SoundLater u → (x : ℕ) (r : Rule) (C′ : Config) → Reduces (u .owned .config) x r C′ → WithinLimits C′ → SoundLater (state-grown τ u x C′)
+  kept : (u : State) → SoundLater u → (x : ℕ) (r : Rule) (C′ : Config) → Reduces (u .owned .config) x r C′ → HasRoom profile (u .owned) (grown (u .owned) x C′) → SoundLater (state-grown τ u x C′)
   unfolding SoundLater
   kept u p x r C′ q w = (preservation (p .0) q, later-trans (p .1) (later (p .0) q))
 
-  after-sound-later : (a : ConfigCall) → SoundState τ (state-after τ s a) × Later (s .owned .config) (state-after τ s a .owned .config)
+  after-sound-later : (a : ConfigCall) → SoundState τ (state-after profile τ s a) × Later (s .owned .config) (state-after profile τ s a .owned .config)
   unfolding SoundLater
-  after-sound-later a = after-keeps τ SoundLater kept s (d, later-same) a
+  after-sound-later a = after-keeps profile τ SoundLater kept s (d, later-same) a
 
-  sound-later : (run : List ConfigCall) (i : ℕ) (n : ConfigStep) → at (config-steps τ s run) i ≡ some n → SoundState τ (n .before) × Later (s .owned .config) (n .before .owned .config)
+  sound-later : (run : List ConfigCall) (i : ℕ) (n : ConfigStep) → at (config-steps profile τ s run) i ≡ some n → SoundState τ (n .before) × Later (s .owned .config) (n .before .owned .config)
   unfolding SoundLater
-  sound-later run i n h = run-keeps τ SoundLater kept s (d, later-same) run i n h
+  sound-later run i n h = run-keeps profile τ SoundLater kept s (d, later-same) run i n h
 
-pub step-sound-state : (τ : TypeNumbers) (s : State) → SoundState τ s → (run : List ConfigCall) (i : ℕ) (n : ConfigStep) → at (config-steps τ s run) i ≡ some n → SoundState τ (n .before)
-step-sound-state τ s d run i n h = sound-later s d run i n h .0
+pub step-sound-state : (profile : Profile) (τ : TypeNumbers) (s : State) → SoundState τ s → (run : List ConfigCall) (i : ℕ) (n : ConfigStep) → at (config-steps profile τ s run) i ≡ some n → SoundState τ (n .before)
+step-sound-state profile τ s d run i n h = sound-later profile s d run i n h .0
 
-after-sound : {τ : TypeNumbers} (s : State) → SoundState τ s → (a : ConfigCall) → SoundState τ (state-after τ s a)
-after-sound s d a = after-sound-later s d a .0
+after-sound : (profile : Profile) {τ : TypeNumbers} (s : State) → SoundState τ s → (a : ConfigCall) → SoundState τ (state-after profile τ s a)
+after-sound profile s d a = after-sound-later profile s d a .0
 
 -- of two, the second is handed something later than the first leaves
-steps-later : (τ : TypeNumbers) (s : State) → SoundState τ s → (run : List ConfigCall) (i j : ℕ) (m n : ConfigStep) → i < j →
-    at (config-steps τ s run) i ≡ some m → at (config-steps τ s run) j ≡ some n → Later (state-after τ (m .before) (m .call) .owned .config) (n .before .owned .config)
+steps-later : (profile : Profile) (τ : TypeNumbers) (s : State) → SoundState τ s → (run : List ConfigCall) (i j : ℕ) (m n : ConfigStep) → i < j →
+    at (config-steps profile τ s run) i ≡ some m → at (config-steps profile τ s run) j ≡ some n → Later (state-after profile τ (m .before) (m .call) .owned .config) (n .before .owned .config)
 unfolding config-steps
-steps-later τ s d [] i j m n l p q = absurd (clash (cc))
-steps-later τ s d (a ∷ run) i zero m n l p q = absurd (omega arith)
-steps-later τ s d (a ∷ run) zero (suc j) m n l p q =
+steps-later profile τ s d [] i j m n l p q = absurd (clash (cc))
+steps-later profile τ s d (a ∷ run) i zero m n l p q = absurd (omega arith)
+steps-later profile τ s d (a ∷ run) zero (suc j) m n l p q =
     let e : record { before = s; call = a } ≡ m = cc in
-    subst (λ (b : ConfigStep). Later (state-after τ (b .before) (b .call) .owned .config) (n .before .owned .config)) e
-    (sound-later (state-after τ s a) (after-sound s d a) run j n q .1)
-steps-later τ s d (a ∷ run) (suc i) (suc j) m n l p q = steps-later τ (state-after τ s a) (after-sound s d a) run i j m n (omega arith) p q
+    subst (λ (b : ConfigStep). Later (state-after profile τ (b .before) (b .call) .owned .config) (n .before .owned .config)) e
+    (sound-later profile (state-after profile τ s a) (after-sound profile s d a) run j n q .1)
+steps-later profile τ s d (a ∷ run) (suc i) (suc j) m n l p q = steps-later profile τ (state-after profile τ s a) (after-sound profile s d a) run i j m n (omega arith) p q
 
 -- a step by rule 5 uses up the handle at its place, and makes its future a thread
 binding : {τ : TypeNumbers} {S : List LinType} {C C′ : Config} {x : ℕ} {r : Rule} → Sound τ S C → Reduces C x r C′ → number r ≡ 5 →
@@ -170,46 +172,46 @@ binding s (cell-exch F t y v w wv h g) r = absurd (omega arith)
 binding s (case-both F pair t v₁ v₂ e w₁ w₂ h) r = absurd (omega arith)
 binding s (case-both F list t v₁ v₂ e w₁ w₂ h) r = absurd (omega arith)
 
-applied-uses-up : (τ : TypeNumbers) (n : ConfigStep) → SoundState τ (n .before) → (z : ℕ) → ConfigApplies n z →
+applied-uses-up : (profile : Profile) (τ : TypeNumbers) (n : ConfigStep) → SoundState τ (n .before) → (z : ℕ) → ConfigApplies profile n z →
     (y : ℕ) × (v : Exp) × (at (n .before .owned .config) z ≡ some (open-for y)) ×
-    (at (state-after τ (n .before) (n .call) .owned .config) z ≡ some used) × (at (state-after τ (n .before) (n .call) .owned .config) y ≡ some (thread-of v))
+    (at (state-after profile τ (n .before) (n .call) .owned .config) z ≡ some used) × (at (state-after profile τ (n .before) (n .call) .owned .config) y ≡ some (thread-of v))
 unfolding state-left
-applied-uses-up τ n d z (I′, e, f) =
-    let (r, k, q, w, g) = moved-means (n .before .owned) (n .call) e in
+applied-uses-up profile τ n d z (I′, e, f) =
+    let (r, k, q, w, g) = moved-means profile (n .before .owned) (n .call) e in
     let b = binding d q k in
     let q : b .0 ≡ z = let f′ = b .3 in cc in
-    let c : state-after τ (n .before) (n .call) .owned .config ≡ I′ .config = rw e in
+    let c : state-after profile τ (n .before) (n .call) .owned .config ≡ I′ .config = rw e in
     (b .1, b .2, rw q at (b .4), rw c (rw q at (b .5)), rw c (b .6))
 
 compare-at : (i j : ℕ) → (i ≡ j) ⊎ ((i < j) ⊎ (j < i))
 compare-at i j = elim (decLt i j) [ yes p ↦ inr (inl p) | no q ↦ elim (decLt j i) [ yes p ↦ inr (inr p) | no r ↦ inl (omega arith) ] ]
 
-module _ {τ : TypeNumbers} (s : State) (d : SoundState τ s) (run : List ConfigCall) where
-  applied-then-not : (z i j : ℕ) (m n : ConfigStep) → at (config-steps τ s run) i ≡ some m → at (config-steps τ s run) j ≡ some n →
-      i < j → ConfigApplies m z → ConfigApplies n z → ⊥
+module _ (profile : Profile) {τ : TypeNumbers} (s : State) (d : SoundState τ s) (run : List ConfigCall) where
+  applied-then-not : (z i j : ℕ) (m n : ConfigStep) → at (config-steps profile τ s run) i ≡ some m → at (config-steps profile τ s run) j ≡ some n →
+      i < j → ConfigApplies profile m z → ConfigApplies profile n z → ⊥
   applied-then-not z i j m n p q l am an =
-      let a = applied-uses-up τ m (step-sound-state τ s d run i m p) z am in
-      let b = applied-uses-up τ n (step-sound-state τ s d run j n q) z an in
-      let u = steps-later τ s d run i j m n l p q .used-stays z (a .3) in
+      let a = applied-uses-up profile τ m (step-sound-state profile τ s d run i m p) z am in
+      let b = applied-uses-up profile τ n (step-sound-state profile τ s d run j n q) z an in
+      let u = steps-later profile τ s d run i j m n l p q .used-stays z (a .3) in
       let o = b .2 in
       clash (cc)
 
-  bound-then-not : (y i j : ℕ) (m n : ConfigStep) → at (config-steps τ s run) i ≡ some m → at (config-steps τ s run) j ≡ some n →
-      i < j → ConfigBinds m y → ConfigBinds n y → ⊥
+  bound-then-not : (y i j : ℕ) (m n : ConfigStep) → at (config-steps profile τ s run) i ≡ some m → at (config-steps profile τ s run) j ≡ some n →
+      i < j → ConfigBinds profile m y → ConfigBinds profile n y → ⊥
   bound-then-not y i j m n p q l bm bn =
-      let a = applied-uses-up τ m (step-sound-state τ s d run i m p) (bm .0) (bm .1) in
+      let a = applied-uses-up profile τ m (step-sound-state profile τ s d run i m p) (bm .0) (bm .1) in
       let e : a .0 ≡ y = let g = bm .2 in let g′ = a .2 in cc in
-      let t = steps-later τ s d run i j m n l p q .thread-stays y (a .1) (rw e at (a .4)) in
+      let t = steps-later profile τ s d run i j m n l p q .thread-stays y (a .1) (rw e at (a .4)) in
       let u = t .1 in
-      let w = step-sound-state τ s d run j n q .fits (bn .0) (open-for y) (bn .2) .4 in
+      let w = step-sound-state profile τ s d run j n q .fits (bn .0) (open-for y) (bn .2) .4 in
       clash (cc)
 
   -- no step meets a used handle or a wrong kind, whatever the contents of cells
-  run-proper : (i : ℕ) (n : ConfigStep) → at (config-steps τ s run) i ≡ some n → Proper (step-of (n .before .owned .config) (n .call .thread))
-  run-proper i n p = progress (step-sound-state τ s d run i n p) (n .call .thread)
+  run-proper : (i : ℕ) (n : ConfigStep) → at (config-steps profile τ s run) i ≡ some n → Proper (step-of (n .before .owned .config) (n .call .thread))
+  run-proper i n p = progress (step-sound-state profile τ s d run i n p) (n .call .thread)
 
   -- the claim about the whole list, where every step is handed an image that keeps its rules
-  pub run-demand : ((i : ℕ) (n : ConfigStep) → at (config-steps τ s run) i ≡ some n → ImageRule (n .before .owned .config)) → ConfigDemand τ s run
+  pub run-demand : ((i : ℕ) (n : ConfigStep) → at (config-steps profile τ s run) i ≡ some n → ImageRule (n .before .owned .config)) → ConfigDemand profile τ s run
   run-demand kept = record {
     one-application = λ z i j m n p q am an. elim (compare-at i j) [
       | inl e ↦ e
@@ -222,15 +224,15 @@ module _ {τ : TypeNumbers} (s : State) (d : SoundState τ s) (run : List Config
       | inr (inr l) ↦ absurd (bound-then-not y j i n m q p l bn bm)
     ];
     no-13-16-17 = λ i n p. (
-      (λ e. none-of 13 (only-causes (n .before .owned) (kept i n p) (n .call) (run-proper i n p) 13 e) (omega arith) (omega arith) (omega arith)),
-      (λ e. none-of 16 (only-causes (n .before .owned) (kept i n p) (n .call) (run-proper i n p) 16 e) (omega arith) (omega arith) (omega arith)),
-      (λ e. none-of 17 (only-causes (n .before .owned) (kept i n p) (n .call) (run-proper i n p) 17 e) (omega arith) (omega arith) (omega arith)),
+      (λ e. none-of 13 (only-causes profile (n .before .owned) (kept i n p) (n .call) (run-proper i n p) 13 e) (omega arith) (omega arith) (omega arith)),
+      (λ e. none-of 16 (only-causes profile (n .before .owned) (kept i n p) (n .call) (run-proper i n p) 16 e) (omega arith) (omega arith) (omega arith)),
+      (λ e. none-of 17 (only-causes profile (n .before .owned) (kept i n p) (n .call) (run-proper i n p) 17 e) (omega arith) (omega arith) (omega arith)),
     );
-    twelve = λ i n p. twelve-iff (n .before .owned) (kept i n p) (n .call) (run-proper i n p);
-    fourteen = λ i n p. fourteen-iff (n .before .owned) (kept i n p) (n .call) (run-proper i n p);
-    otherwise = λ i n p. goes (n .before .owned) (kept i n p) (n .call) (run-proper i n p);
+    twelve = λ i n p. twelve-iff profile (n .before .owned) (kept i n p) (n .call) (run-proper i n p);
+    fourteen = λ i n p. fourteen-iff profile (n .before .owned) (kept i n p) (n .call) (run-proper i n p);
+    otherwise = λ i n p. goes profile (n .before .owned) (kept i n p) (n .call) (run-proper i n p);
     typed-loaded = sound-typed d;
-    typed-after = λ i n p. sound-typed (after-sound (n .before) (step-sound-state τ s d run i n p) (n .call));
+    typed-after = λ i n p. sound-typed (after-sound profile (n .before) (step-sound-state profile τ s d run i n p) (n .call));
   }
     where
       none-of : (k : ℕ) → (k ≡ 12) ⊎ ((k ≡ 14) ⊎ (k ≡ 15)) → ¬ (k ≡ 12) → ¬ (k ≡ 14) → ¬ (k ≡ 15) → ⊥

@@ -8,7 +8,8 @@ use lib.ListN.{length}
 use Rattle.calculus.specs.Bytes.{Bytes}
 use Rattle.calculus.specs.Typing.{TypeNumbers}
 use Rattle.calculus.specs.Limits.{max-bays, max-image-length}
-use Rattle.calculus.specs.Image.{ImageRule, within-limits}
+use Rattle.calculus.specs.Image.{ImageRule}
+use Rattle.calculus.specs.Profile.{Profile}
 use Rattle.calculus.specs.State.{State}
 use Rattle.calculus.specs.Reply.{refuses, reply-to}
 use Rattle.calculus.specs.Causes.{image-cause, used-handle-cause, wrong-kind-cause}
@@ -31,34 +32,34 @@ use Rattle.runs.specs.Theory.Simulates.{AllKept, kept-first, kept-after}
 use Rattle.demands.specs.Theory.Third.{all-kept}
 
 -- a state that a run comes to: every run from it is of images that keep their rules, and meets the third demand
-pub record Reached (τ : TypeNumbers) (s : State) : Type 0 where
-  pub kept : AllKept τ s
-  pub claim : (run : List ConfigCall) → ConfigDemand τ s run
+pub record Reached (p : Profile) (τ : TypeNumbers) (s : State) : Type 0 where
+  pub kept : AllKept p τ s
+  pub claim : (run : List ConfigCall) → ConfigDemand p τ s run
 
 -- the claim about a run, from its second step on
-demand-after : {τ : TypeNumbers} {s : State} {a : ConfigCall} {run : List ConfigCall} → ConfigDemand τ s (a ∷ run) → ConfigDemand τ (state-after τ s a) run
+demand-after : {p : Profile} {τ : TypeNumbers} {s : State} {a : ConfigCall} {run : List ConfigCall} → ConfigDemand p τ s (a ∷ run) → ConfigDemand p τ (state-after p τ s a) run
 unfolding config-steps
 demand-after {τ} {s} {a} d = record {
-  one-application = λ z i j m n p q u v. let e = d .one-application z (suc i) (suc j) m n p q u v in omega arith;
-  one-binding = λ y i j m n p q u v. let e = d .one-binding y (suc i) (suc j) m n p q u v in omega arith;
-  no-13-16-17 = λ i n p. d .no-13-16-17 (suc i) n p;
-  twelve = λ i n p. d .twelve (suc i) n p;
-  fourteen = λ i n p. d .fourteen (suc i) n p;
-  otherwise = λ i n p. d .otherwise (suc i) n p;
+  one-application = λ z i j m n h q u v. let e = d .one-application z (suc i) (suc j) m n h q u v in omega arith;
+  one-binding = λ y i j m n h q u v. let e = d .one-binding y (suc i) (suc j) m n h q u v in omega arith;
+  no-13-16-17 = λ i n h. d .no-13-16-17 (suc i) n h;
+  twelve = λ i n h. d .twelve (suc i) n h;
+  fourteen = λ i n h. d .fourteen (suc i) n h;
+  otherwise = λ i n h. d .otherwise (suc i) n h;
   typed-loaded = d .typed-after 0 (record { before = s; call = a }) refl;
-  typed-after = λ i n p. d .typed-after (suc i) n p;
+  typed-after = λ i n h. d .typed-after (suc i) n h;
 }
 
-pub reached-after : {τ : TypeNumbers} {s : State} → Reached τ s → (a : ConfigCall) → Reached τ (state-after τ s a)
-reached-after {τ} {s} r a = record { kept = kept-after τ s a (r .kept); claim = λ run. demand-after (r .claim (a ∷ run)) }
+pub reached-after : {p : Profile} {τ : TypeNumbers} {s : State} → Reached p τ s → (a : ConfigCall) → Reached p τ (state-after p τ s a)
+reached-after {p} {τ} {s} r a = record { kept = kept-after p τ s a (r .kept); claim = λ run. demand-after (r .claim (a ∷ run)) }
 
 -- a step of thread x into a buffer that is long enough for any image
 abbrev pub stepping : ℕ → ConfigCall
 stepping x = record { thread = x; buffer = max-image-length }
 
-module _ {τ : TypeNumbers} {s : State} (r : Reached τ s) where
+module _ {p : Profile} {τ : TypeNumbers} {s : State} (r : Reached p τ s) where
   pub reached-kept : Kept max-bays (s .owned)
-  reached-kept = kept-first τ s (stepping 0) (r .kept) .0
+  reached-kept = kept-first p τ s (stepping 0) (r .kept) .0
 
   pub reached-rules : ImageRule (s .owned .config)
   reached-rules = reached-kept .keeps
@@ -76,12 +77,12 @@ module _ {τ : TypeNumbers} {s : State} (r : Reached τ s) where
   reached-names = names-are (s .owned)
 
   -- with a buffer that is long enough the calculus's reply is the step's
-  pub long-reply : (x b : ℕ) → max-image-length ≤ b → config-reply (s .owned) (record { thread = x; buffer = b }) ≡ reply-to within-limits (s .owned) x
+  pub long-reply : (x b : ℕ) → max-image-length ≤ b → config-reply p (s .owned) (record { thread = x; buffer = b }) ≡ reply-to p (s .owned) x
   unfolding config-reply
   long-reply x b l = rw (ltb-not b max-image-length l, image-test-iff (s .owned .config) .1 reached-rules) refl
 
   -- no step answers 13, 16 or 17
-  pub no-cause : (x : ℕ) → (¬ (reply-to within-limits (s .owned) x ≡ refuses image-cause)) × (¬ (reply-to within-limits (s .owned) x ≡ refuses used-handle-cause)) × (¬ (reply-to within-limits (s .owned) x ≡ refuses wrong-kind-cause))
+  pub no-cause : (x : ℕ) → (¬ (reply-to p (s .owned) x ≡ refuses image-cause)) × (¬ (reply-to p (s .owned) x ≡ refuses used-handle-cause)) × (¬ (reply-to p (s .owned) x ≡ refuses wrong-kind-cause))
   unfolding config-steps
   no-cause x =
       let q = long-reply x max-image-length (omega arith) in
@@ -89,5 +90,5 @@ module _ {τ : TypeNumbers} {s : State} (r : Reached τ s) where
       (λ e. a (q ∙ e), λ e. b (q ∙ e), λ e. c (q ∙ e))
 
 -- the state that an accepted recipe is loaded to
-pub reached-start : (file : List ℕ) → Bytes file → refusal file ≡ 0 → Reached (type-at (type-table file)) (starting-state file)
-reached-start file b accepted = record { kept = all-kept file b accepted; claim = demand (admitted (says file b accepted)) }
+pub reached-start : (p : Profile) (file : List ℕ) → Bytes file → refusal file ≡ 0 → Reached p (type-at (type-table file)) (starting-state file)
+reached-start p file b accepted = record { kept = all-kept p file b accepted; claim = demand (admitted (says file b accepted)) p }

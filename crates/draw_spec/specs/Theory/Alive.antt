@@ -7,6 +7,7 @@ use Prim.Native.Nat.{ℕ, zero, suc, _%_, _+_, _<_, _≤_}
 use native.Mathlib.Nat.{mod-lt}
 use native.Mathlib.Omega.{arith}
 use lib.ListN.{length, set}
+use Rattle.calculus.specs.Profile.{common}
 use Rattle.calculus.specs.Bytes.{Bytes}
 use Rattle.calculus.specs.Owners.{Owned}
 use Rattle.calculus.specs.Typing.{TypeNumbers}
@@ -14,7 +15,6 @@ use Rattle.calculus.specs.Syntax.{unit, const, name, app, Component, thread-of,
 use Rattle.calculus.specs.Reduction.{plug, Rule, Reduces, beta, thread-new, future-deref, future-deref-exch, handle-new, handle-bind, cell-new, cell-exch, future-deref-case, case-both}
 use Rattle.calculus.specs.Step.{step-of}
 use Rattle.calculus.specs.Limits.{max-image-length, max-names}
-use Rattle.calculus.specs.Image.{within-limits}
 use Rattle.calculus.specs.State.{State}
 use Rattle.calculus.specs.Reply.{Reply, moved, waits, finished, refuses, reply-to}
 use Rattle.calculus.specs.Recipe.{setting-with, loaded}
@@ -84,7 +84,7 @@ stays-thread {C} {x = x} (case-both F s t v₁ v₂ e w w′ h) = rewritten C x 
 pub record Alive (image : List ℕ) : Type 0 where
   pub numbers : TypeNumbers
   pub state : State
-  pub reached : Reached numbers state
+  pub reached : Reached common numbers state
   pub is : image ≡ image-of (state .owned)
   pub one : (x : ℕ) × ThreadOf (state .owned .config) x
 
@@ -99,7 +99,7 @@ alive-start file b accepted =
     record {
       numbers = type-at (type-table file);
       state = starting-state file;
-      reached = reached-start file b accepted;
+      reached = reached-start common file b accepted;
       is = refl;
       one = (length front + 0, is (append-right front (map thread-of es) 0 ∙ at-map thread-of es 0 h));
     }
@@ -134,13 +134,13 @@ module _ {image : List ℕ} (a : Alive image) where
   picked-thread state = let (l, t) = picked-listed state in listed (picked image state) l t
 
   -- the calculus's reply is the step's
-  replies : (x : ℕ) → step-reply image x max-image-length ≡ reply-to within-limits (a .state .owned) x
+  replies : (x : ℕ) → step-reply common image x max-image-length ≡ reply-to common (a .state .owned) x
   replies x =
-      ap (λ (s : List ℕ). step-reply s x max-image-length) (a .is)
-      ∙ step-is (a .state .owned) (reached-kept (a .reached)) x max-image-length (omega arith)
+      ap (λ (s : List ℕ). step-reply common s x max-image-length) (a .is)
+      ∙ step-is common (a .state .owned) (reached-kept (a .reached)) x max-image-length (omega arith)
 
   -- "a rule, done, waiting or 15"
-  pub picked-goes : (state : ℕ) → ReplyGoes (step-reply image (picked image state) max-image-length)
+  pub picked-goes : (state : ℕ) → ReplyGoes (step-reply common image (picked image state) max-image-length)
   unfolding config-steps
   picked-goes state =
       let x = picked image state in
@@ -150,16 +150,16 @@ module _ {image : List ℕ} (a : Alive image) where
       subst ReplyGoes (long-reply (a .reached) x max-image-length (omega arith) ∙ sym (replies x)) g
 
   -- a rule: the new image is one that a run comes to, and has the thread that went
-  alive-moved : (x : ℕ) {k : ℕ} {I′ : Owned} → step-reply image x max-image-length ≡ moved k I′ → (b : Alive (image-of I′)) × (b .state .owned ≡ I′)
+  alive-moved : (x : ℕ) {k : ℕ} {I′ : Owned} → step-reply common image x max-image-length ≡ moved k I′ → (b : Alive (image-of I′)) × (b .state .owned ≡ I′)
   unfolding state-left
   alive-moved x {k} {I′} e =
-      let e′ : reply-to within-limits (a .state .owned) x ≡ moved k I′ = sym (replies x) ∙ e in
-      let (r, n, d, w, g) = moved-answer (a .state .owned) x (step-of (a .state .owned .config) x) refl e′ in
-      let after : state-after (a .numbers) (a .state) (stepping x) .owned ≡ I′ =
+      let e′ : reply-to common (a .state .owned) x ≡ moved k I′ = sym (replies x) ∙ e in
+      let (r, n, d, w, g) = moved-answer common (a .state .owned) x (step-of (a .state .owned .config) x) refl e′ in
+      let after : state-after common (a .numbers) (a .state) (stepping x) .owned ≡ I′ =
       ap (λ (q : Reply). state-left (a .numbers) (a .state) x q .owned) (long-reply (a .reached) x max-image-length (omega arith) ∙ e′) in (
         record {
           numbers = a .numbers;
-          state = state-after (a .numbers) (a .state) (stepping x);
+          state = state-after common (a .numbers) (a .state) (stepping x);
           reached = reached-after (a .reached) (stepping x);
           is = ap image-of (sym after);
           one = (x, rw after (stays-thread d));
@@ -168,16 +168,16 @@ module _ {image : List ℕ} (a : Alive image) where
       )
 
   -- the image after a step of any name
-  pub alive-after : (x : ℕ) → Alive (image-after (step-reply image x max-image-length) image)
+  pub alive-after : (x : ℕ) → Alive (image-after (step-reply common image x max-image-length) image)
   unfolding image-after
-  alive-after x = go (step-reply image x max-image-length) refl
+  alive-after x = go (step-reply common image x max-image-length) refl
     where
-      go : (q : Reply) → step-reply image x max-image-length ≡ q → Alive (image-after q image)
+      go : (q : Reply) → step-reply common image x max-image-length ≡ q → Alive (image-after q image)
       go (moved k I′) e = alive-moved x e .0
       go (waits y) e = a
       go finished e = a
       go (refuses n) e = a
 
   -- the new image says its configuration
-  pub moved-reads : (x : ℕ) {k : ℕ} {I′ : Owned} → step-reply image x max-image-length ≡ moved k I′ → config-of (image-of I′) ≡ I′ .config
+  pub moved-reads : (x : ℕ) {k : ℕ} {I′ : Owned} → step-reply common image x max-image-length ≡ moved k I′ → config-of (image-of I′) ≡ I′ .config
   moved-reads x e = let (b, c) = alive-moved x e in ap config-of (b .is) ∙ reached-reads (b .reached) ∙ ap (λ (I : Owned). I .config) c

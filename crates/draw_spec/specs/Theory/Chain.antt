@@ -4,6 +4,7 @@ use mathlib.Core.Option.{some}
 use mathlib.Core.List.{List, [], _∷_, map}
 use Prim.Native.Nat.{ℕ, zero, suc, _≤_}
 use lib.ListN.{length}
+use Rattle.calculus.specs.Profile.{common}
 use Rattle.calculus.specs.Limits.{max-image-length}
 use Rattle.calculus.specs.Syntax.{at}
 use Rattle.calculus.specs.Types.{LinType}
@@ -48,14 +49,14 @@ each-alive (suc n) state image a (suc i) d h = each-alive n (drawn state) _ (ali
 module _ (τ : TypeNumbers) where
   -- the first of some calls
   first-step : (state : ℕ) (image : List ℕ) (types : List LinType) (c : Call) → c .thread ≡ thread (first-of state image) → max-image-length ≤ length (c .out) →
-      let m : Step = record { image = image; types = types; call = c } in IsStep (first-of state image) m × (left m ≡ image-after (reply (first-of state image)) image)
+      let m : Step = record { profile = common; image = image; types = types; call = c } in IsStep (first-of state image) m × (left m ≡ image-after (reply (first-of state image)) image)
   first-step state image types c e long = (
-    record { image-is = refl; thread-is = e; answer-is = long-outcome image (c .thread) (c .out) long ∙ ap (λ (x : ℕ). outcome-of-reply (step-reply image x max-image-length)) e },
-    handed-on image (c .thread) (c .out) long ∙ ap (λ (x : ℕ). image-after (step-reply image x max-image-length) image) e,
+    record { image-is = refl; thread-is = e; answer-is = long-outcome common image (c .thread) (c .out) long ∙ ap (λ (x : ℕ). outcome-of-reply (step-reply common image x max-image-length)) e },
+    handed-on image (c .thread) (c .out) long ∙ ap (λ (x : ℕ). image-after (step-reply common image x max-image-length) image) e,
   )
 
   pub are-steps : (n state : ℕ) (image : List ℕ) (types : List LinType) (calls : List Call) → Follows (map thread (draws n state image)) calls →
-      (i : ℕ) (d : Draw) → at (draws n state image) i ≡ some d → (m : Step) × (at (steps τ image types calls) i ≡ some m) × IsStep d m
+      (i : ℕ) (d : Draw) → at (draws n state image) i ≡ some d → (m : Step) × (at (steps common τ image types calls) i ≡ some m) × IsStep d m
   unfolding draws steps
   are-steps zero state image types calls f i d h = absurd (clash (cc))
   are-steps (suc n) state image types [] f i d h = let e = f .threads in absurd (clash (cc))
@@ -63,10 +64,10 @@ module _ (τ : TypeNumbers) where
       let e = f .threads in
       let p : first-of state image ≡ d = cc in
       let (is, l) = first-step state image types c (cc) (f .long 0 c refl) in
-      (record { image = image; types = types; call = c }, refl, rw (← p) is)
+      (record { profile = common; image = image; types = types; call = c }, refl, rw (← p) is)
   are-steps (suc n) state image types (c ∷ calls) f (suc i) d h =
       let e = f .threads in
-      let m : Step = record { image = image; types = types; call = c } in
+      let m : Step = record { profile = common; image = image; types = types; call = c } in
       let (is, l) = first-step state image types c (cc) (f .long 0 c refl) in
       let rest : Follows (map thread (draws n (drawn state) (image-after (reply (first-of state image)) image))) calls = record { threads = cc; long = λ j d q. f .long (suc j) d q } in
       rw l (are-steps n (drawn state) (image-after (reply (first-of state image)) image) (types-left τ m) calls rest i d h)

@@ -5,6 +5,7 @@ use Prim.Native.Nat.{ℕ, _≤_}
 use native.Mathlib.Omega.{arith}
 use lib.ListN.{drop, length, length-append, take}
 use lib.Seq.{take-append-seam}
+use Rattle.calculus.specs.Profile.{common}
 use Rattle.calculus.specs.Limits.{max-image-length}
 use Rattle.calculus.specs.Reply.{Reply, moved, waits, finished, refuses}
 use Rattle.calculus.specs.Theory.Tests.{clash}
@@ -25,13 +26,13 @@ kept-image finished image n = refl
 kept-image (refuses k) image n = refl
 
 module _ (image : List ℕ) (x : ℕ) (out : List ℕ) (long : max-image-length ≤ length out) where
-  same-reply : step-reply image x (length out) ≡ step-reply image x max-image-length
-  same-reply = reply-long image x (length out) long
+  same-reply : step-reply common image x (length out) ≡ step-reply common image x max-image-length
+  same-reply = reply-long common image x (length out) long
 
   -- what a run of document 01 hands on: the new image where a rule was answered, else the same
-  pub handed-on : renewed (outcome-of image x out) (λ size. take size (out-after-step image x out)) image ≡ image-after (step-reply image x max-image-length) image
+  pub handed-on : renewed (outcome-of common image x out) (λ size. take size (out-after-step common image x out)) image ≡ image-after (step-reply common image x max-image-length) image
   unfolding outcome-of out-after-step renewed outcome-of-reply out-after-reply image-after
-  handed-on = ap (λ (q : Reply). renewed (outcome-of-reply q) (λ size. take size (out-after-reply q out)) image) same-reply ∙ go (step-reply image x max-image-length)
+  handed-on = ap (λ (q : Reply). renewed (outcome-of-reply q) (λ size. take size (out-after-reply q out)) image) same-reply ∙ go (step-reply common image x max-image-length)
     where
       go : (q : Reply) → renewed (outcome-of-reply q) (λ size. take size (out-after-reply q out)) image ≡ image-after q image
       go (moved rule I′) = take-append-seam (image-of I′) (drop (length (image-of I′)) out)
@@ -40,13 +41,13 @@ module _ (image : List ℕ) (x : ℕ) (out : List ℕ) (long : max-image-length 
       go (refuses number) = refl
 
   -- a rule: the new image is in the first bytes of the buffer
-  pub new-image : {rule size : ℕ} → outcome-of image x out ≡ Rule rule size → take size (out-after-step image x out) ≡ image-after (step-reply image x max-image-length) image
+  pub new-image : {rule size : ℕ} → outcome-of common image x out ≡ Rule rule size → take size (out-after-step common image x out) ≡ image-after (step-reply common image x max-image-length) image
   unfolding renewed
-  new-image {rule} {size} e = ap (λ (o : Outcome). renewed o (λ n. take n (out-after-step image x out)) image) (sym e) ∙ handed-on
+  new-image {rule} {size} e = ap (λ (o : Outcome). renewed o (λ n. take n (out-after-step common image x out)) image) (sym e) ∙ handed-on
 
-  pub new-inside : {rule size : ℕ} → outcome-of image x out ≡ Rule rule size → size ≤ length (out-after-step image x out)
+  pub new-inside : {rule size : ℕ} → outcome-of common image x out ≡ Rule rule size → size ≤ length (out-after-step common image x out)
   unfolding outcome-of out-after-step outcome-of-reply out-after-reply
-  new-inside {rule} {size} e = go (step-reply image x (length out)) e
+  new-inside {rule} {size} e = go (step-reply common image x (length out)) e
     where
       go : (q : Reply) → outcome-of-reply q ≡ Rule rule size → size ≤ length (out-after-reply q out)
       go (moved k I′) h =
@@ -57,5 +58,5 @@ module _ (image : List ℕ) (x : ℕ) (out : List ℕ) (long : max-image-length 
       go (refuses n) h = absurd (clash (cc))
 
   -- another answer: the image is kept
-  pub same-image : ((rule size : ℕ) → ¬ (outcome-of image x out ≡ Rule rule size)) → image ≡ image-after (step-reply image x max-image-length) image
-  same-image n = sym (kept-image (step-reply image x max-image-length) image (λ rule size e. n rule size (long-outcome image x out long ∙ e)))
+  pub same-image : ((rule size : ℕ) → ¬ (outcome-of common image x out ≡ Rule rule size)) → image ≡ image-after (step-reply common image x max-image-length) image
+  same-image n = sym (kept-image (step-reply common image x max-image-length) image (λ rule size e. n rule size (long-outcome common image x out long ∙ e)))

@@ -27,7 +27,7 @@ use Rattle.load_spec.specs.Starting.{starting-image}
 use Rattle.runs.specs.Run.{types-loaded}
 use Rattle.runs.specs.Theory.Steps.{answered-goes, follows-into}
 use Rattle.demands.specs.Theory.Reached.{reached-reads}
-use Rattle.demands.specs.Theory.Third.{loaded-is, third-demand}
+use Rattle.demands.specs.Theory.Third.{loaded-is, accepted-demand}
 use Rattle.draw_spec.specs.Draws.{Draw, draws, picked, reply, thread, threads, threads-below}
 use Rattle.draw_spec.specs.Lines.{draw-refusal, draws-in, max-text-length, number-in, recipe-in, seed-in, text-of}
 use Rattle.draw_spec.specs.TestLoad.{DrawsDemand, TestLoad}
@@ -119,9 +119,9 @@ module _ (input : List ℕ) (b : Bytes input) (z : draw-refusal input ≡ 0) whe
         ap (λ (d : Draw). d .image) (next-is (number-in input) (seed-in input) (starting-image (recipe-in input)) i d e h g) ∙ kept-image (reply d) (d .image) n;
     followed = λ out long. follows-into out long (map thread (draws-in input));
     stepped = λ out long calls f.
-        rw (loaded-is (recipe-in input) file-bytes accepted out long)
+        rw (loaded-is (recipe-in input) out accepted long)
         (are-steps (type-at (type-table (recipe-in input))) (number-in input) (seed-in input) (starting-image (recipe-in input)) (types-loaded (recipe-in input)) calls f);
-    demanded = λ out long calls. third-demand (recipe-in input) file-bytes (told input ∙ accepted) out long calls;
+    demanded = λ out long calls. accepted-demand (recipe-in input) file-bytes (told input ∙ accepted) out long calls;
   }
 
 pub test-load : TestLoad

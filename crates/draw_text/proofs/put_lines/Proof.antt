@@ -5,6 +5,7 @@ use native.Mathlib.Omega.{arith}
 use borrow.Author.Needs.{needs}
 use lib.ListN.{length, replicate}
 use lib.Seq.{length-take-le}
+use Rattle.calculus.specs.Profile.{common}
 use Rattle.calculus.specs.Limits.{max-image-length}
 use Rattle.buffer.specs.Theory.Writes.{known-as}
 use Rattle.text.specs.Ascii.{verdict-line}
@@ -38,8 +39,8 @@ loads l =
     record {
       bytes = λ i. seed-at l .before .before .before .shared-slice-known .given i .fits;
       seed-is = seed-at l .seed-of .ensures;
-      answer = is ∙ ap (λ s. loaded-of s (length {A = ℕ} (replicate max-image-length 0))) p;
-      left = left ∙ ap (λ s. out-after-load s (replicate max-image-length 0)) p;
+      answer = is ∙ ap (λ s. loaded-of common s (length {A = ℕ} (replicate max-image-length 0))) p;
+      left = left ∙ ap (λ s. out-after-load common s (replicate max-image-length 0)) p;
       long = omega arith;
       kept = l .load .kept .1 .0;
     }

@@ -1,12 +1,14 @@
 -- Every name knows its bay.
 use mathlib.Core.Path.{_∙_, _≡_, ap, sym, subst}
+use mathlib.Core.Bool.{Bool}
 use mathlib.Core.Option.{some}
-use mathlib.Core.List.{List, [], map}
+use mathlib.Core.List.{List, map}
 use Prim.Native.Nat.{ℕ, _+_, _-_, _<_, _≤_}
 use native.Mathlib.Decide.{decLt}
 use native.Mathlib.Omega.{arith}
 use lib.ListN.{drop, length, take}
 use lib.Seq.{take-append-seam}
+use Rattle.calculus.specs.Profile.{Profile, room-test}
 use Rattle.calculus.specs.Bytes.{Bytes}
 use Rattle.calculus.specs.Causes.{buffer-cause, image-cause}
 use Rattle.calculus.specs.Kinds.{open-handle-kind}
@@ -26,14 +28,15 @@ use Rattle.calculus.specs.Theory.Claim.{images, image-loaded as claim-loaded}
 use Rattle.recipe_file.specs.File.{bays}
 use Rattle.recipe_table.specs.Entries.{type-table}
 use Rattle.check_spec.specs.Bays.{bay-terms}
-use Rattle.check_spec.specs.Verdict.{refusal, verdict-of}
+use Rattle.check_spec.specs.Verdict.{refusal}
 use Rattle.check_spec.specs.Theory.Accepted.{admitted}
-use Rattle.check_spec.specs.Theory.Answers.{refusal-is}
 use Rattle.image_layout.specs.Slice.{names, kind-at, companion-at, owner-at}
 use Rattle.image_layout.specs.Theory.Slice.{owner-of-other}
 use Rattle.image.specs.Configuration.{encode, image-of}
 use Rattle.image.specs.Theory.Exactly.{companion-written, names-are, one-image, owner-again, read-again}
 use Rattle.load_spec.specs.Starting.{starting-image, starting-state}
+use Rattle.load_spec.specs.Loading.{load-refusal, loaded-of}
+use Rattle.load_spec.specs.Theory.Answers.{load-refusal-is}
 use Rattle.load_spec.specs.Theory.Image.{says as file-says}
 use Rattle.step_spec.specs.declared.Outcome.the-variants.{Rule, Refused}
 use Rattle.step_spec.specs.Stepping.{outcome-of, outcome-of-reply, out-after-step}
@@ -45,7 +48,7 @@ use Rattle.runs.specs.Theory.Simulates.{Simulates, same, simulates}
 use Rattle.demands.specs.Demands.{ImageOf}
 use Rattle.demands.specs.Theory.First.{first-demand}
 use Rattle.demands.specs.Theory.Second.{kept-image, second-demand}
-use Rattle.demands.specs.Theory.Third.{all-kept, loaded-is, third-demand}
+use Rattle.demands.specs.Theory.Third.{all-kept, loaded-accepted, loaded-image-is, third-demand}
 use Rattle.image_owners.specs.Ownership.{KeepsOwners, OwnedBy, Ownership, SaysOwners}
 
 -- ---- an image
@@ -104,20 +107,20 @@ module _ (I : Owned) (k : Kept max-bays I) (x : ℕ) (C′ : Config) {by : RuleN
   }
 
 -- the image that a rule leaves in the first bytes
-steps : (s : List ℕ) → Bytes s → (x : ℕ) (out : List ℕ) (rule size : ℕ) → outcome-of s x out ≡ Rule rule size → KeepsOwners s x (take size (out-after-step s x out))
-steps s b x out rule size e =
-    let demand = second-demand .step s b x out in
+steps : (p : Profile) (s : List ℕ) → Bytes s → (x : ℕ) (out : List ℕ) (rule size : ℕ) → outcome-of p s x out ≡ Rule rule size → KeepsOwners s x (take size (out-after-step p s x out))
+steps p s b x out rule size e =
+    let demand = second-demand p .step s b x out in
     let (long, I, io, (by, C′, d, w, n, z)) = demand .rule rule size .0 e in
     let (written, fits) = demand .rule-image I C′ by io d w long in
     let J = grown I x C′ in
-    let is : take size (out-after-step s x out) ≡ image-of J = ap (λ (i : ℕ). take i (out-after-step s x out)) z ∙ ap (take (length (image-of J))) written ∙ take-append-seam (image-of J) (drop (length (image-of J)) out) in
+    let is : take size (out-after-step p s x out) ≡ image-of J = ap (λ (i : ℕ). take i (out-after-step p s x out)) z ∙ ap (take (length (image-of J))) written ∙ take-append-seam (image-of J) (drop (length (image-of J)) out) in
     subst (KeepsOwners s x) (sym is) (subst (λ (t : List ℕ). KeepsOwners t x (image-of J)) (sym (io .bytes)) (keeps-owners I (kept-image io) x C′ d))
 
 -- ---- 13
 
-sixteen : (s : List ℕ) → Bytes s → (x : ℕ) (out : List ℕ) → max-image-length ≤ length out → (k : ℕ) → k < names s → ¬ (kind-at s k ≡ open-handle-kind) →
-    max-bays ≤ companion-at s k → outcome-of s x out ≡ Refused image-cause
-sixteen s b x out long k l n m = second-demand .step s b x out .thirteen .1 (long, λ I io. no I io)
+sixteen : (p : Profile) (s : List ℕ) → Bytes s → (x : ℕ) (out : List ℕ) → max-image-length ≤ length out → (k : ℕ) → k < names s → ¬ (kind-at s k ≡ open-handle-kind) →
+    max-bays ≤ companion-at s k → outcome-of p s x out ≡ Refused image-cause
+sixteen p s b x out long k l n m = second-demand p .step s b x out .thirteen .1 (long, λ I io. no I io)
   where
     no : (I : Owned) → ¬ ImageOf s I
     no I io =
@@ -126,17 +129,17 @@ sixteen s b x out long k l n m = second-demand .step s b x out .thirteen .1 (lon
         let m′ : max-bays ≤ companion-at (image-of I) k = rw (io .bytes) at m in
         omega (arith, m′, says-owners I (kept-image io) .own-byte k l′ n′, io .owners .below k (omega (arith, l′, names-are I)))
 
-any-owners : (I : Owned) → ImageRule (I .config) → EachAll Writable (I .config) → OwnersRule max-bays I → (x : ℕ) (out : List ℕ) → ¬ (outcome-of (image-of I) x out ≡ Refused image-cause)
+any-owners : (p : Profile) (I : Owned) → ImageRule (I .config) → EachAll Writable (I .config) → OwnersRule max-bays I → (x : ℕ) (out : List ℕ) → ¬ (outcome-of p (image-of I) x out ≡ Refused image-cause)
 unfolding outcome-of
-any-owners I rule writable owners x out e = elim (decLt (length out) max-image-length) [
-  | yes l ↦ let s = first-demand .step-12 (image-of I) x out .1 l in let q : buffer-cause ≡ image-cause = cc in omega (arith, q)
+any-owners p I rule writable owners x out e = elim (decLt (length out) max-image-length) [
+  | yes l ↦ let s = first-demand p .step-12 (image-of I) x out .1 l in let q : buffer-cause ≡ image-cause = cc in omega (arith, q)
   | no l ↦
       let k : Kept max-bays I = record { keeps = rule; writable = writable; owns = owners } in
-      let p = sym (ap outcome-of-reply (step-is I k x (length out) (omega arith))) ∙ e in
-      not-told (rw p at (tells (grown I x) (step-of (I .config) x)))
+      let h = sym (ap outcome-of-reply (step-is p I k x (length out) (omega arith))) ∙ e in
+      not-told (rw h at (tells (room-test p I) (grown I x) (step-of (I .config) x)))
 ]
   where
-    not-told : {left : Config → Owned} {a : Answer} → ¬ Told left a (Refused image-cause)
+    not-told : {room : Owned → Bool} {left : Config → Owned} {a : Answer} → ¬ Told room left a (Refused image-cause)
     not-told t = elim t [ ]
 
 -- ---- a run
@@ -152,10 +155,13 @@ owned-by I k m = record {
       ∙ sym (says-owners I m .told y (omega (arith, names-are I, at-bound (I .config) y a)));
 }
 
-module _ (file : List ℕ) (b : Bytes file) (accepted : refusal file ≡ 0) (out : List ℕ) (long : max-image-length ≤ length out) where
-  is-loaded : image-loaded file out ≡ image-of (starting-state file .owned)
+module _ (p : Profile) (file : List ℕ) (b : Bytes file) (out : List ℕ) (is : load-refusal p file (length out) ≡ 0) where
+  accepted : refusal file ≡ 0
+  accepted = loaded-accepted p file out is .0
+
+  is-loaded : image-loaded p file out ≡ image-of (starting-state file .owned)
   unfolding starting-image
-  is-loaded = loaded-is file b accepted out long
+  is-loaded = loaded-image-is p file out is
 
   few : length (bay-terms file) ≤ max-bays
   few = admitted (file-says file b accepted) .bays
@@ -164,7 +170,7 @@ module _ (file : List ℕ) (b : Bytes file) (accepted : refusal file ≡ 0) (out
   count = file-says file b accepted .count
 
   start-kept : Kept (length (bay-terms file)) (starting-state file .owned)
-  start-kept = claim-loaded (admitted (file-says file b accepted)) []
+  start-kept = claim-loaded (admitted (file-says file b accepted))
 
   start-says : SaysOwners (image-of (starting-state file .owned)) (starting-state file .owned)
   start-says = says-owners (starting-state file .owned) (kept-more few start-kept)
@@ -173,14 +179,14 @@ module _ (file : List ℕ) (b : Bytes file) (accepted : refusal file ≡ 0) (out
   unfolding loaded
   start-names = start-says .each-has ∙ length-first-owners (length (bay-terms file)) ∙ omega (arith, count)
 
-  loaded-names : names (image-loaded file out) ≡ bays file + bays file
+  loaded-names : names (image-loaded p file out) ≡ bays file + bays file
   loaded-names = ap names is-loaded ∙ start-names
 
-  settings : (bay : ℕ) → bay < bays file → owner-at (image-loaded file out) bay ≡ bay
+  settings : (bay : ℕ) → bay < bays file → owner-at (image-loaded p file out) bay ≡ bay
   unfolding loaded
   settings bay l = rw is-loaded (start-says .told bay (omega (arith, start-names)) ∙ setting-owner (length (bay-terms file)) bay (omega (arith, count)))
 
-  first-threads : (bay : ℕ) → bay < bays file → owner-at (image-loaded file out) (bays file + bay) ≡ bay
+  first-threads : (bay : ℕ) → bay < bays file → owner-at (image-loaded p file out) (bays file + bay) ≡ bay
   unfolding loaded
   first-threads bay l =
       rw is-loaded
@@ -188,22 +194,22 @@ module _ (file : List ℕ) (b : Bytes file) (accepted : refusal file ≡ 0) (out
       ∙ thread-owner (length (bay-terms file)) (bays file + bay) (omega (arith, count)) (omega (arith, count))
       ∙ omega (arith, count))
 
-  run-loaded : OwnedBy (bays file) (image-loaded file out)
-  run-loaded = subst (λ (n : ℕ). OwnedBy n (image-loaded file out)) count (rw is-loaded (owned-by (starting-state file .owned) start-kept (kept-more few start-kept)))
+  run-loaded : OwnedBy (bays file) (image-loaded p file out)
+  run-loaded = subst (λ (n : ℕ). OwnedBy n (image-loaded p file out)) count (rw is-loaded (owned-by (starting-state file .owned) start-kept (kept-more few start-kept)))
 
-  module _ (calls : List Call) (i : ℕ) (n : Step) (h : at (steps-of file out calls) i ≡ some n) where
+  module _ (calls : List Call) (i : ℕ) (n : Step) (h : at (steps-of p file out calls) i ≡ some n) where
     both : OwnedBy (length (bay-terms file)) (n .image) × OwnedBy (length (bay-terms file)) (left n)
     both =
         let τ = type-at (type-table file) in
         let a = admitted (file-says file b accepted) in
-        let (m, p, u) = simulates τ (starting-state file) (all-kept file b accepted) calls i n (rw is-loaded at h) in
-        go u (images a (map call-of calls) i m p)
+        let (m, q, u) = simulates p τ (starting-state file) (all-kept p file b accepted) calls i n (rw is-loaded at h) in
+        go u (images a p (map call-of calls) i m q)
       where
-        go : {n : Step} {m : calculus.ConfigStep} → Simulates (type-at (type-table file)) n m →
-            Kept (length (bay-terms file)) (m .before .owned) × Kept (length (bay-terms file)) (calculus.state-after (type-at (type-table file)) (m .before) (m .call) .owned) →
+        go : {n : Step} {m : calculus.ConfigStep} → Simulates p (type-at (type-table file)) n m →
+            Kept (length (bay-terms file)) (m .before .owned) × Kept (length (bay-terms file)) (calculus.state-after p (type-at (type-table file)) (m .before) (m .call) .owned) →
             OwnedBy (length (bay-terms file)) (n .image) × OwnedBy (length (bay-terms file)) (left n)
         go (same s c k l) (before, after) =
-            (owned-by (s .owned) before k, rw (leaves-image (type-at (type-table file)) s k c) (owned-by (calculus.state-after (type-at (type-table file)) s (call-of c) .owned) after l))
+            (owned-by (s .owned) before k, rw (leaves-image p (type-at (type-table file)) s k c) (owned-by (calculus.state-after p (type-at (type-table file)) s (call-of c) .owned) after l))
 
     run-owners : OwnedBy (bays file) (n .image) × OwnedBy (bays file) (left n)
     run-owners = subst (λ (m : ℕ). OwnedBy m (n .image) × OwnedBy m (left n)) count both
@@ -211,21 +217,21 @@ module _ (file : List ℕ) (b : Bytes file) (accepted : refusal file ≡ 0) (out
     one-bay : bays file ≡ 1 → (k : ℕ) → k < names (left n) → ¬ (kind-at (left n) k ≡ open-handle-kind) → companion-at (left n) k ≡ 0
     one-bay e k l d = omega (arith, sym (owner-of-other (left n) k d), run-owners .1 .below k l, e)
 
-as-refusal : (file : List ℕ) → verdict-of file .refusal ≡ 0 → refusal file ≡ 0
-as-refusal file v = sym (refusal-is file) ∙ v
-
-pub ownership : Ownership
-ownership = record {
+pub ownership : (p : Profile) → Ownership p
+ownership p = record {
   says = λ s I io. rw (io .bytes) (says-owners I (kept-image io));
   one-image = λ s I J i j. one-image I J (kept-image i) (kept-image j) (sym (i .bytes) ∙ j .bytes);
-  loaded-names = λ file b v out long. loaded-names file b (as-refusal file v) out long;
-  settings = λ file b v out long. settings file b (as-refusal file v) out long;
-  first-threads = λ file b v out long. first-threads file b (as-refusal file v) out long;
-  steps = steps;
-  sixteen = sixteen;
-  any-owners = any-owners;
-  run-loaded = λ file b v out long. run-loaded file b (as-refusal file v) out long;
-  run-owners = λ file b v out long. run-owners file b (as-refusal file v) out long;
-  one-bay = λ file b v e out long calls i n h. one-bay file b (as-refusal file v) out long calls i n h e;
-  demanded = third-demand;
+  loaded-names = λ file b out v. loaded-names p file b out (told file out v);
+  settings = λ file b out v. settings p file b out (told file out v);
+  first-threads = λ file b out v. first-threads p file b out (told file out v);
+  steps = steps p;
+  sixteen = sixteen p;
+  any-owners = any-owners p;
+  run-loaded = λ file b out v. run-loaded p file b out (told file out v);
+  run-owners = λ file b out v. run-owners p file b out (told file out v);
+  one-bay = λ file b e out v calls i n h. one-bay p file b out (told file out v) calls i n h e;
+  demanded = third-demand p;
 }
+  where
+    told : (file out : List ℕ) → loaded-of p file (length out) .refusal ≡ 0 → load-refusal p file (length out) ≡ 0
+    told file out v = sym (load-refusal-is p file (length out)) ∙ v

@@ -1,7 +1,7 @@
 -- The starting image of an accepted recipe: its length, and that it keeps the rules of an image.
 use mathlib.Core.Path.{_≡_}
 use mathlib.Core.Bool.{true}
-use mathlib.Core.List.{List, []}
+use mathlib.Core.List.{List}
 use Prim.Native.Nat.{ℕ, _≤_}
 use lib.ListN.{length}
 use Rattle.calculus.specs.Bytes.{Bytes}
@@ -29,7 +29,7 @@ module _ (s : List ℕ) (b : Bytes s) (accepted : refusal s ≡ 0) where
 
   -- document 01, "The image": what is loaded keeps every rule and limit
   pub starting-kept : Kept max-bays (starting-state s .owned)
-  starting-kept = kept-more (admitted says .bays) (image-loaded (admitted says) [])
+  starting-kept = kept-more (admitted says .bays) (image-loaded (admitted says))
 
   pub starting-stands : image-stands (starting-image s) ≡ true
   unfolding starting-image

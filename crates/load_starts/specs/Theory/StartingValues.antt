@@ -9,6 +9,7 @@ use native.Mathlib.Omega.{arith}
 use borrow.Author.Tests.{eq-eqb, eqb-false, eqb-true, ne-eqb, not-true}
 use lib.Dec.{eqb}
 use lib.ListN.{drop, getD, length, length-replicate, replicate}
+use Rattle.calculus.specs.Profile.{common}
 use Rattle.calculus.specs.Bytes.{word}
 use Rattle.calculus.specs.Limits.{max-file-length, max-image-length}
 use Rattle.calculus.specs.Causes.{opening-cause, starting-cause}
@@ -95,7 +96,7 @@ module _ {s s′ : List ℕ} (a : Alike s s′) (n : cause-19 s ≡ false) (n′
   unfolding starting-image
   same-image = rw (same-table a, nums, same-terms a) refl
 
-  same-load-refusal : (room : ℕ) → load-refusal s room ≡ load-refusal s′ room
+  same-load-refusal : (room : ℕ) → load-refusal common s room ≡ load-refusal common s′ room
   unfolding load-refusal refusal
   same-load-refusal room = rw (same-refusal a n n′) refl
 

@@ -5,6 +5,7 @@ use mathlib.Core.Option.{some}
 use mathlib.Core.List.{List}
 use Prim.Native.Nat.{ℕ, zero, suc, _+_}
 use native.Mathlib.Omega.{arith}
+use Rattle.calculus.specs.Profile.{common}
 use Rattle.calculus.specs.Syntax.{at}
 use Rattle.calculus.specs.Typing.{TypeNumbers}
 use Rattle.calculus.specs.Limits.{max-image-length}
@@ -37,22 +38,22 @@ turn-in s next x = record { image = image-of (s .owned); next = next; thread = x
 
 -- a course of up to k turns from s, the first of which looks from `next` on: every state is reached, and there is no other end
 pub data Chain (τ : TypeNumbers) : ℕ → ℕ → State → Course → Type 0 where
-  all-taken : {next : ℕ} {s : State} → Reached τ s → Chain τ zero next s (stopped (image-of (s .owned)) all-turns)
-  nobody-left : {k next : ℕ} {s : State} {lacked : Bool} → Reached τ s → Nobody (image-of (s .owned)) false (going-round (names (image-of (s .owned))) next) lacked →
+  all-taken : {next : ℕ} {s : State} → Reached common τ s → Chain τ zero next s (stopped (image-of (s .owned)) all-turns)
+  nobody-left : {k next : ℕ} {s : State} {lacked : Bool} → Reached common τ s → Nobody (image-of (s .owned)) false (going-round (names (image-of (s .owned))) next) lacked →
       Chain τ (suc k) next s (stopped (image-of (s .owned)) (cond lacked no-room idle))
-  one-turn : {k next : ℕ} {s : State} {c : Course} {x : ℕ} {image′ : List ℕ} → Reached τ s → First (image-of (s .owned)) (going-round (names (image-of (s .owned))) next) x image′ →
-      Chain τ k (one-after x) (state-after τ s (stepping x)) c → Chain τ (suc k) next s (after-turn (turn-in s next x) c)
+  one-turn : {k next : ℕ} {s : State} {c : Course} {x : ℕ} {image′ : List ℕ} → Reached common τ s → First (image-of (s .owned)) (going-round (names (image-of (s .owned))) next) x image′ →
+      Chain τ k (one-after x) (state-after common τ s (stepping x)) c → Chain τ (suc k) next s (after-turn (turn-in s next x) c)
 
-pub chain-of : {τ : TypeNumbers} (k next : ℕ) (s : State) → Reached τ s → Chain τ k next s (take-turns k next (image-of (s .owned)))
+pub chain-of : {τ : TypeNumbers} (k next : ℕ) (s : State) → Reached common τ s → Chain τ k next s (take-turns k next (image-of (s .owned)))
 unfolding take-turns turning
 chain-of zero next s r = all-taken r
 chain-of {τ} (suc k) next s r = go (search-from (image-of (s .owned)) next) refl (chain-of k)
   where
-    go : (q : Search) → search-from (image-of (s .owned)) next ≡ q → ((next : ℕ) (s : State) → Reached τ s → Chain τ k next s (take-turns k next (image-of (s .owned)))) →
+    go : (q : Search) → search-from (image-of (s .owned)) next ≡ q → ((next : ℕ) (s : State) → Reached common τ s → Chain τ k next s (take-turns k next (image-of (s .owned)))) →
         Chain τ (suc k) next s (turning (image-of (s .owned)) next q (take-turns k))
     go (found x image′) e ih =
         let f = turn-first (image-of (s .owned)) next e in
-        one-turn r f (subst⁻¹ (λ (i : List ℕ). Chain τ k (one-after x) (state-after τ s (stepping x)) (take-turns k (one-after x) i)) (goes-on r x (f .0) max-image-length (omega arith)) (ih (one-after x) (state-after τ s (stepping x)) (reached-after r (stepping x))))
+        one-turn r f (subst⁻¹ (λ (i : List ℕ). Chain τ k (one-after x) (state-after common τ s (stepping x)) (take-turns k (one-after x) i)) (goes-on r x (f .0) max-image-length (omega arith)) (ih (one-after x) (state-after common τ s (stepping x)) (reached-after r (stepping x))))
     go (nobody lacked) e ih = nobody-left r (turn-nobody (image-of (s .owned)) next e)
     go (met n) e ih = absurd (never-met r next n e)
 

@@ -9,6 +9,7 @@ use native.Mathlib.Omega.{arith}
 use lib.Dec.{eqb, ltb}
 use lib.ListN.{length, take}
 use lib.Seq.{take-append-seam}
+use Rattle.calculus.specs.Profile.{common}
 use Rattle.calculus.specs.Bytes.{Bytes}
 use Rattle.calculus.specs.Limits.{max-image-length}
 use Rattle.calculus.specs.Causes.{buffer-cause}
@@ -29,7 +30,7 @@ use Rattle.run_spec.specs.Theory.Chain.{Chain, chain-of, never-refused}
 -- the course of an accepted recipe's run goes along reached states
 pub recipe-chain : (file : List ℕ) → Bytes file → refusal file ≡ 0 → (k : ℕ) → Chain (type-at (type-table file)) k 0 (starting-state file) (course-of file k)
 unfolding course-of starting-image
-recipe-chain file b accepted k = chain-of k 0 (starting-state file) (reached-start file b accepted)
+recipe-chain file b accepted k = chain-of k 0 (starting-state file) (reached-start common file b accepted)
 
 -- an ending tells why the course stops
 ends-refused : (stop : Stop) (turns size n : ℕ) → ending-by stop turns size ≡ Refused n → stop ≡ stopped-by n

@@ -10,6 +10,7 @@ use native.Mathlib.Nat.{suc-add, zero-add}
 use native.Mathlib.Omega.{arith}
 use lib.Dec.{ltb}
 use lib.ListN.{length}
+use Rattle.calculus.specs.Profile.{common}
 use Rattle.calculus.specs.Syntax.{at}
 use Rattle.calculus.specs.Typing.{TypeNumbers}
 use Rattle.calculus.specs.Limits.{max-image-length, max-names}
@@ -56,7 +57,7 @@ module _ (m next x y : ℕ) (few : m ≤ max-names) (begin : next ≤ m) (x-ther
       go (no yn) (no xn) (no xy) = omega (arith, ahead-on next x (omega arith), ahead-on (y + 1) x (omega arith))
 
 -- the thread that is stepped is a name of the image
-pub goes-below : {τ : TypeNumbers} {s : State} → Reached τ s → (y : ℕ) {image′ : List ℕ} → look (image-of (s .owned)) y ≡ goes image′ → y < length (s .owned .config)
+pub goes-below : {τ : TypeNumbers} {s : State} → Reached common τ s → (y : ℕ) {image′ : List ℕ} → look (image-of (s .owned)) y ≡ goes image′ → y < length (s .owned .config)
 goes-below r y g = not-resting r y (λ q. clash (cc))
 
 -- a turn of a stretch: it steps another than x, and x goes if it comes round
@@ -100,7 +101,7 @@ later : {t : Turn} {ts : List Turn} {x i n : ℕ} → Sees (t ∷ ts) x (suc i) 
 later {t = t₀} {ts = ts} {i = i} z = record { there = z .there; others = λ j l. let (t, h, f) = z .others j l in (t, ap (at (t₀ ∷ ts)) (sym (suc-add i j)) ∙ h, f) }
 
 -- one that begins with the first turn
-module _ {τ : TypeNumbers} {k next : ℕ} {s : State} {c : Course} (h : Chain τ k next s c) (r : Reached τ s) (l : next ≤ length (s .owned .config)) (x : ℕ) where
+module _ {τ : TypeNumbers} {k next : ℕ} {s : State} {c : Course} (h : Chain τ k next s c) (r : Reached common τ s) (l : next ≤ length (s .owned .config)) (x : ℕ) where
   fair-now : (n : ℕ) → Sees (c .turns) x 0 n → n < max-names
   fair-now zero z = omega arith
   fair-now (suc n) z =

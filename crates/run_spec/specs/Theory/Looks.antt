@@ -7,6 +7,7 @@ use Prim.Native.Nat.{ℕ, _≤_}
 use native.Mathlib.Omega.{arith}
 use lib.Dec.{eqb}
 use lib.ListN.{length, length-replicate, replicate}
+use Rattle.calculus.specs.Profile.{common}
 use Rattle.calculus.specs.Owners.{Owned}
 use Rattle.calculus.specs.Limits.{max-image-length}
 use Rattle.calculus.specs.Causes.{no-thread-cause, room-cause}
@@ -59,8 +60,8 @@ is-long = omega (arith, length-replicate {A = ℕ} max-image-length 0)
 
 module _ (s : List ℕ) (x : ℕ) where
   -- such a buffer's answer
-  answered : outcome-of-reply (step-reply s x max-image-length) ≡ outcome-of s x long-out
-  answered = sym (long-outcome s x long-out is-long)
+  answered : outcome-of-reply (step-reply common s x max-image-length) ≡ outcome-of common s x long-out
+  answered = sym (long-outcome common s x long-out is-long)
 
   -- "that a rule moves and that has room"
   pub goes-iff : GoesAt s x ↔ CanStep s x
@@ -68,11 +69,11 @@ module _ (s : List ℕ) (x : ℕ) where
   goes-iff = (there, back)
     where
       there : GoesAt s x → CanStep s x
-      there (image′, g) = let (k, I′, e, i) = look-goes (step-reply s x max-image-length) g in (k, length (image-of I′), λ out l. long-outcome s x out l ∙ ap outcome-of-reply e)
+      there (image′, g) = let (k, I′, e, i) = look-goes (step-reply common s x max-image-length) g in (k, length (image-of I′), λ out l. long-outcome common s x out l ∙ ap outcome-of-reply e)
 
       back : CanStep s x → GoesAt s x
       back (rule, size, f) =
-          let (I′, e) = answered-rule (step-reply s x max-image-length) (answered ∙ f long-out is-long) in
+          let (I′, e) = answered-rule (step-reply common s x max-image-length) (answered ∙ f long-out is-long) in
           (image-of I′, ap look-of e)
 
   -- "whether one lacked room"
@@ -81,9 +82,9 @@ module _ (s : List ℕ) (x : ℕ) where
   lacks-iff = (there, back)
     where
       there : look s x ≡ lacks-room → OutOfRoom s x
-      there g = let e = look-lacks (step-reply s x max-image-length) g in λ out l. long-outcome s x out l ∙ ap outcome-of-reply e
+      there g = let e = look-lacks (step-reply common s x max-image-length) g in λ out l. long-outcome common s x out l ∙ ap outcome-of-reply e
 
       back : OutOfRoom s x → look s x ≡ lacks-room
       back f =
-          let e = answered-refused (step-reply s x max-image-length) room-cause .0 (answered ∙ f long-out is-long) in
+          let e = answered-refused (step-reply common s x max-image-length) room-cause .0 (answered ∙ f long-out is-long) in
           ap look-of e

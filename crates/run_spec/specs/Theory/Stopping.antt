@@ -5,6 +5,7 @@ use mathlib.Core.Bool.{Bool, cond, false, false≢true, true}
 use Prim.Native.Nat.{ℕ, suc, _<_, _≤_}
 use native.Mathlib.Omega.{arith}
 use lib.ListN.{length}
+use Rattle.calculus.specs.Profile.{common}
 use Rattle.calculus.specs.Typing.{TypeNumbers}
 use Rattle.calculus.specs.State.{State}
 use Rattle.calculus.specs.Theory.Tests.{clash}
@@ -19,7 +20,7 @@ use Rattle.run_spec.specs.Theory.ReachedLooks.{not-resting}
 use Rattle.run_spec.specs.Theory.Chain.{Chain, all-taken, nobody-left, one-turn}
 
 -- nobody goes, of all names
-module _ {τ : TypeNumbers} {s : State} (r : Reached τ s) (next : ℕ) {lacked : Bool} (n : Nobody (image-of (s .owned)) false (going-round (names (image-of (s .owned))) next) lacked) where
+module _ {τ : TypeNumbers} {s : State} (r : Reached common τ s) (next : ℕ) {lacked : Bool} (n : Nobody (image-of (s .owned)) false (going-round (names (image-of (s .owned))) next) lacked) where
   -- a name that does not rest comes round
   round : (x : ℕ) → ¬ (look (image-of (s .owned)) x ≡ rests) → In x (going-round (names (image-of (s .owned))) next)
   round x f = all-round (names (image-of (s .owned))) next x (omega (arith, not-resting r x f, reached-names r))

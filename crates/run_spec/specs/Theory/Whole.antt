@@ -13,7 +13,7 @@ use Rattle.check_spec.specs.Theory.Answers.{refusal-is}
 use Rattle.load_spec.specs.Starting.{starting-image}
 use Rattle.runs.specs.Run.{Call, Follows}
 use Rattle.runs.specs.Theory.Steps.{follows-into}
-use Rattle.demands.specs.Theory.Third.{loaded-is, third-demand}
+use Rattle.demands.specs.Theory.Third.{loaded-is, accepted-demand}
 use Rattle.run_spec.specs.Course.{Course, course-of}
 use Rattle.run_spec.specs.Ending.{ran}
 use Rattle.run_spec.specs.HouseRunner.{HouseRunner, IsChain, TurnsDemand, stepped}
@@ -35,7 +35,7 @@ module _ (file : List ℕ) (b : Bytes file) (v : verdict-of file .refusal ≡ 0)
   is-chain : (out : List ℕ) → max-image-length ≤ length out → (calls : List Call) → Follows (stepped (course-of file k)) calls → IsChain file out (course-of file k) calls
   unfolding starting-image
   is-chain out long calls f =
-      let i = loaded-is file b accepted out long in
+      let i = loaded-is file out accepted long in
       let c = are-steps (recipe-chain file b accepted k) calls f in
       record { begins = rw i (c .begins); as-many = rw i (c .as-many); each = rw i (c .each) }
 
@@ -56,7 +56,7 @@ module _ (file : List ℕ) (b : Bytes file) (v : verdict-of file .refusal ≡ 0)
         all-taken = rw e (both (ends-turns (c .stop) (length (c .turns)) (length (c .last))) (all-turns-iff h));
         followed = λ out long. follows-into out long (stepped c);
         chained = is-chain;
-        demanded = λ out long calls f. third-demand file b v out long calls;
+        demanded = λ out long calls f. accepted-demand file b v out long calls;
         fair = fair-from h (omega arith);
       }
 

@@ -8,6 +8,7 @@ use Rattle.calculus.specs.Reduction.{HANDLE-BIND, Rule as RuleName, number, Red
 use Rattle.calculus.specs.Step.{application}
 use Rattle.calculus.specs.Typing.{TypeNumbers}
 use Rattle.calculus.specs.NewTypes.{function-at}
+use Rattle.calculus.specs.Profile.{Profile}
 use Rattle.calculus.specs.Limits.{max-bays}
 use Rattle.calculus.specs.State.{State}
 use Rattle.calculus.specs.Theory.ConfigRuns.{config-reply}
@@ -35,14 +36,14 @@ bound-there (future-deref-case F s y w e ww h g) q = absurd (omega arith)
 bound-there (case-both F pair t v₁ v₂ e w w′ h) q = absurd (omega arith)
 bound-there (case-both F list t v₁ v₂ e w w′ h) q = absurd (omega arith)
 
-module _ (τ : TypeNumbers) (s : State) (k : Kept max-bays (s .owned)) (c : Call) where
+module _ (p : Profile) (τ : TypeNumbers) (s : State) (k : Kept max-bays (s .owned)) (c : Call) where
   abbrev handed : Step
-  handed = record { image = image-of (s .owned); types = s .names; call = c }
+  handed = record { profile = p; image = image-of (s .owned); types = s .names; call = c }
 
   pub rule-5 : (size : ℕ) → answer handed ≡ Rule (number HANDLE-BIND) size → (z y : ℕ) × Applies handed z × Binds handed y
   rule-5 size e =
-      let (I′, g) = answered-rule (config-reply (s .owned) (call-of c)) (sym (answers τ s k c) ∙ e) in
-      let (r, q, d, w, o) = moved-means (s .owned) (call-of c) g in
+      let (I′, g) = answered-rule (config-reply p (s .owned) (call-of c)) (sym (answers p τ s k c) ∙ e) in
+      let (r, q, d, w, o) = moved-means p (s .owned) (call-of c) g in
       let (z, y, f, h) = bound-there d q in
       let reads = read-again (s .owned) k in
       (z, y, (size, e, rw reads f), (z, (size, e, rw reads f), rw reads h))

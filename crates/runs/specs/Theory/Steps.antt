@@ -14,7 +14,7 @@ use Rattle.calculus.specs.Limits.{max-bays, max-image-length}
 use Rattle.calculus.specs.Causes.{buffer-cause}
 use Rattle.calculus.specs.Typing.{TypeNumbers}
 use Rattle.calculus.specs.NewTypes.{new-types}
-use Rattle.calculus.specs.Image.{within-limits}
+use Rattle.calculus.specs.Profile.{Profile}
 use Rattle.calculus.specs.Theory.ConfigRuns as calculus
 use Rattle.calculus.specs.State.{State}
 use Rattle.calculus.specs.Reply.{Reply, moved, waits, finished, refuses, reply-to}
@@ -54,27 +54,27 @@ answered-goes (waits y) g = tt
 answered-goes finished g = tt
 answered-goes (refuses number) g = g
 
-module _ (τ : TypeNumbers) (s : State) (k : Kept max-bays (s .owned)) (c : Call) where
+module _ (p : Profile) (τ : TypeNumbers) (s : State) (k : Kept max-bays (s .owned)) (c : Call) where
   abbrev handed : Step
-  handed = record { image = image-of (s .owned); types = s .names; call = c }
+  handed = record { profile = p; image = image-of (s .owned); types = s .names; call = c }
 
   reads : config-of (image-of (s .owned)) ≡ s .owned .config
   reads = read-again (s .owned) k
 
-  pub replies : step-reply (image-of (s .owned)) (c .thread) (length (c .out)) ≡ config-reply (s .owned) (call-of c)
+  pub replies : step-reply p (image-of (s .owned)) (c .thread) (length (c .out)) ≡ config-reply p (s .owned) (call-of c)
   unfolding step-reply config-reply
   replies =
       rw (image-written (s .owned) k, image-test-iff (s .owned .config) .1 (k .keeps))
-      (ap (λ (J : Owned). cond (ltb (length (c .out)) max-image-length) (refuses buffer-cause) (reply-to within-limits J (c .thread))) (owned-again (s .owned) k))
+      (ap (λ (J : Owned). cond (ltb (length (c .out)) max-image-length) (refuses buffer-cause) (reply-to p J (c .thread))) (owned-again (s .owned) k))
 
-  pub answers : answer handed ≡ outcome-of-reply (config-reply (s .owned) (call-of c))
+  pub answers : answer handed ≡ outcome-of-reply (config-reply p (s .owned) (call-of c))
   unfolding outcome-of
   answers = ap outcome-of-reply replies
 
   -- it leaves the image of what the calculus's step leaves
-  pub leaves-image : left handed ≡ image-of (calculus.state-after τ s (call-of c) .owned)
+  pub leaves-image : left handed ≡ image-of (calculus.state-after p τ s (call-of c) .owned)
   unfolding outcome-of out-after-step renewed outcome-of-reply out-after-reply state-left
-  leaves-image = ap (λ (q : Reply). renewed (outcome-of-reply q) (λ size. take size (out-after-reply q (c .out))) (image-of (s .owned))) replies ∙ go (config-reply (s .owned) (call-of c))
+  leaves-image = ap (λ (q : Reply). renewed (outcome-of-reply q) (λ size. take size (out-after-reply q (c .out))) (image-of (s .owned))) replies ∙ go (config-reply p (s .owned) (call-of c))
     where
       go : (q : Reply) → renewed (outcome-of-reply q) (λ size. take size (out-after-reply q (c .out))) (image-of (s .owned)) ≡ image-of (state-left τ s (c .thread) q .owned)
       go (moved rule I′) = take-append-seam (image-of I′) (drop (length (image-of I′)) (c .out))
@@ -83,12 +83,12 @@ module _ (τ : TypeNumbers) (s : State) (k : Kept max-bays (s .owned)) (c : Call
       go (refuses number) = refl
 
   -- and its names have the types that the calculus gives them
-  pub leaves-types : types-left τ handed ≡ calculus.state-after τ s (call-of c) .names
+  pub leaves-types : types-left τ handed ≡ calculus.state-after p τ s (call-of c) .names
   unfolding outcome-of renewed outcome-of-reply state-left
   leaves-types =
       ap (λ (q : Reply). renewed (outcome-of-reply q) (λ size. s .names ++ new-types τ (config-of (image-of (s .owned))) (c .thread)) (s .names)) replies
-      ∙ ap (λ (C : Config). renewed (outcome-of-reply (config-reply (s .owned) (call-of c))) (λ size. s .names ++ new-types τ C (c .thread)) (s .names)) reads
-      ∙ go (config-reply (s .owned) (call-of c))
+      ∙ ap (λ (C : Config). renewed (outcome-of-reply (config-reply p (s .owned) (call-of c))) (λ size. s .names ++ new-types τ C (c .thread)) (s .names)) reads
+      ∙ go (config-reply p (s .owned) (call-of c))
     where
       go : (q : Reply) → renewed (outcome-of-reply q) (λ size. s .names ++ new-types τ (s .owned .config) (c .thread)) (s .names) ≡ state-left τ s (c .thread) q .names
       go (moved rule I′) = refl

@@ -93,7 +93,7 @@ put-part-requires c κs =
     let start = k .before .before .before .before in
     let w = start .pre .0 in
     let e = k .by2 .given .1 in
-    let v = has-by (w .movable) e in
+    let v = has-by (w .movable) e .1 in
     (v .onward, (v .inside, omega (arith, v .onward, length-7 (w .movable) e, start .pre .1)))
 
 returns-7 : tie.Need-returns-7

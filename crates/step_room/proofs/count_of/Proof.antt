@@ -11,7 +11,7 @@ use Rattle.step_room.proofs.count_of.Statement.{statement}
 use Rattle.step_room.proofs.count_of.Tie as tie
 
 sub-counted : tie.Need-sub-counted
-sub-counted c = has-by (c .before .before .before .before .pre .movable) (c .before .by2 .given .1) .onward
+sub-counted c = has-by (c .before .before .before .before .pre .movable) (c .before .by2 .given .1) .1 .onward
 
 count-taken-requires : tie.Need-count-taken-requires
 count-taken-requires c κs = let w = c .before .before .before .before .pre in (w, has-by (w .movable) (c .before .by3 .given .1))
@@ -48,7 +48,7 @@ returns-7 c =
     let w = c .before .before .before .before .before .pre in
     let m = w .movable in
     counts _ _ e (c .counted5 .ensures) refl refl refl (omega (arith, length-7 m e, ap length (redex-by m e))) (omega arith) (omega arith)
-    (omega (arith, w .short, has-by m e .inside))
+    (omega (arith, w .short, has-by m e .1 .inside))
 
 returns-8 : tie.Need-returns-8
 unfolding effect-of

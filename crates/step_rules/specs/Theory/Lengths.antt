@@ -44,7 +44,7 @@ module _ {s : List ℕ} {step : Step} (m : Movable s step) where
 
   pub length-7 : {cell from to : ℕ} → step .by ≡ CellExch cell from to → length (effect s step .redex) ≡ to - from
   unfolding effect-of
-  length-7 e = ap length (redex-by e) ∙ copied-length (has-by m e)
+  length-7 e = ap length (redex-by e) ∙ copied-length (has-by m e .1)
 
   -- the whole expression: the bytes that come, for those of the application or case
   pub expression-length : length (expression-after s step) ≡ length-at s (step .thread) + length (effect s step .redex) - (step .meeting .end - step .meeting .at)

@@ -59,7 +59,7 @@ body-stands {s} {a} {t} {e} h =
       fits = fits-lam (h .fits) .1;
     }
 
-length-owners : (s : List ℕ) → length (owners-of s) ≡ names s
+pub length-owners : (s : List ℕ) → length (owners-of s) ≡ names s
 unfolding owners-of
 length-owners s = length-tabulate (names s) (owner-at s)
 

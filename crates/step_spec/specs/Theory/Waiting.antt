@@ -11,7 +11,8 @@ use Rattle.calculus.specs.Owners.{Owned, grown}
 use Rattle.calculus.specs.Reduction.{number}
 use Rattle.calculus.specs.Step.{Answer, rule, waiting, done, no-thread, used-handle, wrong-kind, step-of, Unready, not-done, not-bound}
 use Rattle.calculus.specs.Limits.{max-image-length, max-names}
-use Rattle.calculus.specs.Image.{image-test, limits-test, within-limits}
+use Rattle.calculus.specs.Image.{image-test}
+use Rattle.calculus.specs.Profile.{Profile, room-test}
 use Rattle.calculus.specs.Reply.{Reply, moved, waits, finished, refuses, reply-of, reply-to}
 use Rattle.calculus.specs.Theory.Tests.{and-parts, clash}
 use Rattle.calculus.specs.Theory.Lists.{at-bound}
@@ -47,26 +48,26 @@ waits-for (waits y) e = cc
 waits-for finished e = absurd (clash (cc))
 waits-for (refuses n) e = absurd (clash (cc))
 
-replies-waiting : (left : Config → Owned) (a : Answer) {y : ℕ} → reply-of within-limits left a ≡ waits y → a ≡ waiting y
-unfolding reply-of limits-test
-replies-waiting left (rule r C) {y} e = absurd (go (limits-test C) (moved (number r) (left C)) (λ p. clash (cc)) e)
+replies-waiting : (room : Owned → Bool) (left : Config → Owned) (a : Answer) {y : ℕ} → reply-of room left a ≡ waits y → a ≡ waiting y
+unfolding reply-of
+replies-waiting room left (rule r C) {y} e = absurd (go (room (left C)) (moved (number r) (left C)) (λ p. clash (cc)) e)
   where
     go : (t : Bool) (q : Reply) → ¬ (q ≡ waits y) → cond t q (refuses room-cause) ≡ waits y → ⊥
     go true q n e = n e
     go false q n e = clash (cc)
-replies-waiting left (waiting z) e = cc
-replies-waiting left done e = absurd (clash (cc))
-replies-waiting left no-thread e = absurd (clash (cc))
-replies-waiting left used-handle e = absurd (clash (cc))
-replies-waiting left wrong-kind e = absurd (clash (cc))
+replies-waiting room left (waiting z) e = cc
+replies-waiting room left done e = absurd (clash (cc))
+replies-waiting room left no-thread e = absurd (clash (cc))
+replies-waiting room left used-handle e = absurd (clash (cc))
+replies-waiting room left wrong-kind e = absurd (clash (cc))
 
-pub waiting-small : (s : List ℕ) (x : ℕ) (out : List ℕ) → NameSmall (outcome-of s x out)
+pub waiting-small : (p : Profile) (s : List ℕ) (x : ℕ) (out : List ℕ) → NameSmall (outcome-of p s x out)
 unfolding outcome-of step-reply
-waiting-small s x out = record { small = λ y e. go (ltb (length out) max-image-length) (image-stands s) refl (waits-for (step-reply s x (length out)) e) }
+waiting-small p s x out = record { small = λ y e. go (ltb (length out) max-image-length) (image-stands s) refl (waits-for (step-reply p s x (length out)) e) }
   where
-    go : {y : ℕ} (b t : Bool) → image-stands s ≡ t → cond b (refuses buffer-cause) (cond t (reply-to within-limits (owned-of s) x) (refuses image-cause)) ≡ waits y → y < max-names
-    go true t p e = absurd (clash (cc))
-    go false false p e = absurd (clash (cc))
-    go {y} false true p e =
-        let w = waiting-iff (config-of s) x y .0 (replies-waiting (grown (owned-of s) x) (step-of (config-of s) x) e) in
-        omega (arith, unready-below (config-of s) y (w .1), few-names s p)
+    go : {y : ℕ} (b t : Bool) → image-stands s ≡ t → cond b (refuses buffer-cause) (cond t (reply-to p (owned-of s) x) (refuses image-cause)) ≡ waits y → y < max-names
+    go true t q e = absurd (clash (cc))
+    go false false q e = absurd (clash (cc))
+    go {y} false true q e =
+        let w = waiting-iff (config-of s) x y .0 (replies-waiting (room-test p (owned-of s)) (grown (owned-of s) x) (step-of (config-of s) x) e) in
+        omega (arith, unready-below (config-of s) y (w .1), few-names s q)

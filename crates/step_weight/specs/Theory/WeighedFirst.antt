@@ -6,6 +6,7 @@ use Prim.Native.Nat.{ℕ, _*_, _+_, _-_, _<_, _≤_, suc}
 use native.Mathlib.Decide.{decLt}
 use native.Mathlib.Omega.{arith}
 use lib.ListN.{length, length-set}
+use Rattle.calculus.specs.Profile.{common}
 use Rattle.calculus.specs.Bytes.{Bytes}
 use Rattle.calculus.specs.Limits.{max-image-length, max-nodes}
 use Rattle.calculus.specs.Causes.{room-cause}
@@ -112,28 +113,28 @@ module _ (image : List ℕ) (b : Bytes image) (I : Owned) (io : ImageOf image I)
   fits le = record { few-names = omega (arith, length-set (I .config) x (thread-of (plug F e)), io .rule .limits .few-names); few-nodes = omega (arith, all-told) }
 
   module _ (long : max-image-length ≤ length out) where
-    goes : nodes-all (I .config) + weighed body values ≤ max-nodes + nodes redex → outcome-of image x out ≡ Answers (number by) (length (image-of (grown I x (put (I .config) x F e))))
-    goes le = second-demand .step image b x out .rule (number by) _ .1 (long, I, io, (by, put (I .config) x F e, moves (I .config) x F h p, fits le, refl, refl))
+    goes : nodes-all (I .config) + weighed body values ≤ max-nodes + nodes redex → outcome-of common image x out ≡ Answers (number by) (length (image-of (grown I x (put (I .config) x F e))))
+    goes le = second-demand common .step image b x out .rule (number by) _ .1 (long, I, io, (by, put (I .config) x F e, moves (I .config) x F h p, fits le, refl, refl))
 
-    lacks : max-nodes + nodes redex < nodes-all (I .config) + weighed body values → outcome-of image x out ≡ Refused room-cause
-    lacks lt = second-demand .step image b x out .fifteen .1 (long, I, io, (by, put (I .config) x F e, moves (I .config) x F h p, λ l. omega (arith, l .few-nodes, all-told)))
+    lacks : max-nodes + nodes redex < nodes-all (I .config) + weighed body values → outcome-of common image x out ≡ Refused room-cause
+    lacks lt = second-demand common .step image b x out .fifteen .1 (long, I, io, (by, put (I .config) x F e, moves (I .config) x F h p, λ l. omega (arith, l .few-nodes, all-told)))
 
-    is-room : (outcome-of image x out ≡ Answers (number by) (length (image-of (grown I x (put (I .config) x F e))))) ↔ (nodes-all (I .config) + weighed body values ≤ max-nodes + nodes redex)
+    is-room : (outcome-of common image x out ≡ Answers (number by) (length (image-of (grown I x (put (I .config) x F e))))) ↔ (nodes-all (I .config) + weighed body values ≤ max-nodes + nodes redex)
     is-room = (
       λ q. elim (decLt (max-nodes + nodes redex) (nodes-all (I .config) + weighed body values)) [ yes lt ↦ let r = lacks lt in absurd (clash (cc)) | no n ↦ omega (arith, n) ],
       goes,
     )
 
-    is-no-room : (outcome-of image x out ≡ Refused room-cause) ↔ (max-nodes + nodes redex < nodes-all (I .config) + weighed body values)
+    is-no-room : (outcome-of common image x out ≡ Refused room-cause) ↔ (max-nodes + nodes redex < nodes-all (I .config) + weighed body values)
     is-no-room = (
       λ q. elim (decLt (max-nodes + nodes redex) (nodes-all (I .config) + weighed body values)) [ yes lt ↦ lt | no n ↦ let r = goes (omega (arith, n)) in absurd (clash (cc)) ],
       lacks,
     )
 
 told : (image : List ℕ) → Bytes image → (x : ℕ) (out : List ℕ) (rule size : ℕ) → PutsValues rule →
-    outcome-of image x out ≡ Answers rule size → Means image out (PutIn image x out rule)
+    outcome-of common image x out ≡ Answers rule size → Means image out (PutIn image x out rule)
 told image b x out rule size p q =
-    let demand = second-demand .step image b x out in
+    let demand = second-demand common .step image b x out in
     let (long, I, io, (by, C′, red, lim, n, z)) = demand .rule rule size .0 q in
     let f = found (rw n at p) red in
     let F = f .context in

@@ -5,6 +5,7 @@ use crate::answers::{Implementation, Model, RanAnswer, RULE};
 use crate::comparison::Counts;
 use crate::guard::Guarded;
 use crate::limits;
+use crate::profile::Profile;
 use crate::tool::compare::crash;
 use crate::tool::compare::words::InWords;
 use crate::tool::shared_library::SharedLibrary;
@@ -50,15 +51,8 @@ impl Pair {
     pub fn missing(&self) -> Vec<String> {
         let mut missing = Vec::new();
         for (name, library) in [("A", &self.a), ("B", &self.b)] {
-            if !library.has_load() {
-                missing.push(format!("{name} has no fikarehu_load"));
-            }
-            if !library.has_step() {
-                missing.push(format!("{name} has no fikarehu_step"));
-            }
-            if !library.has_run() {
-                missing.push(format!("{name} has no fikarehu_run"));
-            }
+            let lacking = library.missing().into_iter();
+            missing.extend(lacking.map(|function| format!("{name} has no {function}")));
         }
         missing
     }
@@ -80,24 +74,37 @@ impl Pair {
     }
 
     /// The image, if one was written.
-    pub fn load(&mut self, recipe: &[u8], room: usize) -> Result<Option<Vec<u8>>, Box<Difference>> {
+    pub fn load(
+        &mut self,
+        profile: Profile,
+        recipe: &[u8],
+        room: usize,
+    ) -> Result<Option<Vec<u8>>, Box<Difference>> {
         let placed = self.input.place(recipe);
         let [out_a, out_b] = &mut self.outs;
         let (out_a, out_b) = (patterned(out_a, room), patterned(out_b, room));
-        crash::note_call("load", placed, 0, room);
-        let found = both(|| self.a.load(placed, out_a), || self.b.load(placed, out_b));
+        let call = name_of(profile, ["load", "load_separate"]);
+        crash::note_call(call, placed, 0, room);
+        let found = both(
+            || self.a.load_in(profile, placed, out_a),
+            || self.b.load_in(profile, placed, out_b),
+        );
         let (a, b) = match found {
             (Some(a), Some(b)) => (a, b),
             _ => return Ok(None),
         };
-        count(&mut self.counts.loads, a.refusal);
+        let loads = match profile {
+            Profile::Common => &mut self.counts.loads[..],
+            Profile::Separate => &mut self.counts.separate.loads,
+        };
+        count(loads, a.refusal);
         if a == b && out_a == out_b {
             return Ok(written(out_a, a.length).filter(|_| a.refusal == 0));
         }
         let mut out = pattern(room);
-        let model = Model.load(recipe, &mut out).unwrap_or_default();
+        let model = Model.load_in(profile, recipe, &mut out).unwrap_or_default();
         Err(Box::new(Difference {
-            call: format!("load into {room} bytes"),
+            call: format!("{call} into {room} bytes"),
             recipe: Some(recipe.to_vec()),
             image: None,
             answers: texts(a, b, model),
@@ -108,7 +115,7 @@ impl Pair {
     /// The new image, if a rule was answered. `of` is the recipe that the image came from, and the turn.
     pub fn step(
         &mut self,
-        of: Option<(&[u8], usize)>,
+        (profile, of): (Profile, Option<(&[u8], usize)>),
         image: &[u8],
         thread: u64,
         room: usize,
@@ -116,30 +123,35 @@ impl Pair {
         let placed = self.input.place(image);
         let [out_a, out_b] = &mut self.outs;
         let (out_a, out_b) = (patterned(out_a, room), patterned(out_b, room));
-        crash::note_call("step", placed, thread, room);
+        let call = name_of(profile, ["step", "step_separate"]);
+        crash::note_call(call, placed, thread, room);
         let found = both(
-            || self.a.step(placed, thread, out_a),
-            || self.b.step(placed, thread, out_b),
+            || self.a.step_in(profile, placed, thread, out_a),
+            || self.b.step_in(profile, placed, thread, out_b),
         );
         let (a, b) = match found {
             (Some(a), Some(b)) => (a, b),
             _ => return Ok(None),
         };
-        self.counts.note_step(&a);
+        match profile {
+            Profile::Common => self.counts.note_step(&a),
+            Profile::Separate => self.counts.separate.note_step(image, thread, &a),
+        }
         if a == b && out_a == out_b {
             return Ok(written(out_a, a.length).filter(|_| a.outcome == RULE));
         }
         let mut out = pattern(room);
-        let model = Model.step(image, thread, &mut out).unwrap_or_default();
+        let model = Model.step_in(profile, image, thread, &mut out);
+        let model = model.unwrap_or_default();
         let turn = match of {
             Some((_, turn)) => format!("turn {turn} of a run"),
             None => "an image from outside".to_owned(),
         };
         Err(Box::new(Difference {
-            call: format!("step of thread {thread} into {room} bytes, {turn}"),
+            call: format!("{call} of thread {thread} into {room} bytes, {turn}"),
             recipe: of.map(|(recipe, _)| recipe.to_vec()),
             image: Some(image.to_vec()),
-            answers: texts(a, b, model),
+            answers: texts((profile, a), (profile, b), (profile, model)),
             outs: [out_a.to_vec(), out_b.to_vec(), out],
         }))
     }
@@ -200,6 +212,14 @@ fn told(answer: &RanAnswer, outs: [&[u8]; 2]) -> Vec<u8> {
     let out = outs.get(answer.buffer as usize);
     let image = out.and_then(|out| written(out, answer.length));
     image.unwrap_or_default()
+}
+
+/// Which of a common and a separate function is meant.
+fn name_of(profile: Profile, [common, separate]: [&'static str; 2]) -> &'static str {
+    match profile {
+        Profile::Common => common,
+        Profile::Separate => separate,
+    }
 }
 
 /// A's answer and B's, with a note of who is asked.

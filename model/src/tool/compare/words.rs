@@ -5,6 +5,7 @@ use crate::answers::{
     WAITING,
 };
 use crate::limits::MAX_BAYS;
+use crate::profile::Profile;
 use crate::tool::refusals;
 
 pub trait InWords {
@@ -24,14 +25,16 @@ impl InWords for LoadedAnswer {
     }
 }
 
-impl InWords for SteppedAnswer {
+/// A step's answer, with the profile that it is of.
+impl InWords for (Profile, SteppedAnswer) {
     fn in_words(&self) -> String {
-        let number = self.number;
-        let (first, has_number) = match self.outcome {
+        let (profile, answer) = self;
+        let number = answer.number;
+        let (first, has_number) = match answer.outcome {
             DONE => ("done".to_owned(), false),
             RULE => (format!("rule {number} {}", refusals::rule(number)), true),
             WAITING => (format!("waiting for name {number}"), true),
-            REFUSED => (refused(number), true),
+            REFUSED => (told(number, refusals::in_words_of(*profile, number)), true),
             other => (format!("outcome {other}, which there is not"), false),
         };
         let extra = if has_number || number == 0 {
@@ -39,7 +42,7 @@ impl InWords for SteppedAnswer {
         } else {
             format!(", number {number}")
         };
-        first + &extra + &image(self.length, self.outcome == RULE)
+        first + &extra + &image(answer.length, answer.outcome == RULE)
     }
 }
 
@@ -66,7 +69,11 @@ impl InWords for RanAnswer {
 }
 
 fn refused(number: u32) -> String {
-    format!("refused {number} ({})", refusals::in_words(number))
+    told(number, refusals::in_words(number))
+}
+
+fn told(number: u32, cause: &str) -> String {
+    format!("refused {number} ({cause})")
 }
 
 fn verdict(refusal: u32, bays: u32, types: &[u8; MAX_BAYS]) -> String {

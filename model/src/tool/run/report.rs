@@ -1,11 +1,14 @@
 //! A run as lines of text.
 
 use crate::answers::RanAnswer;
+use crate::causes;
+use crate::profile::Profile;
 use crate::tool::judge;
 use crate::tool::refusals;
 use crate::tool::run::image_view::{ImageView, Vent};
 use crate::tool::run::order::Order;
 use crate::tool::run::runner::{Answer, Ending};
+use crate::tool::run::shares;
 use std::collections::BTreeMap;
 use std::fmt::Write;
 
@@ -107,7 +110,7 @@ pub fn ending(turns: u64, ending: Ending) -> String {
 }
 
 /// How each thread stands, by the bays that they belong to.
-pub fn standings(threads: &[(u64, Answer)], view: ImageView) -> String {
+pub fn standings(profile: Profile, threads: &[(u64, Answer)], view: ImageView) -> String {
     let mut bays: BTreeMap<Option<u8>, Vec<(u64, Answer)>> = BTreeMap::new();
     for (thread, answer) in threads {
         let own = bays.entry(view.owner(*thread)).or_default();
@@ -116,7 +119,7 @@ pub fn standings(threads: &[(u64, Answer)], view: ImageView) -> String {
     let mut text = String::new();
     for (bay, threads) in bays {
         let mut label = bay.map_or(String::new(), |bay| format!("bay {bay}"));
-        for line in standing(&threads, view) {
+        for line in standing(profile, &threads, view) {
             let _ = writeln!(text, "  {label:<6}  {line}");
             label.clear();
         }
@@ -125,7 +128,7 @@ pub fn standings(threads: &[(u64, Answer)], view: ImageView) -> String {
 }
 
 /// The threads of a bay: those that can go, each that waits or is refused, those that are done.
-fn standing(threads: &[(u64, Answer)], view: ImageView) -> Vec<String> {
+fn standing(profile: Profile, threads: &[(u64, Answer)], view: ImageView) -> Vec<String> {
     let all = |these: fn(Answer) -> bool, one: &str, many: &str| {
         let found = threads.iter().filter(|(_, answer)| these(*answer));
         let found: Vec<String> = found.map(|(thread, _)| thread.to_string()).collect();
@@ -141,7 +144,7 @@ fn standing(threads: &[(u64, Answer)], view: ImageView) -> Vec<String> {
     });
     let refused = threads.iter().filter_map(|(thread, answer)| match answer {
         Answer::Refused(number) => {
-            let words = refusals::in_words(*number);
+            let words = refused(profile, *number, (*thread, view));
             Some(format!("thread {thread} is refused {number}: {words}"))
         }
         _ => None,
@@ -154,6 +157,17 @@ fn standing(threads: &[(u64, Answer)], view: ImageView) -> Vec<String> {
     let done = all(|answer| answer == Answer::Done, "is done", "are done");
     let lines = can_go.into_iter().chain(waiting).chain(refused);
     lines.chain(done).collect()
+}
+
+/// The cause of a refused step; of a lack of room in the separate profile, which bay is above its share.
+fn refused(profile: Profile, number: u32, (thread, view): (u64, ImageView)) -> String {
+    let words = refusals::in_words_of(profile, number);
+    match (profile, number) {
+        (Profile::Separate, causes::ROOM) => {
+            shares::lack_of_room(view, thread).unwrap_or_else(|| words.to_owned())
+        }
+        _ => words.to_owned(),
+    }
 }
 
 fn counted(turns: u64) -> String {
@@ -181,7 +195,7 @@ pub fn vents(view: ImageView, bays: usize) -> String {
     text
 }
 
-fn vent_in_words(vent: Vent, view: ImageView) -> String {
+pub fn vent_in_words(vent: Vent, view: ImageView) -> String {
     match vent {
         Vent::Open(value) => setting(value),
         Vent::Named(name, Some(value)) => {

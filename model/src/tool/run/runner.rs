@@ -3,6 +3,7 @@
 use crate::answers::{Implementation, SteppedAnswer, DONE, IDLE, ROOM, RULE, TURNS, WAITING};
 use crate::causes;
 use crate::limits;
+use crate::profile::Profile;
 use crate::tool::run::image_view::ImageView;
 use crate::tool::run::order::Order;
 use std::collections::HashSet;
@@ -72,6 +73,7 @@ pub struct Turn {
 
 pub struct Runner<'a, I: Implementation> {
     implementation: &'a I,
+    profile: Profile,
     pub image: Vec<u8>,
     out: Vec<u8>,
     /// Threads that answered done, which they will do for ever.
@@ -81,9 +83,16 @@ pub struct Runner<'a, I: Implementation> {
 }
 
 impl<'a, I: Implementation> Runner<'a, I> {
+    /// A run that goes on from that image in the common profile.
     pub fn new(implementation: &'a I, image: Vec<u8>) -> Runner<'a, I> {
+        Runner::new_in(Profile::Common, implementation, image)
+    }
+
+    /// The same in that profile.
+    pub fn new_in(profile: Profile, implementation: &'a I, image: Vec<u8>) -> Runner<'a, I> {
         Runner {
             implementation,
+            profile,
             image,
             out: vec![0; limits::MAX_IMAGE],
             finished: HashSet::new(),
@@ -136,7 +145,8 @@ impl<'a, I: Implementation> Runner<'a, I> {
     }
 
     fn step(&mut self, thread: u64) -> Answer {
-        let stepped = self.implementation.step(&self.image, thread, &mut self.out);
+        let implementation = self.implementation;
+        let stepped = implementation.step_in(self.profile, &self.image, thread, &mut self.out);
         let stepped = stepped.unwrap_or_default();
         let answer = Answer::of(&stepped);
         match answer {
@@ -159,7 +169,8 @@ impl<'a, I: Implementation> Runner<'a, I> {
     /// What a thread would answer now.
     pub fn answer(&self, thread: u64) -> Answer {
         let mut out = vec![0; limits::MAX_IMAGE];
-        let stepped = self.implementation.step(&self.image, thread, &mut out);
+        let implementation = self.implementation;
+        let stepped = implementation.step_in(self.profile, &self.image, thread, &mut out);
         Answer::of(&stepped.unwrap_or_default())
     }
 }

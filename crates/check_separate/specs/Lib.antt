@@ -1,0 +1,2 @@
+-- What causes 20 and 21 ask of one bay.
+pub mod Tests

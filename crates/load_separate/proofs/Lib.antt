@@ -1,0 +1,2 @@
+-- the profile's causes, by the tests
+pub mod Causes
