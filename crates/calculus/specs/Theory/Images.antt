@@ -3,7 +3,7 @@ use Rattle.std.specs.Prelude.{◌≡◌, refl, ◌⊎◌, List, [], ◌∷◌, �
 use Rattle.std.proofs.Common.{inl, inr, arith}
 use Rattle.std.proofs.Math.Option.{some}
 use Rattle.calculus.specs.Types.{once, LinType, multiplicity, list_type}
-use Rattle.calculus.specs.Syntax.{Const, unit, num, op, Exp, var, name, const, lam, app, Component, thread_of, holds, open_for, used, awaited, Config, at, EachAll, In, sum_in, sum_all, both, case_of, Value, is_name, is_const, is_exch, is_both}
+use Rattle.calculus.specs.Syntax.{Const, unit, num, op, Exp, var, name, const, lam, app, Component, thread_of, holds, open_for, used, awaited, Config, at, EachAll, In, sum_in, sum_all, both, case_of, Value, is_name, is_const, is_lam, is_exch, is_both}
 use Rattle.calculus.specs.Typing.{TypeNumbers, of_op, fig10_list, split_nil, Derivation, d_const, d_name, d_app, d_both}
 use Rattle.calculus.specs.Reduction.{Rule, Reduces}
 use Rattle.calculus.specs.Names.{OnceName}
@@ -66,6 +66,7 @@ no_once_list {S = S} {C = C} s {α = α} (is_name {k = k}) (d_name n t) = elim (
   | inl (y, h) ↦ let f = s.fits k (open_for y) h in let q = f.1 in clash (cc)
   | inr h ↦ let f = s.fits k used h in let q = f.1 in clash (cc)
 ]
+no_once_list s is_lam d = elim d [ ]
 no_once_list s is_const (d_const n (of_op p f)) = elim f [ ]
 no_once_list s (is_exch w) (d_app split_nil (d_const n (of_op p f)) d) = elim f [ ]
 no_once_list s (is_both w w') (d_both p (fig10_list h) split_nil d d') = no_once_list s w' d'

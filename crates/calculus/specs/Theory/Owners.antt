@@ -189,7 +189,7 @@ module _ {C : Config} (rule : ImageRule C) where
       let old = old_handle C x (thread_of e') z y (λ q. clash (cc)) p₁ in
       set_other C₁ y' y (holds v) (λ e. let q = rule.companions z y old in let r = ap (at C) e in clash (cc)) ∙ own_thread x e' h z y p₁
 
-  pub companions_kept : {C' : Config} {x : ℕ} {r : Rule} → Reduces C x r C' → (z y : ℕ) → at C' z ≡ some (open_for y) → at C' y ≡ some awaited
+  pub companions_kept : {x : ℕ} {C' : Config} {r : Rule} → Reduces C x r C' → (z y : ℕ) → at C' z ≡ some (open_for y) → at C' y ≡ some awaited
   companions_kept {x = x} (beta F t e v w h) z y p = own_thread x _ h z y p
   companions_kept {x = x} (thread_new F t v w h) z y p = one_more x _ _ h z y (λ q. clash (cc)) p
   companions_kept {x = x} (future_deref F k v w wv ww h g) z y p = own_thread x _ h z y p
