@@ -16,14 +16,14 @@ use recipe_file::Edition;
 use term_scan::Part;
 
 // A test of a bay's term: causes 6 (its nesting) and 7.
-#[derive(Drop)]
+#[derive(Clone, Copy)]
 pub enum Test {
     Nesting,
     Scope,
 }
 
 // The types of the bays: whether each has one, whether cause 10 fits none, whether all are many, and their numbers.
-#[derive(Drop)]
+#[derive(Clone, Copy)]
 pub struct BayTypes {
     pub each: bool,
     pub linear: bool,

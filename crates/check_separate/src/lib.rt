@@ -13,7 +13,7 @@ use term::{Form, Front};
 use term_scan::Extent;
 
 // What a bay is asked: that it names only its own setting, and that it starts within its share.
-#[derive(Drop)]
+#[derive(Clone, Copy)]
 pub enum Test {
     OwnSetting,
     WithinShare,

@@ -17,7 +17,7 @@ use recipe_table::Entry;
 use term::{Node, is_case};
 
 // The number of a term's type, and where the term ends; or that it has none.
-#[derive(Drop)]
+#[derive(Clone, Copy)]
 pub enum Typed {
     Has(u8, usize),
     Nothing,

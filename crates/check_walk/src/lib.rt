@@ -21,7 +21,7 @@ const DUE_MARK: u8 = 1;
 const SPENT_MARK: u8 = 2;
 
 // A term has a type with this number, it ends here, and whether cause 10 does not fit; or it has no type.
-#[derive(Drop)]
+#[derive(Clone, Copy)]
 pub enum Walked {
     Has(u8, usize, bool),
     Nothing,

@@ -17,7 +17,6 @@ use step_spec::Outcome;
 use text::{put_decimal, put_verdict_line};
 
 // The lines: the most bytes of one, and of all.
-#[derive(Drop)]
 pub struct Lines {}
 
 impl Lines {
@@ -27,7 +26,7 @@ impl Lines {
 }
 
 // Where the draws are: the state; the length of the present image, its nodes and whether the second buffer holds it; where the next line goes.
-#[derive(Drop)]
+#[derive(Clone, Copy)]
 pub struct At {
     pub state: u32,
     pub length: usize,

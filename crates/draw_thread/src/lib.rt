@@ -12,7 +12,7 @@ use numbers::Image;
 use step_spec::Outcome;
 
 // A draw: the thread that was picked, what came of its step, and the nodes of the image that is left.
-#[derive(Drop)]
+#[derive(Clone, Copy)]
 pub struct Drawn {
     pub thread: usize,
     pub outcome: Outcome,

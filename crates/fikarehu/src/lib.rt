@@ -15,7 +15,7 @@ use step_spec::Outcome;
 
 // What a step came to, in numbers: done; the rule, with the new image's length; the awaited name; the refusal.
 #[repr(C)]
-#[derive(Drop)]
+#[derive(Clone, Copy)]
 pub struct Stepped {
     pub outcome: u32,
     pub number: u32,
@@ -34,7 +34,7 @@ impl Stepped {
 
 // How a run ended, in numbers: the refusal; else why it stopped, the turns taken, and the last image's buffer, 0 for the first and 1 for the second, and length.
 #[repr(C)]
-#[derive(Drop)]
+#[derive(Clone, Copy)]
 pub struct Ran {
     pub refusal: u32,
     pub stop: u32,

@@ -16,7 +16,7 @@ use term_scan::{Extent, Part};
 use term_walk::Frames;
 
 // The number of nodes of an image that keeps every rule and limit, or that it breaks one.
-#[derive(Drop)]
+#[derive(Clone, Copy)]
 pub enum Checked {
     Nodes(usize),
     Broken,

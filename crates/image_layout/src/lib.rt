@@ -12,7 +12,7 @@ use buffer::{put_byte, put_u16, word_at};
 use numbers::{Image, Recipe};
 
 // What the head of a name says, but for where its expression stands.
-#[derive(Drop)]
+#[derive(Clone, Copy)]
 pub struct Head {
     pub kind: u8,
     pub companion: u8,
@@ -20,7 +20,7 @@ pub struct Head {
 }
 
 // Where the next head and the next expression go.
-#[derive(Drop)]
+#[derive(Clone, Copy)]
 pub struct Next {
     pub head: usize,
     pub expression: usize,

@@ -9,7 +9,7 @@ use numbers::{Byte, Term};
 use term::Node;
 
 // Bytes come before the bytes given, with everything that they begin; or they can be gone on from, and whether the bytes given are passed then.
-#[derive(Drop)]
+#[derive(Clone, Copy)]
 pub enum Pass {
     Behind,
     On(bool),

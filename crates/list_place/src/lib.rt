@@ -16,7 +16,7 @@ use term::Node;
 
 // The terms still to come, the next one last: the number of the type that each must have, and how many variables are in scope there. The types of these stand
 // in `env`, outermost first. `spine` applications stand open above the next term.
-#[derive(Drop)]
+#[derive(Clone, Copy)]
 pub struct Place {
     pub wants: [u16; Term::MAX_NODES],
     pub depths: [u8; Term::MAX_NODES],

@@ -4,7 +4,7 @@ use numbers::Term;
 
 // Document 02, T-10: "by value, as a length and 18 bytes with zeros past the length; a refusal, or no more, gives length 0 and zeros".
 #[repr(C)]
-#[derive(Drop)]
+#[derive(Clone, Copy)]
 pub struct NextTerm {
     pub refusal: u32,
     pub length: u32,

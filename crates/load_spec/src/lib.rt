@@ -4,7 +4,7 @@ use numbers::Recipe;
 
 // Document 01: "Accepting answers b and each bay's type number; loading also the image's length". A refusal has its number, and zeros.
 #[repr(C)]
-#[derive(Drop)]
+#[derive(Clone, Copy)]
 pub struct Loaded {
     pub refusal: u32,
     pub bays: u32,

@@ -5,7 +5,6 @@ ghost use Rattle.calculus.specs.Limits.{byte_values};
 ghost use Rattle.numbers.specs.Tables.{recipe_limits, image_limits, load_limits, term_limits, type_kinds, type_entries, image_kinds, rules, causes};
 
 // A byte: how many values it has.
-#[derive(Drop)]
 pub struct Byte {}
 
 impl Byte {
@@ -13,7 +12,6 @@ impl Byte {
 }
 
 // A recipe file: its limits and lengths.
-#[derive(Drop)]
 pub struct Recipe {}
 
 impl Recipe {
@@ -40,7 +38,6 @@ impl Recipe {
 }
 
 // An image: its limits, its lengths, and the kinds of its names.
-#[derive(Drop)]
 pub struct Image {}
 
 impl Image {
@@ -71,7 +68,6 @@ impl Image {
 }
 
 // The input of a test load: the bytes of its seed, those in front of the recipe, and the most draws.
-#[derive(Drop)]
 pub struct TestLoad {}
 
 impl TestLoad {
@@ -83,7 +79,6 @@ impl TestLoad {
 }
 
 // A small term: its fewest and most nodes, and the most bytes.
-#[derive(Drop)]
 pub struct Term {}
 
 impl Term {
@@ -95,7 +90,6 @@ impl Term {
 }
 
 // A type entry: its kinds, and the numbers of the first three entries.
-#[derive(Drop)]
 pub struct Type {}
 
 impl Type {
@@ -125,7 +119,6 @@ impl Type {
 }
 
 // The rules, in Fig. 5's order, then those of Fig. 10.
-#[derive(Drop)]
 pub struct Rule {}
 
 impl Rule {
@@ -149,7 +142,6 @@ impl Rule {
 }
 
 // The causes of a refusal.
-#[derive(Drop)]
 pub struct Cause {}
 
 impl Cause {

@@ -4,7 +4,7 @@ ghost use Rattle.calculus.specs.Bytes.{two_byte_values};
 ghost use Rattle.recipe_file.specs.File.{pair_offset};
 
 // The next pair, and where its part is to begin.
-#[derive(Drop)]
+#[derive(Clone, Copy)]
 pub struct Cursor {
     pub pair: usize,
     pub at: usize,

@@ -17,7 +17,7 @@ pub const OPENING: [u8; 2] = *b"LF";
 
 // An edition of the recipe file: how many node forms and kinds of types it has, the first ones; whether the part behind the type table is the starting part;
 // and from which part on the parts are terms.
-#[derive(Drop)]
+#[derive(Clone, Copy)]
 pub struct Edition {
     pub number: u8,
     pub forms: u8,

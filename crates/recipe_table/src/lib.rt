@@ -13,7 +13,7 @@ use numbers::{Byte, Cause, Recipe, Type};
 use recipe_file::{ENTRY_LENGTH, Edition};
 
 // An entry of the type table.
-#[derive(Drop)]
+#[derive(Clone, Copy)]
 pub struct Entry {
     pub kind: u8,
     pub p: u8,

@@ -10,7 +10,6 @@ use numbers::Image;
 use text::{digit_of, put_verdict_line};
 
 // The two lines: the length of the first if there is a second, and the most of both.
-#[derive(Drop)]
 pub struct Text {}
 
 impl Text {

@@ -13,7 +13,7 @@ use step_rules::Step;
 use step_spec::Outcome;
 
 // What is seen of a name: a thread that goes by a step, to so many names and nodes; one that lacks room; nothing to do; a number to be passed on.
-#[derive(Drop)]
+#[derive(Clone, Copy)]
 pub enum Sight {
     Goes(Step, Size),
     LacksRoom,
@@ -22,7 +22,7 @@ pub enum Sight {
 }
 
 // What looking along some names comes to: the first thread that goes; nobody, and whether one lacked room; a number to be passed on.
-#[derive(Drop)]
+#[derive(Clone, Copy)]
 pub enum Found {
     Goes(usize, Step, Size),
     Nobody(bool),
@@ -30,7 +30,7 @@ pub enum Found {
 }
 
 // Where a run is: the name to be looked at first, the length of the present image, and its nodes.
-#[derive(Drop)]
+#[derive(Clone, Copy)]
 pub struct At {
     pub next: usize,
     pub length: usize,
@@ -38,7 +38,7 @@ pub struct At {
 }
 
 // What a turn comes to: where the run is then; or nobody goes, as in a search.
-#[derive(Drop)]
+#[derive(Clone, Copy)]
 pub enum Taken {
     On(At),
     Nobody(bool),

@@ -13,7 +13,7 @@ use term::Node;
 use term_redex::{Meeting, end_of, is_value};
 
 // A rule goes, a name is waited for, or a cause refuses.
-#[derive(Drop)]
+#[derive(Clone, Copy)]
 pub enum Decision {
     Goes(Step),
     Waits(usize),

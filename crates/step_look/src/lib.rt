@@ -11,7 +11,7 @@ use step_spec::Outcome;
 use term_redex::Place;
 
 // What a look comes to: the thread goes by a step, and the image after it has so many names and nodes; or it stays, and this is answered.
-#[derive(Drop)]
+#[derive(Clone, Copy)]
 pub enum Look {
     Goes(Step, Size),
     Stays(Outcome),

@@ -21,14 +21,14 @@ use term_scan::Extent;
 use term_subst::{Span, Uses, count_uses};
 
 // The nodes and bytes of a term.
-#[derive(Drop)]
+#[derive(Clone, Copy)]
 pub struct Weight {
     pub nodes: usize,
     pub bytes: usize,
 }
 
 // How many names a move brings, how many nodes come and how many go, and how many bytes come in place of the application or case.
-#[derive(Drop)]
+#[derive(Clone, Copy)]
 pub struct Count {
     pub new: usize,
     pub gained: usize,
@@ -37,7 +37,7 @@ pub struct Count {
 }
 
 // The names and nodes of an image, and the bytes of the expression of one of its threads.
-#[derive(Drop)]
+#[derive(Clone, Copy)]
 pub struct Size {
     pub names: usize,
     pub nodes: usize,

@@ -11,7 +11,7 @@ use term_subst::Span;
 
 // A move by a rule of Fig. 5 or by T-03's 8 and 9, with what it needs besides the place: from where to where the value that is copied stands, the handle and
 // its future, the cell and from where to where its value stands, where the second component stands of what is taken apart.
-#[derive(Drop)]
+#[derive(Clone, Copy)]
 pub enum Move {
     Beta,
     ThreadNew,
@@ -25,7 +25,7 @@ pub enum Move {
 }
 
 // A step: the thread that goes, the place in its expression where values meet, and the move.
-#[derive(Drop)]
+#[derive(Clone, Copy)]
 pub struct Step {
     pub thread: usize,
     pub meeting: Meeting,
@@ -34,7 +34,7 @@ pub struct Step {
 
 // T-09: what a step carries into another name than the thread's: that name, the nodes that come to it, and those that it gives to the thread. Where that is
 // nothing, the name is the thread's own.
-#[derive(Drop)]
+#[derive(Clone, Copy)]
 pub struct Carried {
     pub name: usize,
     pub gained: usize,
@@ -96,7 +96,7 @@ pub fn rule_of(by: Move) -> u8
 }
 
 // A body, and the values for the places of its two innermost variables.
-#[derive(Drop)]
+#[derive(Clone, Copy)]
 pub struct Substitution {
     pub body: Span,
     pub inner: Span,

@@ -19,7 +19,7 @@ use step_room::{Size, nodes_at};
 use step_rules::{Carried, Move, Step};
 
 // The names and nodes that each bay owns.
-#[derive(Drop)]
+#[derive(Clone, Copy)]
 pub struct Tally {
     pub names: [usize; Recipe::MAX_BAYS],
     pub nodes: [usize; Recipe::MAX_BAYS],
@@ -27,7 +27,7 @@ pub struct Tally {
 
 // What a step brings to bays and takes from them. The bay of the thread that goes gets names and nodes and gives nodes. So does, with nodes alone, the bay of the name that
 // something is carried into, which may be the same.
-#[derive(Drop)]
+#[derive(Clone, Copy)]
 pub struct Flow {
     pub own: usize,
     pub new: usize,

@@ -1,7 +1,7 @@
 // What a step of one thread of an image answers. The definitions stand in specs/.
 
 // Document 01, "A step": a rule with its number and the new image's length; done; waiting with the name needed; refused with the number.
-#[derive(Drop)]
+#[derive(Clone, Copy)]
 pub enum Outcome {
     Rule(u8, usize),
     Done,

@@ -12,7 +12,7 @@ use step_look::Look;
 use step_spec::Outcome;
 
 // What came of a step, and how many nodes the image has that is left.
-#[derive(Drop)]
+#[derive(Clone, Copy)]
 pub struct Answer {
     pub outcome: Outcome,
     pub nodes: usize,

@@ -28,7 +28,7 @@ use term_redex::Meeting;
 
 // What a step makes of a name: it stays, it is the thread that goes or a new thread (rule 2), it is of a kind and holds the argument, it is an open handle for a
 // future, or it is of a kind and holds nothing.
-#[derive(Drop)]
+#[derive(Clone, Copy)]
 pub enum Change {
     Kept,
     Goes,

@@ -9,7 +9,7 @@ use numbers::Byte;
 
 // What the table of node forms says of a tag: the number of bytes after the tag, the number of subterms, how many variables the last subterm has more than
 // the node, and what the number after the tag refers to.
-#[derive(Drop)]
+#[derive(Clone, Copy)]
 pub struct Form {
     pub operand: u8,
     pub subterms: u8,
@@ -56,7 +56,7 @@ impl Form {
 
 // A node without its subterms: its tag, the number after the tag, the bytes that the two take, how many subterms follow, how many more variables the last of
 // them has, and what the number refers to.
-#[derive(Drop)]
+#[derive(Clone, Copy)]
 pub struct Node {
     pub tag: u8,
     pub arg: usize,
@@ -102,7 +102,7 @@ impl Node {
 }
 
 // The node at the front of some bytes, or that there is none.
-#[derive(Drop)]
+#[derive(Clone, Copy)]
 pub enum Front {
     Is(Node),
     Bad,

@@ -14,7 +14,7 @@ use term::{Form, Front, Node, is_case};
 use term_scan::Extent;
 
 // Where values meet: the application or the case, its second subterm, and where it ends.
-#[derive(Drop)]
+#[derive(Clone, Copy)]
 pub struct Meeting {
     pub at: usize,
     pub second: usize,
@@ -22,14 +22,14 @@ pub struct Meeting {
 }
 
 // A value, or the place where values meet.
-#[derive(Drop)]
+#[derive(Clone, Copy)]
 pub enum Place {
     Done,
     Meet(Meeting),
 }
 
 // What a search of a term comes to: a node in it that is no value, or, past a value, where the term ends.
-#[derive(Drop)]
+#[derive(Clone, Copy)]
 pub enum Stop {
     At(usize),
     Past(usize),

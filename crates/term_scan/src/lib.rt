@@ -17,14 +17,14 @@ use term::{Front, Node};
 use term_walk::{Frames, pass};
 
 // Where a term ends and how many nodes it has, or that there is none.
-#[derive(Drop)]
+#[derive(Clone, Copy)]
 pub enum Extent {
     Ends(usize, usize),
     Refused,
 }
 
 // The number of nodes of bytes that are exactly one term.
-#[derive(Drop)]
+#[derive(Clone, Copy)]
 pub enum Part {
     Nodes(usize),
     NoTerm,

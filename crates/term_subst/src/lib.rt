@@ -36,7 +36,7 @@ fn use_of(refers: u8, arg: usize, depth: usize) -> usize
 }
 
 // The nodes of a term, and how often two variables stand in it: the innermost around it, and the next.
-#[derive(Drop)]
+#[derive(Clone, Copy)]
 pub struct Uses {
     pub nodes: usize,
     pub inner: usize,
@@ -80,7 +80,7 @@ pub fn count_uses(s: &[u8], at: usize) -> Uses
 }
 
 // Bytes of a slice, from one position to another.
-#[derive(Drop)]
+#[derive(Clone, Copy)]
 pub struct Span {
     pub from: usize,
     pub to: usize,

@@ -6,7 +6,6 @@ ghost use Rattle.term_walk.specs.Frames.{max_waits, Passed};
 use numbers::Image;
 
 // The frames of a walk.
-#[derive(Drop)]
 pub struct Frames {}
 
 impl Frames {
