@@ -13,16 +13,16 @@ use Rattle.calculus.specs.Typing.{TypeNumbers}
 use Rattle.calculus.specs.Names.{HasType}
 use Rattle.calculus.specs.Table.{Table, TableRule, type_at}
 use Rattle.calculus.specs.Verdict.{annotated, verdict}
-use Rattle.calculus.specs.Theory.Tests.{and_parts, ltb_sound}
-use Rattle.calculus.specs.Theory.Constants.{Instance}
-use Rattle.calculus.specs.Theory.Verdict.{EachDerived, verdict_derived_iff}
-use Rattle.calculus.specs.Theory.Causes.{Some, Cause7, Cause8, instance_iff, verdict_means}
+use Rattle.calculus.proofs.Theory.Tests.{and_parts, ltb_sound}
+use Rattle.calculus.proofs.Theory.Constants.{Instance}
+use Rattle.calculus.proofs.Theory.Verdict.{EachDerived, verdict_derived_iff}
+use Rattle.calculus.proofs.Theory.Causes.{Some, Cause7, Cause8, instance_iff, verdict_means}
 use Rattle.recipe_table.specs.Entries.{type_table}
 use Rattle.recipe_file.specs.Whole.{file_of, joined, pairs_of}
 use Rattle.image.specs.Configuration.{config_of}
 use Rattle.runs.specs.Run.{Step, left, types_left, image_loaded, types_loaded}
 use Rattle.demands.specs.Demands.{RunDemand, ThirdDemand}
-use Rattle.demands.specs.Theory.Third.{accepted_demand, third_demand}
+use Rattle.demands.proofs.Theory.Third.{accepted_demand, third_demand}
 use Rattle.bay_cases.specs.Cases.{out, call, run_of, kept_handle, cases}
 
 -- what the third demand says of what step n leaves in cell k, where that is usable once

@@ -18,16 +18,16 @@ use Rattle.calculus.specs.Step.{Redex, subject, meet, place, within, rule, wrong
 use Rattle.calculus.specs.Image.{Closed, closed_var, closed_name, closed_const, closed_lam, closed_app, closed_both, closed_case, WithinLimits}
 use Rattle.calculus.specs.Table.{Entry, entry, Table, is_once_kind, ManyEntry, EntryRule, many_pair_rule, many_list_rule, once_pair_rule, once_list_rule, unit_rule, num_rule, cell_rule, once_rule, many_rule, TableRule, read_at, read_entry, one_part, two_parts, type_at}
 use Rattle.calculus.specs.Verdict.{scoped, verdict}
-use Rattle.calculus.specs.Theory.Tests.{clash, and_true, and_parts, eqb_differ}
-use Rattle.calculus.specs.Theory.Lists.{at_bound, at_below}
-use Rattle.calculus.specs.Theory.Tables.{pair_kind, list_kind, view, known, type_at_step, Formed, formed}
-use Rattle.calculus.specs.Theory.TableTest.{KindsBelow, table_test_iff}
-use Rattle.calculus.specs.Theory.Tabulate.{each_below_sound, each_below_complete}
-use Rattle.calculus.specs.Theory.Places.{place_meet, place_value}
-use Rattle.calculus.specs.Theory.Step.{rule_iff, wrong_kind_iff}
-use Rattle.calculus.specs.Theory.Sound.{Sound}
-use Rattle.calculus.specs.Theory.Images.{no_once_list}
-use Rattle.calculus.specs.Theory.Causes.{Some, Cause7, Cause8, Cause9, Cause10, verdict_means}
+use Rattle.calculus.proofs.Theory.Tests.{clash, and_true, and_parts, eqb_differ}
+use Rattle.calculus.proofs.Theory.Lists.{at_bound, at_below}
+use Rattle.calculus.proofs.Theory.Tables.{pair_kind, list_kind, view, known, type_at_step, Formed, formed}
+use Rattle.calculus.proofs.Theory.TableTest.{KindsBelow, table_test_iff}
+use Rattle.calculus.proofs.Theory.Tabulate.{each_below_sound, each_below_complete}
+use Rattle.calculus.proofs.Theory.Places.{place_meet, place_value}
+use Rattle.calculus.proofs.Theory.Step.{rule_iff, wrong_kind_iff}
+use Rattle.calculus.proofs.Theory.Sound.{Sound}
+use Rattle.calculus.proofs.Theory.Images.{no_once_list}
+use Rattle.calculus.proofs.Theory.Causes.{Some, Cause7, Cause8, Cause9, Cause10, verdict_means}
 use Rattle.term.specs.Tree.{forms_below}
 use Rattle.term.specs.Reader.{got, one_term, read_term}
 use Rattle.term.specs.Expressions.{bytes, term_at, const_tree, op_tag, both_tag, case_tag, tree_of, FitsBytes}
@@ -39,14 +39,14 @@ use Rattle.recipe_file.proofs.LaidOut.{laid_iff}
 use Rattle.recipe_table.specs.Entries.{type_table, cause_4}
 use Rattle.check_spec.specs.Bays.{bay_reading, cause_5}
 use Rattle.check_spec.specs.Verdict.{refusal, verdict_of}
-use Rattle.check_spec.specs.Theory.Bays.{part_bytes}
-use Rattle.check_spec.specs.Theory.Answers.{refusal_is}
+use Rattle.check_spec.proofs.Theory.Bays.{part_bytes}
+use Rattle.check_spec.proofs.Theory.Answers.{refusal_is}
 use Rattle.image.specs.Configuration.{image_of}
 use Rattle.step_spec.specs.declared.Outcome.TheVariants.{Rule as Answers, Waiting, Refused}
 use Rattle.step_spec.specs.Stepping.{outcome_of}
 use Rattle.demands.specs.Demands.{Accepted, ImageOf, Means, ThirdDemand}
-use Rattle.demands.specs.Theory.Second.{second_demand}
-use Rattle.demands.specs.Theory.Third.{third_demand}
+use Rattle.demands.proofs.Theory.Second.{second_demand}
+use Rattle.demands.proofs.Theory.Third.{third_demand}
 
 -- an entry of multiplicity once
 abbrev OnceEntry : Table → ℕ → Type 0

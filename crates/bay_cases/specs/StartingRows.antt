@@ -10,7 +10,7 @@ use Rattle.calculus.specs.Image.{nodes, expression_test, is_settled, is_awaited,
 use Rattle.calculus.specs.Table.{test_entry, entry_test, entry_stands, entries_test, same_entry, new_to, distinct_test, entry_is, table_test, one_part, two_parts, read_entry, read_at, read_deep, type_at, is_many}
 use Rattle.calculus.specs.Verdict.{on_function, on_once_function, on_cell, scoped_const, scoped, annotated_const, annotated, const_number, on_number, result_number, applied_number, lambda_number, both_number, case_number, with_components, type_number, outside_many, linear_variable, linear, every, verdict}
 use Rattle.text.specs.Ascii.{decimal, verdict_line}
-use Rattle.buffer.specs.Theory.TwoBytes.{number_of_bytes}
+use Rattle.buffer.proofs.Theory.TwoBytes.{number_of_bytes}
 use Rattle.term.specs.Numbers.{value_of, little_endian}
 use Rattle.term.specs.Forms.{form_of, forms}
 use Rattle.term.specs.Reader.{one_term, read, read_term, of_edition}

@@ -6,4 +6,3 @@ pub mod Same
 pub mod Turns
 -- what the second profile keeps of every image of a run
 pub mod Apart
-pub mod Theory

@@ -2,4 +2,3 @@
 
 -- the buffer after a write, and what every writer promises
 pub mod Written
-pub mod Theory

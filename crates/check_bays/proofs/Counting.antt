@@ -8,7 +8,7 @@ use native.Mathlib.Omega.{arith}
 use lib.ListN.{length, length-drop, length-take}
 use Rattle.calculus.specs.Lists.{sum_below}
 use Rattle.calculus.specs.Limits.{max_file_length}
-use Rattle.calculus.specs.Theory.Tests.{clash}
+use Rattle.calculus.proofs.Theory.Tests.{clash}
 use Rattle.term.specs.Tree.{forms_below}
 use Rattle.term.specs.Reader.{first_tree, Got, got, none, of_edition, one_term, tree_at}
 use Rattle.term.specs.Expressions.{term_of}

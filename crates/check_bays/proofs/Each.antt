@@ -6,8 +6,8 @@ use native.Mathlib.Decide.{dec_lt}
 use native.Mathlib.Numerals.{add-one}
 use native.Mathlib.Omega.{arith}
 use Rattle.calculus.specs.Lists.{each_below, sum_below}
-use Rattle.calculus.specs.Theory.Tests.{and_true}
-use Rattle.calculus.specs.Theory.Tabulate.{each_below_sound}
+use Rattle.calculus.proofs.Theory.Tests.{and_true}
+use Rattle.calculus.proofs.Theory.Tabulate.{each_below_sound}
 
 -- the loop stands at i, and all below passed
 pub record Passed (n : ℕ) (test : ℕ → Bool) (i : ℕ) : Type 0 where

@@ -8,8 +8,8 @@ use lib.ListN.{length}
 use Rattle.calculus.specs.Limits.{max_nesting, max_nodes}
 use Rattle.calculus.specs.Image.{nodes}
 use Rattle.calculus.specs.Verdict.{scoped}
-use Rattle.calculus.specs.Theory.Tests.{leb_sound}
-use Rattle.calculus.specs.Theory.Tabulate.{each_below_sound}
+use Rattle.calculus.proofs.Theory.Tests.{leb_sound}
+use Rattle.calculus.proofs.Theory.Tabulate.{each_below_sound}
 use Rattle.term.specs.Reader.{Good, GoodAt, Got, got, none, of_edition, one_term, read_term}
 use Rattle.term.specs.Expressions.{nesting, term_at}
 use Rattle.term.proofs.Fronts.{is_good}

@@ -9,7 +9,7 @@ use lib.ListN.{length}
 use Rattle.calculus.specs.Lists.{each_below, sum_below}
 use Rattle.calculus.specs.Limits.{max_nesting, max_recipe_nodes}
 use Rattle.calculus.specs.Verdict.{annotated, scoped}
-use Rattle.calculus.specs.Theory.Tests.{clash}
+use Rattle.calculus.proofs.Theory.Tests.{clash}
 use Rattle.term.specs.Tree.{tree_nodes}
 use Rattle.term.specs.Reader.{Got, got, none, of_edition, one_term, read_term, tree_in}
 use Rattle.term.specs.Expressions.{exp_of, nesting, term_at, term_of}

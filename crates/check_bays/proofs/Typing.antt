@@ -11,8 +11,8 @@ use Rattle.calculus.specs.Lists.{each_below, tabulate}
 use Rattle.calculus.specs.Limits.{max_bays}
 use Rattle.calculus.specs.Table.{is_many}
 use Rattle.calculus.specs.Verdict.{on_number}
-use Rattle.calculus.specs.Theory.Tests.{clash}
-use Rattle.calculus.specs.Theory.Tabulate.{filled_to, filled_next, filled_none}
+use Rattle.calculus.proofs.Theory.Tests.{clash}
+use Rattle.calculus.proofs.Theory.Tabulate.{filled_to, filled_next, filled_none}
 use Rattle.recipe_file.specs.File.{bays, term_bytes}
 use Rattle.recipe_table.specs.Entries.{type_table}
 use Rattle.check_types.specs.declared.Typed.TheVariants as typing

@@ -4,4 +4,3 @@
 pub mod Spend
 -- the marks in an array, outermost first
 pub mod Levels
-pub mod Theory

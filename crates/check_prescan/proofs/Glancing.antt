@@ -10,7 +10,7 @@ use Rattle.calculus.specs.Limits.{byte_values, max_nesting}
 use Rattle.calculus.specs.Syntax.{Exp, lam}
 use Rattle.calculus.specs.Table.{Table}
 use Rattle.calculus.specs.Verdict.{annotated, annotated_const}
-use Rattle.calculus.specs.Theory.Tests.{and_parts, clash, ltb_false, ltb_sound}
+use Rattle.calculus.proofs.Theory.Tests.{and_parts, clash, ltb_false, ltb_sound}
 use Rattle.term.specs.declared.Front.{Front}
 use Rattle.term.specs.declared.Front.TheVariants.{Bad, Is}
 use Rattle.term.specs.declared.Node.{Node}

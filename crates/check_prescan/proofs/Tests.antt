@@ -11,7 +11,7 @@ use Rattle.calculus.specs.Syntax.{at}
 use Rattle.calculus.specs.Table as calculus
 use Rattle.calculus.specs.Table.{Table}
 use Rattle.calculus.specs.Verdict.{annotated, annotated_const, is_function_kind, with_components}
-use Rattle.calculus.specs.Theory.Tests.{and_parts, leb_sound, ltb_sound, true_of}
+use Rattle.calculus.proofs.Theory.Tests.{and_parts, leb_sound, ltb_sound, true_of}
 use Rattle.term.specs.declared.Front.{Front}
 use Rattle.term.specs.declared.Front.TheVariants.{Bad, Is}
 use Rattle.term.specs.declared.Node.{Node}

@@ -5,13 +5,13 @@ use mathlib.Core.List.{List, ◌∷◌}
 use Prim.Native.Nat.{ℕ}
 use lib.Dec.{ltb}
 use borrow.Author.Tests.{not-false}
-use Rattle.calculus.specs.Theory.Lowest.{first_cause_front, first_cause_parts, none_fits}
+use Rattle.calculus.proofs.Theory.Lowest.{first_cause_front, first_cause_parts, none_fits}
 use Rattle.calculus.specs.Lowest.{cause, first_cause}
 use Rattle.calculus.specs.Causes.{no_term_cause, term_size_cause, scope_cause, annotation_cause}
 use Rattle.calculus.specs.Lists.{each_below, sum_below}
 use Rattle.calculus.specs.Limits.{max_recipe_nodes}
 use Rattle.calculus.specs.Table.{TableRule}
-use Rattle.calculus.specs.Theory.Tests.{and_parts, leb_complete, leb_sound, ltb_not}
+use Rattle.calculus.proofs.Theory.Tests.{and_parts, leb_complete, leb_sound, ltb_not}
 use Rattle.recipe_file.specs.File.{bays}
 use Rattle.recipe_file.specs.FileRule.{FileRule}
 use Rattle.recipe_table.specs.Entries.{type_table}

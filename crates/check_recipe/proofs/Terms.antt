@@ -7,13 +7,13 @@ use native.Mathlib.Omega.{arith}
 use lib.Dec.{ltb}
 use borrow.Author.Tests.{not-false}
 use Rattle.recipe_file.proofs.LaidOut.{or_parts}
-use Rattle.calculus.specs.Theory.Lowest.{none_fits}
+use Rattle.calculus.proofs.Theory.Lowest.{none_fits}
 use Rattle.calculus.specs.Lowest.{Cause, cause, first_cause}
 use Rattle.calculus.specs.Causes.{no_term_cause, term_size_cause}
 use Rattle.calculus.specs.Lists.{each_below, sum_below}
 use Rattle.calculus.specs.Limits.{max_recipe_nodes}
 use Rattle.calculus.specs.Table.{TableRule}
-use Rattle.calculus.specs.Theory.Tests.{clash, ltb_complete, ltb_false, ltb_not}
+use Rattle.calculus.proofs.Theory.Tests.{clash, ltb_complete, ltb_false, ltb_not}
 use Rattle.recipe_file.specs.File.{bays}
 use Rattle.recipe_file.specs.FileRule.{FileRule}
 use Rattle.term_scan.specs.declared.Part.TheVariants.{Nodes, NoTerm}

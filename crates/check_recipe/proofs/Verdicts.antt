@@ -5,15 +5,15 @@ use mathlib.Core.List.{List, [], ◌++◌, ◌∷◌}
 use Prim.Native.Nat.{ℕ}
 use native.Mathlib.Omega.{arith}
 use lib.ListN.{length}
-use Rattle.calculus.specs.Theory.Lowest.{first_cause_front, first_cause_rest, none_fits}
+use Rattle.calculus.proofs.Theory.Lowest.{first_cause_front, first_cause_rest, none_fits}
 use Rattle.calculus.specs.Lowest.{Cause, cause, first_cause}
 use Rattle.calculus.specs.Causes.{type_cause, linearity_cause, bay_once_cause, starting_cause}
 use Rattle.calculus.specs.Lists.{each_below}
 use Rattle.calculus.specs.Table.{TableRule}
 use Rattle.calculus.specs.Table.{is_many}
 use Rattle.calculus.specs.Verdict.{annotated, linear, on_number, scoped, type_number, type_causes}
-use Rattle.calculus.specs.Theory.Tests.{eqb_differ}
-use Rattle.calculus.specs.Theory.Tabulate.{every_tabulate, length_tabulate}
+use Rattle.calculus.proofs.Theory.Tests.{eqb_differ}
+use Rattle.calculus.proofs.Theory.Tabulate.{every_tabulate, length_tabulate}
 use Rattle.recipe_file.specs.File.{bays}
 use Rattle.recipe_file.specs.Starting.{cause_19, starting_causes}
 use Rattle.recipe_file.specs.FileRule.{FileRule}

@@ -7,7 +7,7 @@ use borrow.Author.Tests.{not-false}
 use lib.ListN.{length}
 use Rattle.calculus.specs.Limits.{max_bays}
 use Rattle.calculus.specs.Image.{nodes}
-use Rattle.calculus.specs.Theory.Tabulate.{each_below_sound}
+use Rattle.calculus.proofs.Theory.Tabulate.{each_below_sound}
 use Rattle.term.specs.Reader.{first_tree, GoodAt, one_term, tree_at}
 use Rattle.term.specs.Expressions.{term_at, term_of}
 use Rattle.term.proofs.Sizes.{nodes_exp}
@@ -16,7 +16,7 @@ use Rattle.recipe_file.specs.File.{bays, edition_of, term_bytes}
 use Rattle.recipe_file.specs.FileRule.{FileRule, HasBay}
 use Rattle.check_spec.specs.Bays.{bay_reading, bay_term, cause_5}
 use Rattle.check_spec.specs.Verdict.{refusal}
-use Rattle.check_spec.specs.Theory.Accepted.{laid_and_started, no_cause_iff}
+use Rattle.check_spec.proofs.Theory.Accepted.{laid_and_started, no_cause_iff}
 use Rattle.check_bays.proofs.Known.{good_of}
 use Rattle.check_separate.specs.Tests.{starting_nodes}
 

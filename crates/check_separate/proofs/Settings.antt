@@ -8,7 +8,7 @@ use lib.ListN.{length}
 use Rattle.calculus.specs.Lists.{each_below, tabulate}
 use Rattle.calculus.specs.Syntax.{Exp}
 use Rattle.calculus.specs.Profile.{names_only, own_settings_test}
-use Rattle.calculus.specs.Theory.Tabulate.{length_tabulate}
+use Rattle.calculus.proofs.Theory.Tabulate.{length_tabulate}
 use Rattle.recipe_file.specs.File.{bays}
 use Rattle.check_spec.specs.Bays.{bay_term, bay_terms}
 use Rattle.load_spec.specs.Loading.{cause_20}

@@ -11,9 +11,9 @@ use Rattle.calculus.specs.Image.{nodes}
 use Rattle.calculus.specs.Owners.{first_owners}
 use Rattle.calculus.specs.Recipe.{loaded, setting_with}
 use Rattle.calculus.specs.Shares.{bay_components, names_share, share_test, shares_test}
-use Rattle.calculus.specs.Theory.Tests.{leb_complete}
-use Rattle.calculus.specs.Theory.Tabulate.{each_below_same, length_tabulate, map_tabulate, tabulate_at}
-use Rattle.calculus.specs.Theory.BaySums.{first_own}
+use Rattle.calculus.proofs.Theory.Tests.{leb_complete}
+use Rattle.calculus.proofs.Theory.Tabulate.{each_below_same, length_tabulate, map_tabulate, tabulate_at}
+use Rattle.calculus.proofs.Theory.BaySums.{first_own}
 use Rattle.recipe_file.specs.File.{bays}
 use Rattle.recipe_file.specs.Starting.{starting_num, starting_nums}
 use Rattle.check_spec.specs.Bays.{bay_term, bay_terms}

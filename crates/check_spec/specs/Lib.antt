@@ -6,4 +6,3 @@ pub mod Bays
 pub mod Verdict
 -- what document 01 and the paper ask of a recipe
 pub mod Recipe
-pub mod Theory

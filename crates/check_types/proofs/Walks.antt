@@ -8,7 +8,7 @@ use Rattle.calculus.specs.Syntax.{at as entry_at}
 use Rattle.calculus.specs.Table.{Entry, Table}
 use Rattle.calculus.specs.Options.{on_some}
 use Rattle.calculus.specs.Verdict.{lambda_number, on_number, type_number}
-use Rattle.calculus.specs.Theory.Tests.{clash}
+use Rattle.calculus.proofs.Theory.Tests.{clash}
 use Rattle.term.specs.declared.Node.{Node}
 use Rattle.term.specs.Reader.{end_at}
 use Rattle.term.specs.Expressions.{leaf_exp, term_at}

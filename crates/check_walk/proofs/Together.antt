@@ -9,7 +9,7 @@ use lib.Dec.{eqb}
 use lib.ListN.{get_or, length, length-set, set}
 use Rattle.calculus.specs.Table as calculus
 use Rattle.calculus.specs.Verdict.{is_function_kind, lambda_number, on_number}
-use Rattle.calculus.specs.Theory.Tests.{clash}
+use Rattle.calculus.proofs.Theory.Tests.{clash}
 use Rattle.term.specs.declared.Node.{Node}
 use Rattle.term.specs.Expressions.{leaf_exp}
 use Rattle.term.proofs.Views.{LeafAt, OneAt, past_first, TwoAt}
@@ -17,7 +17,7 @@ use Rattle.recipe_table.specs.declared.Entry.{Entry}
 use Rattle.recipe_table.specs.Filled.{as_entry}
 use Rattle.check_linearity.specs.Spend.{due_mark, new_mark}
 use Rattle.check_linearity.specs.Levels.{floor_under}
-use Rattle.check_linearity.specs.Theory.Walks.{walked_whole as walk_decides}
+use Rattle.check_linearity.proofs.Theory.Walks.{walked_whole as walk_decides}
 use Rattle.check_types.specs.declared.Typed.TheVariants as typing
 use Rattle.check_types.specs.Entries.{entry_of}
 use Rattle.check_types.specs.Two.{can_open, deciding, opened, scope_inside, second_component, two_number}

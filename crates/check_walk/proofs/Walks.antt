@@ -10,7 +10,7 @@ use lib.ListN.{drop, get_or, length, set}
 use Rattle.calculus.specs.Syntax.{app, at as entry_at, both, case_of, const, Exp, lam, list, name, pair, Shape, unit, var}
 use Rattle.calculus.specs.Table.{Entry, Table}
 use Rattle.calculus.specs.Verdict.{is_function_kind, is_kind_of, second_number, type_number}
-use Rattle.calculus.specs.Theory.Tests.{eqb_complete, eqb_differ, eqb_sound}
+use Rattle.calculus.proofs.Theory.Tests.{eqb_complete, eqb_differ, eqb_sound}
 use Rattle.term.specs.declared.Node.{Node}
 use Rattle.term.specs.Forms.{is_case_tag, variable_tag}
 use Rattle.term.specs.Expressions.{both_tag, case_tag, leaf_exp, leaf_forms, term_at, two_exp, two_forms}
@@ -19,8 +19,8 @@ use Rattle.term.proofs.Table.{every_at}
 use Rattle.term.proofs.Views.{OneAt}
 use Rattle.check_linearity.specs.Spend.{due_mark, new_mark}
 use Rattle.check_linearity.specs.Levels.{floor_under, LinearWalk}
-use Rattle.check_linearity.specs.Theory.Components.{Components, components}
-use Rattle.check_linearity.specs.Theory.Walks.{walked_application, walked_body, walked_both, walked_case, walked_case_body, walked_const, walked_first, walked_first_unused, walked_function, walked_lambda, walked_name, walked_second_unused, walked_subject, walked_unused}
+use Rattle.check_linearity.proofs.Theory.Components.{Components, components}
+use Rattle.check_linearity.proofs.Theory.Walks.{walked_application, walked_body, walked_both, walked_case, walked_case_body, walked_const, walked_first, walked_first_unused, walked_function, walked_lambda, walked_name, walked_second_unused, walked_subject, walked_unused}
 use Rattle.check_types.specs.Entries.{entry_of}
 use Rattle.check_types.specs.Two.{can_open, deciding, is_both_tag, is_list_tag, opened, scope_inside, second_component, shape_of}
 use Rattle.check_types.proofs.Entries.{entry_there}

@@ -12,7 +12,7 @@ use Rattle.calculus.specs.Limits.{max_entries, max_variables}
 use Rattle.calculus.specs.Syntax.{Exp, list, pair}
 use Rattle.calculus.specs.Table.{Table}
 use Rattle.calculus.specs.Verdict.{scoped}
-use Rattle.calculus.specs.Theory.Tests.{and_parts, ltb_sound}
+use Rattle.calculus.proofs.Theory.Tests.{and_parts, ltb_sound}
 use Rattle.term.specs.declared.Node.{Node}
 use Rattle.term.specs.Expressions.{both_tag, case_tag, leaf_exp, nesting, term_at, two_exp, two_forms}
 use Rattle.term.proofs.Leaves.{leaf_variable}

@@ -2,5 +2,3 @@
 
 -- the statements
 pub mod Demands
--- their proofs
-pub mod Theory

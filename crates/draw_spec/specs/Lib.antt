@@ -8,4 +8,3 @@ pub mod Draws
 pub mod Lines
 -- what the request says of every input
 pub mod TestLoad
-pub mod Theory

@@ -77,3 +77,7 @@ max_line_length = 16
 -- the longest text
 abbrev pub max_text_length : ℕ
 max_text_length = max_line_length * max_draws
+
+-- a word of seven letters, a number of three digits, two spaces
+abbrev pub max_outcome_length : ℕ
+max_outcome_length = 12

@@ -12,18 +12,19 @@ use Rattle.calculus.specs.Profile.{common}
 use Rattle.calculus.specs.Image.{nodes_all}
 use Rattle.calculus.specs.Limits.{max_image_length, max_names}
 use Rattle.buffer.specs.Written.{Wrote}
-use Rattle.buffer.specs.Theory.Writes.{known_as}
+use Rattle.buffer.proofs.Theory.Writes.{known_as}
 use Rattle.image.specs.Configuration.{config_of}
 use Rattle.step_spec.specs.declared.Outcome.{Outcome}
 use Rattle.step_spec.specs.declared.Outcome.TheVariants.{Rule}
 use Rattle.step_spec.specs.contracts.Outcome.{the_type}
-use Rattle.step_spec.specs.Theory.Replies.{long_outcome}
-use Rattle.step_spec.specs.Theory.Waiting.{NameSmall, waiting_small}
+use Rattle.step_spec.proofs.Theory.Replies.{long_outcome}
+use Rattle.step_spec.specs.Waiting.{NameSmall}
+use Rattle.step_spec.proofs.Theory.Waiting.{waiting_small}
 use Rattle.draw_spec.specs.State.{drawn}
 use Rattle.draw_spec.specs.Draws.{Draw, image_after, outcome, reply, thread}
 use Rattle.draw_spec.specs.Lines.{line}
-use Rattle.draw_spec.specs.Theory.Alive.{Alive, alive_after, alive_few, picked_listed}
-use Rattle.draw_spec.specs.Theory.Steps.{new_image, new_inside, same_image}
+use Rattle.draw_spec.proofs.Theory.Alive.{Alive, alive_after, alive_few, picked_listed}
+use Rattle.draw_spec.proofs.Theory.Steps.{new_image, new_inside, same_image}
 use Rattle.draw_thread.specs.declared.Drawn.{Drawn}
 use Rattle.draw_thread.specs.Drawing.{Drew, Ready}
 use Rattle.draw_text.specs.declared.At.{At}

@@ -5,11 +5,11 @@ use Prim.Native.Nat.{ℕ, suc, ◌+◌, ◌-◌, ◌*◌, ◌<◌, ◌≤◌}
 use native.Mathlib.Omega.{arith}
 use lib.ListN.{length, length-append}
 use Rattle.buffer.specs.Written.{Wrote}
-use Rattle.buffer.specs.Theory.Writes.{known_as, same, still, then}
+use Rattle.buffer.proofs.Theory.Writes.{known_as, same, still, then}
 use Rattle.draw_spec.specs.State.{drawn}
 use Rattle.draw_spec.specs.Draws.{Draw, draws, image_after, outcome, reply, thread}
 use Rattle.draw_spec.specs.Lines.{line, lines, max_line_length}
-use Rattle.draw_spec.specs.Theory.Lines.{length_line}
+use Rattle.draw_spec.proofs.Theory.Lines.{length_line}
 use Rattle.draw_thread.specs.Drawing.{Ready}
 use Rattle.draw_text.specs.declared.At.{At}
 use Rattle.draw_text.specs.Lines.{Onward, Starts, draw_at, present}

@@ -12,24 +12,24 @@ use Rattle.calculus.specs.Bytes.{Bytes}
 use Rattle.calculus.specs.Causes.{seed_cause, starting_cause}
 use Rattle.calculus.specs.Image.{nodes_all}
 use Rattle.calculus.specs.Limits.{front_length, max_image_length}
-use Rattle.calculus.specs.Theory.Tests.{eqb_complete, eqb_sound}
+use Rattle.calculus.proofs.Theory.Tests.{eqb_complete, eqb_sound}
 use Rattle.buffer.specs.Written.{Wrote}
-use Rattle.buffer.specs.Theory.Writes.{known_as}
+use Rattle.buffer.proofs.Theory.Writes.{known_as}
 use Rattle.text.specs.Ascii.{verdict_line}
 use Rattle.text.specs.Put.{Puts}
-use Rattle.text.specs.Theory.Digits.{length_verdict_line}
-use Rattle.text.specs.Theory.Put.{puts}
+use Rattle.text.proofs.Theory.Digits.{length_verdict_line}
+use Rattle.text.proofs.Theory.Put.{puts}
 use Rattle.check_spec.specs.Verdict.{refusal}
 use Rattle.image.specs.Configuration.{config_of}
 use Rattle.image.specs.Stands.{image_stands}
 use Rattle.load_spec.specs.Starting.{starting_image}
 use Rattle.load_spec.specs.declared.Loaded.{Loaded}
 use Rattle.load_spec.specs.Loading.{loaded_of, out_after_load}
-use Rattle.load_spec.specs.Theory.Told.{image_told, length_inside, refusal_told, refusal_told_small}
+use Rattle.load_spec.proofs.Theory.Told.{image_told, length_inside, refusal_told, refusal_told_small}
 use Rattle.draw_spec.specs.Draws.{draws}
 use Rattle.draw_spec.specs.Lines.{draw_refusal, draws_in, lines, max_text_length, number_in, recipe_in, seed_in, text_of}
-use Rattle.draw_spec.specs.Theory.Alive.{Alive, alive_stands, alive_start}
-use Rattle.draw_spec.specs.Theory.Lines.{length_drawn, recipe_accepted, recipe_refused, text_drawn, text_refused}
+use Rattle.draw_spec.proofs.Theory.Alive.{Alive, alive_stands, alive_start}
+use Rattle.draw_spec.proofs.Theory.Lines.{length_drawn, recipe_accepted, recipe_refused, text_drawn, text_refused}
 use Rattle.draw_text.specs.Lines.{Starts, refusal_of}
 
 module _ (input text : List ℕ) (long : max_text_length ≤ length text) where

@@ -4,10 +4,10 @@ ghost use Rattle.calculus.specs.Bytes.{two_byte_values, word};
 ghost use Rattle.calculus.specs.Limits.{front_length, max_file_length, max_names};
 ghost use Rattle.buffer.specs.Written.{Wrote};
 ghost use Rattle.text.specs.Put.{Puts, PutsInput};
-ghost use Rattle.step_spec.specs.Theory.Waiting.{NameSmall};
+ghost use Rattle.step_spec.specs.Waiting.{NameSmall};
 ghost use Rattle.draw_spec.specs.Draws.{draws};
 ghost use Rattle.draw_spec.specs.Lines.{line, lines, max_line_length, max_text_length, number_in, outcome_text, recipe_in, seed_in, text_of};
-ghost use Rattle.draw_spec.specs.Theory.Lines.{max_outcome_length};
+ghost use Rattle.draw_spec.specs.Lines.{max_outcome_length};
 ghost use Rattle.draw_thread.specs.Drawing.{Ready};
 ghost use Rattle.draw_text.specs.Lines.{Onward, Starts, present, refusal_of};
 

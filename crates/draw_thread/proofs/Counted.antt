@@ -9,9 +9,9 @@ use lib.ListN.{get_or, length, length-append}
 use Rattle.image_layout.specs.Slice.{names}
 use Rattle.image_layout.specs.Layout.{heads_stand}
 use Rattle.image_layout.specs.Readable.{HasHead}
-use Rattle.image_layout.specs.Theory.Reading.{has_head}
+use Rattle.image_layout.proofs.Theory.Reading.{has_head}
 use Rattle.draw_spec.specs.Draws.{has_thread_kind, threads, threads_below}
-use Rattle.draw_spec.specs.Theory.Threads.{counted, none_more, one_more}
+use Rattle.draw_spec.proofs.Theory.Threads.{counted, none_more, one_more}
 
 -- so many threads are among the first x names
 pub record Counted (image : List ℕ) (x count : ℕ) : Type 0 where

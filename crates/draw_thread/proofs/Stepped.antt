@@ -11,11 +11,11 @@ use Rattle.calculus.specs.Reply.{Reply, moved, waits, finished, refuses}
 use Rattle.image.specs.Configuration.{config_of}
 use Rattle.step_spec.specs.declared.Outcome.{Outcome}
 use Rattle.step_spec.specs.Stepping.{out_after_reply, out_after_step, outcome_of, outcome_of_reply, step_reply}
-use Rattle.step_spec.specs.Theory.Replies.{reply_stands}
+use Rattle.step_spec.proofs.Theory.Replies.{reply_stands}
 use Rattle.step_look.specs.Looked.{Stands, reply_in}
 use Rattle.step_thread.specs.Counted.{nodes_after}
 use Rattle.draw_spec.specs.Draws.{image_after}
-use Rattle.draw_spec.specs.Theory.Alive.{alive_stands, moved_reads}
+use Rattle.draw_spec.proofs.Theory.Alive.{alive_stands, moved_reads}
 use Rattle.draw_thread.specs.Drawing.{Present}
 
 module _ {image : List ℕ} {nodes : ℕ} (p : Present image nodes) where

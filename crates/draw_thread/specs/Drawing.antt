@@ -6,7 +6,7 @@ use Rattle.calculus.specs.Limits.{max_image_length}
 use Rattle.image.specs.Configuration.{config_of}
 use Rattle.step_spec.specs.Stepping.{out_after_step, outcome_of, step_reply}
 use Rattle.draw_spec.specs.Draws.{image_after, picked}
-use Rattle.draw_spec.specs.Theory.Alive.{Alive}
+use Rattle.draw_spec.proofs.Theory.Alive.{Alive}
 use Rattle.draw_thread.specs.declared.Drawn.{Drawn}
 
 -- an image that draws come to, with so many nodes

@@ -4,7 +4,7 @@ ghost use Rattle.calculus.specs.Profile.{common, separate};
 ghost use Rattle.check_spec.specs.Verdict.{verdict_of};
 ghost use Rattle.load_spec.specs.Loading as load;
 ghost use Rattle.step_spec.specs.Stepping.{out_after_step, outcome_of};
-ghost use Rattle.step_spec.specs.Theory.Waiting.{NameSmall};
+ghost use Rattle.step_spec.specs.Waiting.{NameSmall};
 ghost use Rattle.run_spec.specs.Ending.{Leaves, ran};
 ghost use Rattle.fikarehu.specs.Numbers.{run_numbers, step_numbers, stopped_numbers};
 

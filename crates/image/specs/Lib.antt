@@ -6,4 +6,3 @@ pub mod Holding
 pub mod Configuration
 -- refusal 13, of any slice
 pub mod Stands
-pub mod Theory

@@ -9,19 +9,19 @@ use lib.ListN.{length}
 use Rattle.calculus.specs.Lists.{each_below, sum_below}
 use Rattle.calculus.specs.Limits.{max_names, max_nodes}
 use Rattle.calculus.specs.Image.{nodes_all}
-use Rattle.calculus.specs.Theory.Tests.{and_parts, and_true, leb_complete, leb_sound}
-use Rattle.calculus.specs.Theory.Tabulate.{each_below_sound, each_below_complete}
+use Rattle.calculus.proofs.Theory.Tests.{and_parts, and_true, leb_complete, leb_sound}
+use Rattle.calculus.proofs.Theory.Tabulate.{each_below_sound, each_below_complete}
 use Rattle.term_scan.specs.declared.Part.TheVariants.{Nodes as some_nodes, NoTerm}
 use Rattle.image_layout.specs.Slice.{names}
 use Rattle.image_layout.specs.Layout.{heads_stand}
-use Rattle.image_layout.specs.Theory.Reading.{has_names}
+use Rattle.image_layout.proofs.Theory.Reading.{has_names}
 use Rattle.image.specs.Configuration.{config_of}
 use Rattle.image.specs.Stands.{image_stands}
 use Rattle.image_check.specs.declared.Checked.TheVariants.{Nodes, Broken}
 use Rattle.image_check.specs.Answer.{checked, pick_checked}
 use Rattle.image_check.specs.Parts.{all_part, expression_stands, nodes_of, pair_stands, pairs_stand}
-use Rattle.image_check.specs.Theory.Names.{config_nodes}
-use Rattle.image_check.specs.Theory.Whole.{Whole, whole_complete, whole_sound}
+use Rattle.image_check.proofs.Theory.Names.{config_nodes}
+use Rattle.image_check.proofs.Theory.Whole.{Whole, whole_complete, whole_sound}
 use Rattle.image_check.proofs.Picks.{picked, unpicked}
 
 module _ (s : List ℕ) where

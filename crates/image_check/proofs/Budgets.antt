@@ -7,13 +7,13 @@ use native.Mathlib.Omega.{arith}
 use lib.Dec.{leb}
 use Rattle.calculus.specs.Lists.{each_below, sum_below}
 use Rattle.calculus.specs.Limits.{max_nodes}
-use Rattle.calculus.specs.Theory.Tests.{and_parts, and_true, leb_complete, leb_sound}
-use Rattle.calculus.specs.Theory.Tabulate.{each_below_sound}
+use Rattle.calculus.proofs.Theory.Tests.{and_parts, and_true, leb_complete, leb_sound}
+use Rattle.calculus.proofs.Theory.Tabulate.{each_below_sound}
 use Rattle.term_scan.specs.declared.Part.TheVariants.{Nodes, NoTerm}
 use Rattle.image_layout.specs.Slice.{names}
 use Rattle.image_layout.specs.Layout.{heads_stand}
 use Rattle.image_check.specs.Parts.{all_part, component_part, expression_stands, Named, nodes_of}
-use Rattle.image_check.specs.Theory.Names.{each_below_next, sum_below_most, sum_below_next}
+use Rattle.image_check.proofs.Theory.Names.{each_below_next, sum_below_most, sum_below_next}
 use Rattle.image_check.proofs.Picks.{pick_none, pick_some}
 use Rattle.image_check.proofs.Components.{part_fallen, part_stood}
 

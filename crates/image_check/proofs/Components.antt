@@ -10,17 +10,17 @@ use lib.Dec.{leb}
 use Rattle.calculus.specs.Syntax.{Exp, sum_in}
 use Rattle.calculus.specs.Step.{place}
 use Rattle.calculus.specs.Image.{expression_test, is_settled, nodes}
-use Rattle.calculus.specs.Theory.Tests.{and_parts, and_true, leb_complete, leb_sound}
+use Rattle.calculus.proofs.Theory.Tests.{and_parts, and_true, leb_complete, leb_sound}
 use Rattle.term.specs.Reader.{GoodAt, one_term, read_term}
 use Rattle.term.specs.Expressions.{term_at}
 use Rattle.term_scan.specs.declared.Part.TheVariants.{Nodes, NoTerm}
 use Rattle.calculus.specs.Kinds.{thread_kind, cell_kind, open_handle_kind, future_kind}
 use Rattle.image_layout.specs.Slice.{kind_at, expression_at}
 use Rattle.image_layout.specs.Readable.{HasHead, HasExpression}
-use Rattle.image_layout.specs.Theory.Reading.{has_expression, has_head}
-use Rattle.image_layout.specs.Theory.Test.{heads_stand_iff}
+use Rattle.image_layout.proofs.Theory.Reading.{has_expression, has_head}
+use Rattle.image_layout.proofs.Theory.Test.{heads_stand_iff}
 use Rattle.image_check.specs.Parts.{component_of, component_part, expression_keeps, expression_part, expression_stands, Named, nodes_of, term_stands}
-use Rattle.image_check.specs.Theory.Names.{cell_component, future_component, open_component, thread_component, used_component}
+use Rattle.image_check.proofs.Theory.Names.{cell_component, future_component, open_component, thread_component, used_component}
 use Rattle.image_check.proofs.Picks.{pick_none, pick_some, picked, unpicked}
 use Rattle.image_check.proofs.Expressions.{part_none, part_reads, Reads, whole_term}
 

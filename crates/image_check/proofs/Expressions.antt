@@ -10,7 +10,7 @@ use Rattle.calculus.specs.Bytes.{Bytes}
 use Rattle.calculus.specs.Limits.{byte_values}
 use Rattle.calculus.specs.Verdict.{scoped}
 use Rattle.calculus.specs.Image.{expression_test, nodes}
-use Rattle.calculus.specs.Theory.Tests.{and_parts, and_true, leb_complete, leb_sound}
+use Rattle.calculus.proofs.Theory.Tests.{and_parts, and_true, leb_complete, leb_sound}
 use Rattle.term.specs.Tree.{Tree, tree_size}
 use Rattle.term.specs.Reader.{end_at, first_rest, first_tree, GoodAt, Got, got, none, one_term, read_term, tree_at}
 use Rattle.term.specs.Expressions.{term_at}

@@ -17,7 +17,7 @@ use Rattle.image_layout.specs.Slice.{names, kind_at, companion_at}
 use Rattle.image_layout.specs.Layout.{heads_stand}
 use Rattle.image.specs.Configuration.{components}
 use Rattle.image_check.specs.Parts.{component_of, handles_below, Named, Tally}
-use Rattle.image_check.specs.Theory.Names.{component_kind, config_handles, open_component, sum_below_next}
+use Rattle.image_check.proofs.Theory.Names.{component_kind, config_handles, open_component, sum_below_next}
 
 -- k of m names have been counted
 pub record Tallied (s : List ℕ) (m k : ℕ) (counts : List ℕ) : Type 0 where

@@ -16,3 +16,4 @@ mod Pairs
 mod Answers
 -- images and broken slices, computed
 mod Cases
+pub mod Theory

@@ -12,16 +12,16 @@ use Rattle.calculus.specs.Syntax.{at}
 use Rattle.calculus.specs.Lists.{each_below}
 use Rattle.calculus.specs.Limits.{max_names}
 use Rattle.calculus.specs.Image.{is_awaited}
-use Rattle.calculus.specs.Theory.Tests.{and_true, false_of, true_of}
-use Rattle.calculus.specs.Theory.Tabulate.{each_below_sound}
+use Rattle.calculus.proofs.Theory.Tests.{and_true, false_of, true_of}
+use Rattle.calculus.proofs.Theory.Tabulate.{each_below_sound}
 use Rattle.calculus.specs.Kinds.{open_handle_kind, future_kind}
 use Rattle.image_layout.specs.Slice.{names, kind_at, companion_at}
 use Rattle.image_layout.specs.Readable.{HasHead}
 use Rattle.image_layout.specs.Layout.{heads_stand}
-use Rattle.image_layout.specs.Theory.Reading.{has_head}
+use Rattle.image_layout.proofs.Theory.Reading.{has_head}
 use Rattle.image.specs.Configuration.{components, config_of}
 use Rattle.image_check.specs.Parts.{component_of, HandlesCounted, pair_stands, pair_keeps, pairs_stand, Tally}
-use Rattle.image_check.specs.Theory.Names.{component_kind, config_at, config_past, each_below_next, future_component, open_component}
+use Rattle.image_check.proofs.Theory.Names.{component_kind, config_at, config_past, each_below_next, future_component, open_component}
 
 -- a name is a future by its kind
 awaited_kind : (s : List ℕ) (y kind : ℕ) → kind_at s y ≡ kind → eqb kind future_kind ≡ is_awaited (some (component_of s y))

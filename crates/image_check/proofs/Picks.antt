@@ -2,7 +2,7 @@
 use mathlib.Core.Path.{◌≡◌, ap, refl, sym}
 use mathlib.Core.Bool.{Bool, false, true}
 use Prim.Native.Nat.{ℕ}
-use Rattle.calculus.specs.Theory.Tests.{clash}
+use Rattle.calculus.proofs.Theory.Tests.{clash}
 use Rattle.term_scan.specs.declared.Part.TheVariants.{Nodes, NoTerm}
 use Rattle.image_check.specs.Parts.{pick_part}
 

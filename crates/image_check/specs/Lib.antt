@@ -4,4 +4,3 @@
 pub mod Answer
 -- its parts: expressions name by name, their nodes, handles and futures
 pub mod Parts
-pub mod Theory

@@ -2,3 +2,4 @@
 pub mod Heads
 -- the pass of `heads_stand`, turn by turn
 pub mod Pass
+pub mod Theory

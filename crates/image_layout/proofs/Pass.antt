@@ -13,7 +13,7 @@ use Rattle.image_layout.specs.Encoded.{head_offset}
 use Rattle.image_layout.specs.Slice.{names, length_at}
 use Rattle.image_layout.specs.Layout.{head_stands, stand_from, heads_stand}
 use Rattle.image_layout.specs.Readable.{HasHead}
-use Rattle.image_layout.specs.Theory.Test.{head_stands_iff}
+use Rattle.image_layout.proofs.Theory.Test.{head_stands_iff}
 
 -- the heads are not inside the slice
 pub no_room : (s : List ℕ) → length s < head_offset (names s) → false ≡ heads_stand s

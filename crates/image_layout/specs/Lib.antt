@@ -10,4 +10,5 @@ pub mod Layout
 pub mod Readable
 -- what a head that is to be written says
 pub mod Heads
-pub mod Theory
+-- room for an image in a buffer
+pub mod Room

@@ -2,4 +2,3 @@
 
 -- the statements
 pub mod Ownership
-pub mod Theory

@@ -11,8 +11,8 @@ use Rattle.calculus.specs.Limits.{byte_values}
 use Rattle.calculus.specs.Syntax.{at, cell, const, exch, handle, op, Op, thread}
 use Rattle.calculus.specs.Table.{is_many, Table}
 use Rattle.calculus.specs.Verdict.{annotated, annotated_const, is_function_kind, on_function}
-use Rattle.calculus.specs.Theory.Lists.{at_bound}
-use Rattle.calculus.specs.Theory.Tests.{and_true, eqb_complete, eqb_differ, eqb_sound, leb_complete, leb_sound, ltb_complete, ltb_false, ltb_not, ltb_sound}
+use Rattle.calculus.proofs.Theory.Lists.{at_bound}
+use Rattle.calculus.proofs.Theory.Tests.{and_true, eqb_complete, eqb_differ, eqb_sound, leb_complete, leb_sound, ltb_complete, ltb_false, ltb_not, ltb_sound}
 use Rattle.term.specs.Forms.{application_tag, cell_tag, form_of, forms, handle_tag, lambda_tag, name_tag, num_tag, subterms_of, tags, unit_tag, variable_tag}
 use Rattle.term.specs.Tree.{HasForm}
 use Rattle.term.specs.Expressions.{leaf_exp, leaf_forms}
@@ -24,7 +24,7 @@ use Rattle.check_types.specs.Entries.{entry_of}
 use Rattle.check_types.specs.Walk.{environment, HasNumber}
 use Rattle.check_types.proofs.Entries.{on_function_is}
 use Rattle.list_spec.specs.Goals.{bounds, Goal, goal, may_use, meets, state, State}
-use Rattle.check_linearity.specs.Theory.Lambdas.{on_function_parts}
+use Rattle.check_linearity.proofs.Theory.Lambdas.{on_function_parts}
 use Rattle.list_place.specs.Places.{want_of}
 use Rattle.list_place.specs.Candidates.{Annotated, arg_in, candidate, codes, has, lambda_stands, leaf_bound, leaf_room, LeafStands, MayStand, tag_in}
 use Rattle.list_place.proofs.Standing.{application_once, application_there, lambda_met, lambda_no_function, lambda_not_met, leaf_met, leaf_no_room, leaf_not_annotated, leaf_not_met, length_environment, not_tried}

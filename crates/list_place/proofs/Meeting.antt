@@ -7,7 +7,7 @@ use lib.Dec.{eqb}
 use Rattle.calculus.specs.Limits.{byte_values}
 use Rattle.calculus.specs.Table.{is_many, Table}
 use Rattle.calculus.specs.Verdict.{is_function_kind}
-use Rattle.calculus.specs.Theory.Tests.{eqb_differ}
+use Rattle.calculus.proofs.Theory.Tests.{eqb_differ}
 use Rattle.recipe_table.specs.declared.Entry.{Entry}
 use Rattle.recipe_table.specs.Filled.{as_entry}
 use Rattle.check_types.specs.Entries.{entry_of}

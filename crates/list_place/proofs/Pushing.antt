@@ -13,7 +13,7 @@ use Rattle.calculus.specs.Syntax.{at}
 use Rattle.calculus.specs.Table as calculus
 use Rattle.calculus.specs.Table.{Table}
 use Rattle.calculus.specs.Verdict.{is_function_kind}
-use Rattle.calculus.specs.Theory.Tests.{and_parts, eqb_differ, ltb_false, ltb_sound}
+use Rattle.calculus.proofs.Theory.Tests.{and_parts, eqb_differ, ltb_false, ltb_sound}
 use Rattle.recipe_table.specs.declared.Entry.{Entry}
 use Rattle.recipe_table.specs.Filled.{as_entry}
 use Rattle.check_types.specs.Entries.{entry_of}

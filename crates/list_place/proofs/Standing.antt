@@ -13,8 +13,8 @@ use Rattle.calculus.specs.Options.{on_some}
 use Rattle.calculus.specs.Syntax.{at, const, num, op, unit, var, name}
 use Rattle.calculus.specs.Table.{Entry, Table}
 use Rattle.calculus.specs.Verdict.{annotated, is_function_kind, on_function, scoped, scoped_const}
-use Rattle.calculus.specs.Theory.Lists.{at_bound}
-use Rattle.calculus.specs.Theory.Tests.{and_true, eqb_complete, eqb_differ, leb_complete, ltb_complete, ltb_false, ltb_not, ltb_sound}
+use Rattle.calculus.proofs.Theory.Lists.{at_bound}
+use Rattle.calculus.proofs.Theory.Tests.{and_true, eqb_complete, eqb_differ, leb_complete, ltb_complete, ltb_false, ltb_not, ltb_sound}
 use Rattle.term.specs.Forms.{application_tag, cell_tag, exch_tag, form_of, forms, handle_tag, lambda_tag, name_tag, num_tag, subterms_of, tags, thread_tag, unit_tag, variable_tag}
 use Rattle.term.specs.Tree.{HasForm}
 use Rattle.term.specs.Expressions.{leaf_exp, leaf_forms}
@@ -23,7 +23,7 @@ use Rattle.check_types.specs.Entries.{entry_of, known_entry}
 use Rattle.check_types.specs.Walk.{environment, HasNumber}
 use Rattle.check_types.proofs.Entries.{on_function_is}
 use Rattle.list_spec.specs.Goals.{arguments, behind_lambda, behind_leaf, bounds, enter, enter_by, Goal, goal, head, leaf_type, may_use, meets, room, state, State, useful, useful_by}
-use Rattle.list_spec.specs.Theory.Complete.{arguments_length}
+use Rattle.list_spec.proofs.Theory.Complete.{arguments_length}
 use Rattle.list_place.specs.Candidates.{arg_in, behind, candidate, has, leaf_room, tag_in}
 use Rattle.list_place.proofs.Pushing.{there}
 

@@ -9,7 +9,7 @@ use lib.ListN.{length}
 use Rattle.calculus.specs.Limits.{byte_values}
 use Rattle.calculus.specs.Table.{Table}
 use Rattle.calculus.specs.Verdict.{annotated, is_function_kind}
-use Rattle.calculus.specs.Theory.Tests.{eqb_differ, leb_sound, ltb_false, ltb_sound}
+use Rattle.calculus.proofs.Theory.Tests.{eqb_differ, leb_sound, ltb_false, ltb_sound}
 use Rattle.term.specs.Forms.{application_tag, cell_tag, handle_tag, lambda_tag, name_tag, num_tag, unit_tag, variable_tag}
 use Rattle.term.specs.Tree.{HasForm}
 use Rattle.term.specs.Expressions.{leaf_exp}

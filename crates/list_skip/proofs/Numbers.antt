@@ -6,7 +6,7 @@ use native.Mathlib.Omega.{arith}
 use lib.Dec.{eqb}
 use Rattle.calculus.specs.Limits.{byte_values}
 use Rattle.calculus.specs.Table.{Table}
-use Rattle.calculus.specs.Theory.Tests.{eqb_complete, eqb_differ, eqb_sound}
+use Rattle.calculus.proofs.Theory.Tests.{eqb_complete, eqb_differ, eqb_sound}
 use Rattle.list_spec.specs.Goals.{meets}
 use Rattle.list_index.specs.Index.{comes_to, in_band, Skips}
 use Rattle.list_place.specs.Places.{want_of}

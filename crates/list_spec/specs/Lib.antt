@@ -12,5 +12,3 @@ pub mod Goals
 pub mod NextTerm
 -- the request, whole
 pub mod SmallRecipes
--- the theorems
-pub mod Theory

@@ -2,3 +2,4 @@
 
 -- the names of a starting image, one by one
 pub mod Names
+pub mod Theory

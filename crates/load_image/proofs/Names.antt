@@ -8,26 +8,27 @@ use lib.Seq.{take_all}
 use Rattle.calculus.specs.Bytes.{Bytes, two_bytes}
 use Rattle.calculus.specs.Limits.{byte_values, max_bays, max_image_length}
 use Rattle.calculus.specs.Lists.{tabulate}
-use Rattle.calculus.specs.Theory.Tests.{ltb_complete, ltb_not}
-use Rattle.calculus.specs.Theory.Tabulate.{tabulate_at, tabulate_same}
+use Rattle.calculus.proofs.Theory.Tests.{ltb_complete, ltb_not}
+use Rattle.calculus.proofs.Theory.Tabulate.{tabulate_at, tabulate_same}
 use Rattle.recipe_file.specs.File.{bays, pair_offset, offset_of, term_bytes}
 use Rattle.recipe_file.specs.Starting.{starting_num}
 use Rattle.recipe_file.specs.FileRule.{FileRule}
 use Rattle.recipe_file.proofs.Inside.{few_parts, pairs_inside, term_is_part}
 use Rattle.check_spec.specs.Verdict.{refusal}
-use Rattle.calculus.specs.Theory.Lists.{get_d_at}
+use Rattle.calculus.proofs.Theory.Lists.{get_d_at}
 use Rattle.buffer.specs.Written.{Wrote}
-use Rattle.buffer.specs.Theory.Writes.{then, known_as}
+use Rattle.buffer.proofs.Theory.Writes.{then, known_as}
 use Rattle.calculus.specs.Kinds.{thread_kind, cell_kind}
 use Rattle.image_layout.specs.Encoded.{Encoded, heads, head_offset, expressions}
 use Rattle.image_layout.specs.Heads.{Says}
-use Rattle.image_layout.specs.Theory.Components.{expressions_append, so_far, so_far_none, so_far_next, length_tabulated}
-use Rattle.image_layout.specs.Theory.Turns.{Room, image_turns}
+use Rattle.image_layout.proofs.Theory.Components.{expressions_append, so_far, so_far_none, so_far_next, length_tabulated}
+use Rattle.image_layout.specs.Room.{Room}
+use Rattle.image_layout.proofs.Theory.Turns.{image_turns}
 use Rattle.load_spec.specs.Starting.{starting_image}
 use Rattle.load_image.specs.Starting.{first_term, setting, setting_bytes, setting_length, bay_thread, starting_at, starting_names}
-use Rattle.load_image.specs.Theory.Parts.{starting_parts, terms_are_end}
-use Rattle.load_spec.specs.Theory.Image.{laid, starting_fits}
-use Rattle.load_image.specs.Theory.Image.{starting_tabulated}
+use Rattle.load_image.proofs.Theory.Parts.{starting_parts, terms_are_end}
+use Rattle.load_spec.proofs.Theory.Image.{laid, starting_fits}
+use Rattle.load_image.proofs.Theory.Image.{starting_tabulated}
 
 -- at most 16 bays
 pub few_bays : {s : List ℕ} → FileRule s → bays s ≤ max_bays

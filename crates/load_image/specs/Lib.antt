@@ -2,4 +2,3 @@
 
 -- the starting image, and its components in bytes
 pub mod Starting
-pub mod Theory

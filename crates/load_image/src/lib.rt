@@ -9,7 +9,7 @@ ghost use Rattle.check_spec.specs.Verdict.{refusal};
 ghost use Rattle.buffer.specs.Written.{Wrote};
 ghost use Rattle.image_layout.specs.Encoded.{heads, head_offset, expressions};
 ghost use Rattle.image_layout.specs.Heads.{Says};
-ghost use Rattle.image_layout.specs.Theory.Turns.{Room};
+ghost use Rattle.image_layout.specs.Room.{Room};
 ghost use Rattle.load_spec.specs.Starting.{starting_image};
 ghost use Rattle.load_image.specs.Starting.{first_term, setting, setting_bytes, setting_length, starting_at, starting_names};
 

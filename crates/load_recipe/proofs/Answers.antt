@@ -10,12 +10,12 @@ use Rattle.calculus.specs.Lowest.{first_cause}
 use Rattle.calculus.specs.Profile.{Profile}
 use Rattle.check_spec.specs.declared.Verdict.{Verdict}
 use Rattle.check_spec.specs.Verdict.{accepted, refusal, verdict_of}
-use Rattle.check_spec.specs.Theory.Answers.{refusal_is, accepted_is}
+use Rattle.check_spec.proofs.Theory.Answers.{refusal_is, accepted_is}
 use Rattle.buffer.specs.Written.{Wrote}
-use Rattle.buffer.specs.Theory.Writes.{beyond}
+use Rattle.buffer.proofs.Theory.Writes.{beyond}
 use Rattle.load_spec.specs.Starting.{starting_image}
 use Rattle.load_spec.specs.declared.Loaded.{Loaded}
-use Rattle.load_spec.specs.Theory.Answers.{checked_first, checked_then, short, long as load_long, loaded_is, not_loaded_is, left_alone, left_loaded}
+use Rattle.load_spec.proofs.Theory.Answers.{checked_first, checked_then, short, long as load_long, loaded_is, not_loaded_is, left_alone, left_loaded}
 use Rattle.load_spec.specs.Loading.{is_loaded, loaded_of, load_refusal, not_loaded, out_after_load, profile_causes}
 
 -- the verdict's number is the refusal

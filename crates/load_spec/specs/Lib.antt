@@ -4,4 +4,3 @@
 pub mod Starting
 -- what is answered, and what is left
 pub mod Loading
-pub mod Theory

@@ -2,4 +2,3 @@
 
 -- document 02, T-07, sentence by sentence
 pub mod StartingValues
-pub mod Theory

@@ -8,7 +8,7 @@ use borrow.Author.Tests.{eq-eqb, eqb-true, eqb-false, ne_eqb, not-true}
 use lib.Dec.{eqb}
 use lib.ListN.{length}
 use Rattle.calculus.specs.Limits.{min_bays, max_bays}
-use Rattle.calculus.specs.Theory.Tests.{and_true, and_parts}
+use Rattle.calculus.proofs.Theory.Tests.{and_true, and_parts}
 use Rattle.recipe_file.specs.File.{parts, bays, pair_offset, offset_of, length_of, pairs_test}
 use Rattle.recipe_file.specs.FileRule.{Between, FileRule}
 

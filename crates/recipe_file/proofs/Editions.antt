@@ -6,7 +6,7 @@ use Prim.Native.Nat.{◌+◌, ◌-◌, ◌<◌, ◌≤◌, suc, zero, ℕ}
 use native.Mathlib.Omega.{arith}
 use lib.ListN.{get_or, length}
 use Rattle.calculus.specs.Limits.{byte_values, max_bays}
-use Rattle.calculus.specs.Theory.Tests.{clash}
+use Rattle.calculus.proofs.Theory.Tests.{clash}
 use Rattle.recipe_file.specs.declared.Edition.{Edition}
 use Rattle.recipe_file.specs.Editions.{edition_1, editions}
 use Rattle.recipe_file.specs.File.{edition_of, table_part}

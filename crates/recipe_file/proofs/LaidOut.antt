@@ -8,9 +8,9 @@ use native.Mathlib.Omega.{arith}
 use borrow.Author.Tests.{eq-eqb, eqb-true, le-ltb, ltb-false, not-false, not-true}
 use lib.Dec.{eqb, ltb}
 use lib.ListN.{get_or, length, take}
-use Rattle.calculus.specs.Theory.Lowest.{none_fits}
+use Rattle.calculus.proofs.Theory.Lowest.{none_fits}
 use Rattle.calculus.specs.Limits.{min_file_length, max_file_length, min_bays, max_bays, min_entries, max_entries}
-use Rattle.calculus.specs.Theory.Tests.{and_true, and_parts}
+use Rattle.calculus.proofs.Theory.Tests.{and_true, and_parts}
 use Rattle.recipe_file.specs.File.{opening, edition_of, parts, bays, table_part, pair_offset, length_of, outside, cause_1, opens, cause_2, pairs_test, entry_length, table_length_test, cause_3, layout_refusal, layout_causes}
 use Rattle.recipe_file.specs.FileRule.{Between, FileRule}
 use Rattle.recipe_file.proofs.Chains.{some_part, chain_sound, chain_complete, chain_first, chain_next, chain_last, chain_some, chain}

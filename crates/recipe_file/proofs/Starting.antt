@@ -12,8 +12,8 @@ use Rattle.calculus.specs.Bytes.{Bytes, two_bytes, word}
 use Rattle.calculus.specs.Limits.{max_bays}
 use Rattle.calculus.specs.Lists.{tabulate}
 use Rattle.calculus.specs.Syntax.{at}
-use Rattle.calculus.specs.Theory.Tests.{clash}
-use Rattle.calculus.specs.Theory.Tabulate.{tabulate_first, tabulate_same, filled_to, filled_all, filled_next, filled_none}
+use Rattle.calculus.proofs.Theory.Tests.{clash}
+use Rattle.calculus.proofs.Theory.Tabulate.{tabulate_first, tabulate_same, filled_to, filled_all, filled_next, filled_none}
 use Rattle.recipe_file.specs.File.{edition_of, bays, length_of, part}
 use Rattle.recipe_file.specs.FileRule.{FileRule}
 use Rattle.recipe_file.specs.Starting.{starting_num_length, nums_bytes, starting_part, starting_bytes, starting_num, cause_19}

@@ -11,7 +11,7 @@ use lib.ListN.{drop, get_or, length, length-set, set}
 use lib.Seq.{get_or-set_other, get_or-set_same}
 use Rattle.calculus.specs.Limits.{max_entries}
 use Rattle.calculus.specs.Table as calculus
-use Rattle.calculus.specs.Theory.Tests.{and_parts, eqb_sound, eqb_complete, equal_from}
+use Rattle.calculus.proofs.Theory.Tests.{and_parts, eqb_sound, eqb_complete, equal_from}
 use Rattle.recipe_table.specs.declared.Entry.{Entry}
 use Rattle.recipe_table.specs.Filled.{unused, as_entry, as_table}
 use Rattle.recipe_table.specs.Keys.{absent, Coded, mark_of, Marked, marks_room}

@@ -10,7 +10,7 @@ use lib.ListN.{get_or, length}
 use Rattle.calculus.specs.Kinds.{num_type_kind, cell_type_kind, many_pair_kind, many_list_kind, unit_entry, num_entry, setting_entry}
 use Rattle.calculus.specs.Limits.{min_entries}
 use Rattle.calculus.specs.Table as calculus
-use Rattle.calculus.specs.Theory.Tests.{and_parts, eqb_sound, ltb_sound}
+use Rattle.calculus.proofs.Theory.Tests.{and_parts, eqb_sound, ltb_sound}
 use Rattle.recipe_table.specs.declared.Entry.{Entry}
 use Rattle.recipe_table.specs.Filled.{unused, as_entry, as_table, stands_at, first_three}
 use Rattle.recipe_table.specs.Rules.{names_test, many_entry, contents_test}

@@ -11,8 +11,8 @@ use Rattle.calculus.specs.Causes.{type_entry_cause}
 use Rattle.calculus.specs.Lowest.{cause}
 use Rattle.calculus.specs.Limits.{min_entries, max_entries}
 use Rattle.calculus.specs.Table.{TableRule, table_test}
-use Rattle.calculus.specs.Theory.Lowest.{first_cause_front, none_fits}
-use Rattle.calculus.specs.Theory.TableTest.{KindsBelow, table_test_iff}
+use Rattle.calculus.proofs.Theory.Lowest.{first_cause_front, none_fits}
+use Rattle.calculus.proofs.Theory.TableTest.{KindsBelow, table_test_iff}
 use Rattle.recipe_file.specs.declared.Edition.{Edition}
 use Rattle.recipe_file.specs.File.{edition_of, entry_length, table_bytes, layout_causes, layout_refusal}
 use Rattle.recipe_file.specs.FileRule.{Between, FileRule}

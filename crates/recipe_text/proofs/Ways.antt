@@ -6,16 +6,16 @@ use native.Mathlib.Omega.{arith}
 use lib.ListN.{length, length-append, take}
 use Rattle.calculus.specs.Limits.{max_file_length, max_image_length}
 use Rattle.buffer.specs.Written.{Wrote}
-use Rattle.buffer.specs.Theory.Writes.{known_as, then}
+use Rattle.buffer.proofs.Theory.Writes.{known_as, then}
 use Rattle.text.specs.Ascii.{verdict_line}
 use Rattle.text.specs.Put.{Puts, Read}
-use Rattle.text.specs.Theory.Digits.{length_accepted, length_verdict_line}
-use Rattle.text.specs.Theory.Put.{puts}
+use Rattle.text.proofs.Theory.Digits.{length_accepted, length_verdict_line}
+use Rattle.text.proofs.Theory.Put.{puts}
 use Rattle.check_spec.specs.Verdict.{refusal}
 use Rattle.load_spec.specs.Starting.{starting_image}
 use Rattle.recipe_text.specs.Text.{image_line, max_text_length, text_of}
-use Rattle.recipe_text.specs.Theory.Digits.{length_image_line}
-use Rattle.recipe_text.specs.Theory.Lines.{text_accepted, text_of_longer, text_refused}
+use Rattle.recipe_text.proofs.Theory.Digits.{length_image_line}
+use Rattle.recipe_text.proofs.Theory.Lines.{text_accepted, text_of_longer, text_refused}
 
 module _ (s text : List ℕ) (long : max_text_length ≤ length text) where
   pub puts_refusal : ¬ (refusal s ≡ 0) → {text' : List ℕ} {r : ℕ} → Wrote text 0 (verdict_line (refusal s)) text' r → Puts max_text_length (text_of s) text r text'

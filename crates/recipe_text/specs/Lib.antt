@@ -2,4 +2,3 @@
 
 -- the text of a recipe, by its bytes
 pub mod Text
-pub mod Theory

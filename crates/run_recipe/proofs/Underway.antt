@@ -13,18 +13,18 @@ use Rattle.calculus.specs.Owners.{Owned}
 use Rattle.calculus.specs.Limits.{max_image_length}
 use Rattle.calculus.specs.Image.{nodes_all}
 use Rattle.calculus.specs.Reply.{Reply, moved, reply_to}
-use Rattle.calculus.specs.Theory.ConfigRuns.{state_after, state_left}
-use Rattle.calculus.specs.Theory.Tests.{eqb_complete, eqb_differ}
+use Rattle.calculus.proofs.Theory.ConfigRuns.{state_after, state_left}
+use Rattle.calculus.proofs.Theory.Tests.{eqb_complete, eqb_differ}
 use Rattle.image_layout.specs.Slice.{names}
 use Rattle.image.specs.Configuration.{image_of, owned_of}
 use Rattle.step_look.specs.Looked.{Stands}
 use Rattle.run_spec.specs.declared.Ending.TheVariants.{Turns, Refused}
 use Rattle.run_spec.specs.Course.{Course, Search, Stop, all_turns, found, idle, met, no_room, nobody, one_after, stopped_by, search_from, stopped, take_turns, turning}
 use Rattle.run_spec.specs.Ending.{ending_by, ending_of, ends_in_first}
-use Rattle.demands.specs.Theory.Reached.{long_reply, reached_after, reached_names, reached_owned, reached_reads, reached_stands, stepping}
-use Rattle.run_spec.specs.Theory.ReachedLooks.{grows}
-use Rattle.run_spec.specs.Theory.Chain.{turn_goes}
-use Rattle.run_spec.specs.Theory.Fair.{goes_below}
+use Rattle.demands.proofs.Theory.Reached.{long_reply, reached_after, reached_names, reached_owned, reached_reads, reached_stands, stepping}
+use Rattle.run_spec.proofs.Theory.ReachedLooks.{grows}
+use Rattle.run_spec.proofs.Theory.Chain.{turn_goes}
+use Rattle.run_spec.proofs.Theory.Fair.{goes_below}
 use Rattle.run_turn.specs.declared.At.{At}
 use Rattle.run_turn.specs.declared.Taken.{Taken}
 use Rattle.run_turn.specs.declared.Taken.TheVariants.{Met, Nobody, On}

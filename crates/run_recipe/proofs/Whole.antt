@@ -14,7 +14,7 @@ use Rattle.calculus.specs.Causes.{buffer_cause}
 use Rattle.calculus.specs.Limits.{max_image_length}
 use Rattle.calculus.specs.Image.{nodes_all}
 use Rattle.calculus.specs.Table.{type_at}
-use Rattle.calculus.specs.Theory.Tests.{ltb_not}
+use Rattle.calculus.proofs.Theory.Tests.{ltb_not}
 use Rattle.recipe_table.specs.Entries.{type_table}
 use Rattle.check_spec.specs.Verdict.{refusal}
 use Rattle.image.specs.Configuration.{config_of}
@@ -22,14 +22,14 @@ use Rattle.image.specs.Stands.{image_stands}
 use Rattle.load_spec.specs.Starting.{starting_image, starting_state}
 use Rattle.load_spec.specs.declared.Loaded.{Loaded}
 use Rattle.load_spec.specs.Loading.{load_refusal, loaded_of, out_after_load}
-use Rattle.load_spec.specs.Theory.Told.{image_told, length_inside, length_told}
-use Rattle.load_spec.specs.Theory.Answers.{left_alone, load_refusal_is}
+use Rattle.load_spec.proofs.Theory.Told.{image_told, length_inside, length_told}
+use Rattle.load_spec.proofs.Theory.Answers.{left_alone, load_refusal_is}
 use Rattle.run_spec.specs.declared.Ending.{Ending}
 use Rattle.run_spec.specs.declared.Ending.TheVariants.{Refused}
 use Rattle.run_spec.specs.Course.{Course, course_of, take_turns}
 use Rattle.run_spec.specs.Ending.{Leaves, ending_of, ends_in_first, ran, run_refusal}
-use Rattle.demands.specs.Theory.Reached.{reached_reads, reached_stands, reached_start}
-use Rattle.run_spec.specs.Theory.Ends.{ran_course, ran_number, ran_refused, run_accepted, run_short, unless_unwritten, unless_written}
+use Rattle.demands.proofs.Theory.Reached.{reached_reads, reached_stands, reached_start}
+use Rattle.run_spec.proofs.Theory.Ends.{ran_course, ran_number, ran_refused, run_accepted, run_short, unless_unwritten, unless_written}
 use Rattle.run_recipe.specs.Running.{Holds, Starts}
 
 -- what is answered, and what is left

@@ -11,7 +11,7 @@ use Rattle.step_look.specs.Looked.{Stands}
 use Rattle.run_turn.specs.declared.At.{At}
 use Rattle.run_spec.specs.Course.{Course}
 use Rattle.run_spec.specs.Ending.{ends_in_first}
-use Rattle.demands.specs.Theory.Reached.{Reached}
+use Rattle.demands.proofs.Theory.Reached.{Reached}
 
 -- a turn can be taken from the buffer that holds the present image, the second if `odd`, into the other
 pub record Ready (odd : Bool) (at : At) (first second : List ℕ) : Type 0 where

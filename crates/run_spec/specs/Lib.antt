@@ -6,4 +6,3 @@ pub mod Course
 pub mod Ending
 -- what the request says of every run, sentence by sentence
 pub mod HouseRunner
-pub mod Theory

@@ -12,7 +12,7 @@ use Rattle.image_layout.specs.Slice.{names}
 use Rattle.step_rules.specs.declared.Step.{Step}
 use Rattle.step_room.specs.declared.Size.{Size}
 use Rattle.run_spec.specs.Course.{Look, Search, going_round, look, look_along, looking_on, search_from, upward}
-use Rattle.run_spec.specs.Theory.Searching.{going_on, search_append}
+use Rattle.run_spec.proofs.Theory.Searching.{going_on, search_append}
 use Rattle.run_turn.specs.declared.Sight.TheVariants.{Goes as SightGoes, LacksRoom, Rests, PassesOn}
 use Rattle.run_turn.specs.declared.Found.{Found}
 use Rattle.run_turn.specs.declared.Found.TheVariants.{Goes, Nobody, Met}

@@ -12,18 +12,18 @@ use Rattle.calculus.specs.Reduction.{number}
 use Rattle.calculus.specs.Limits.{max_image_length, max_names}
 use Rattle.calculus.specs.Image.{limits_test}
 use Rattle.calculus.specs.Reply.{reply_of}
-use Rattle.calculus.specs.Theory.Tests.{clash}
-use Rattle.calculus.specs.Theory.Lists.{at_past}
-use Rattle.calculus.specs.Theory.Step.{no_thread_iff}
-use Rattle.calculus.specs.Theory.ImageTest.{limits_test_iff}
+use Rattle.calculus.proofs.Theory.Tests.{clash}
+use Rattle.calculus.proofs.Theory.Lists.{at_past}
+use Rattle.calculus.proofs.Theory.Step.{no_thread_iff}
+use Rattle.calculus.proofs.Theory.ImageTest.{limits_test_iff}
 use Rattle.buffer.specs.Written.{Wrote}
-use Rattle.buffer.specs.Theory.Writes.{beyond}
+use Rattle.buffer.proofs.Theory.Writes.{beyond}
 use Rattle.image_layout.specs.Slice.{names}
 use Rattle.image.specs.Configuration.{config_of, image_of, owned_of}
 use Rattle.image.specs.Stands.{image_stands}
-use Rattle.image.specs.Theory.Exactly.{length_config}
-use Rattle.image.specs.Theory.Lengths.{within_length}
-use Rattle.image_check.specs.Theory.Whole.{whole_sound}
+use Rattle.image.proofs.Theory.Exactly.{length_config}
+use Rattle.image.proofs.Theory.Lengths.{within_length}
+use Rattle.image_check.proofs.Theory.Whole.{whole_sound}
 use Rattle.step_rules.specs.declared.Step.{Step}
 use Rattle.step_rules.specs.Effects.{rule_of}
 use Rattle.step_rules.specs.Moves.{image_after}

@@ -2,4 +2,3 @@
 
 -- a run in bytes
 pub mod Run
-pub mod Theory

@@ -4,4 +4,3 @@
 pub mod Histories
 -- the sentences
 pub mod SeparateBays
-pub mod Theory

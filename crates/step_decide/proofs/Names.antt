@@ -5,17 +5,17 @@ use mathlib.Core.Option.{some}
 use mathlib.Core.List.{List}
 use Prim.Native.Nat.{ℕ, ◌≤◌, ◌<◌}
 use native.Mathlib.Omega.{arith}
-use Rattle.image.specs.Theory.Exactly.{companion_is, kind_is, length_config}
+use Rattle.image.proofs.Theory.Exactly.{companion_is, kind_is, length_config}
 use Rattle.calculus.specs.Bytes.{Bytes}
 use Rattle.calculus.specs.Syntax.{Exp, Component, thread_of, holds, open_for, used, awaited, at}
-use Rattle.calculus.specs.Theory.Lists.{at_below}
+use Rattle.calculus.proofs.Theory.Lists.{at_below}
 use Rattle.calculus.specs.Kinds.{thread_kind, cell_kind, open_handle_kind, used_handle_kind, future_kind}
 use Rattle.image_layout.specs.Slice.{names, kind_at, companion_at, owner_at}
 use Rattle.image_layout.specs.Readable.{HasHead}
-use Rattle.image_layout.specs.Theory.Reading.{has_head}
+use Rattle.image_layout.proofs.Theory.Reading.{has_head}
 use Rattle.image.specs.Configuration.{encode, config_of}
 use Rattle.image.specs.Stands.{image_stands}
-use Rattle.step_rules.specs.Theory.Reading.{heads_do}
+use Rattle.step_rules.proofs.Theory.Reading.{heads_do}
 
 -- what a name's head says, and its component
 pub data Kind (s : List ℕ) (y : ℕ) : ℕ → Type 0 where

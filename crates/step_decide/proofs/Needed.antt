@@ -11,20 +11,20 @@ use Rattle.calculus.specs.Reduction.{Context}
 use Rattle.calculus.specs.Names.{count}
 use Rattle.calculus.specs.Step.{Answer, application, Place, Redex, settled, meet, loose, subject, waiting, used_handle, wrong_kind, when_done, step_of, step_redex, step_meeting, step_call, step_case, step_exchange, step_subject, place}
 use Rattle.calculus.specs.Image.{is_settled}
-use Rattle.calculus.specs.Theory.Tests.{eqb_complete}
+use Rattle.calculus.proofs.Theory.Tests.{eqb_complete}
 use Rattle.calculus.specs.Kinds.{thread_kind, cell_kind, open_handle_kind, used_handle_kind, future_kind}
 use Rattle.term.proofs.Expressions.{found_at}
 use Rattle.image_layout.specs.Slice.{kind_at, companion_at}
 use Rattle.image_layout.specs.Readable.{HasHead}
 use Rattle.image.specs.Configuration.{config_of}
 use Rattle.term_redex.specs.declared.Meeting.{Meeting}
-use Rattle.calculus.specs.Theory.ImageTest.{settled_value}
+use Rattle.calculus.proofs.Theory.ImageTest.{settled_value}
 use Rattle.step_rules.specs.Meets.{MeetsAt, step_at, dereferenced, exchanged}
 use Rattle.step_rules.specs.declared.Move.TheVariants.{HandleBind}
 use Rattle.step_rules.specs.Stepped.{Stepped}
-use Rattle.step_rules.specs.Theory.Reading.{below, thread_stands}
-use Rattle.step_rules.specs.Theory.Rules.{deref_moves, deref_case_moves, deref_exch_moves, bind_moves, exchange_moves}
-use Rattle.step_rules.specs.Theory.Found.{name_there}
+use Rattle.step_rules.proofs.Theory.Reading.{below, thread_stands}
+use Rattle.step_rules.proofs.Theory.Rules.{deref_moves, deref_case_moves, deref_exch_moves, bind_moves, exchange_moves}
+use Rattle.step_rules.proofs.Theory.Found.{name_there}
 use Rattle.step_decide.specs.Asked.{Calls, ExchangesName, Follows, TakesName}
 use Rattle.step_decide.proofs.Names.{Kind, head_there, kind_there, as_thread, as_cell, as_open, as_used, as_future, few_kinds}
 

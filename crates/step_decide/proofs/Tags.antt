@@ -23,9 +23,9 @@ use Rattle.step_rules.specs.Positions.{application_length, case_length, to_calle
 use Rattle.step_rules.specs.Meets.{Deciding, MeetsAt, step_at}
 use Rattle.step_rules.specs.declared.Move.TheVariants.{Beta, ThreadNew, HandleNew, CellNew, CasePair, CaseList}
 use Rattle.step_rules.specs.Stepped.{Stepped}
-use Rattle.step_rules.specs.Theory.Rules.{beta_moves, case_moves, thread_moves, handle_moves, cell_moves}
-use Rattle.step_rules.specs.Theory.Found.{FoundMeeting, found_meets}
-use Rattle.step_rules.specs.Theory.Writers.{size_positive}
+use Rattle.step_rules.proofs.Theory.Rules.{beta_moves, case_moves, thread_moves, handle_moves, cell_moves}
+use Rattle.step_rules.proofs.Theory.Found.{FoundMeeting, found_meets}
+use Rattle.step_rules.proofs.Theory.Writers.{size_positive}
 use Rattle.step_decide.specs.Asked.{Applies, Calls, Exchanges, ExchangesName, TakesApart, TakesBoth, TakesName}
 
 -- the bytes of a term that stands at a position

@@ -18,8 +18,8 @@ use Rattle.calculus.specs.Image.{limits_test, nodes_all, within_limits}
 use Rattle.calculus.specs.Reply.{reply_of}
 use Rattle.calculus.specs.Causes.{no_thread_cause, room_cause}
 use Rattle.calculus.specs.Kinds.{thread_kind}
-use Rattle.calculus.specs.Theory.Tests.{and_parts, and_true, clash, eqb_complete, eqb_sound, ltb_complete, ltb_not, ltb_sound}
-use Rattle.calculus.specs.Theory.Step.{no_thread_iff}
+use Rattle.calculus.proofs.Theory.Tests.{and_parts, and_true, clash, eqb_complete, eqb_sound, ltb_complete, ltb_not, ltb_sound}
+use Rattle.calculus.proofs.Theory.Step.{no_thread_iff}
 use Rattle.term.specs.Expressions.{term_at}
 use Rattle.term.proofs.Expressions.{found_at}
 use Rattle.image_layout.specs.Slice.{kind_at, names, offset_at}
@@ -28,15 +28,15 @@ use Rattle.image.specs.Stands.{image_stands}
 use Rattle.step_rules.specs.declared.Step.{Step}
 use Rattle.step_rules.specs.Moves.{nodes_after}
 use Rattle.step_rules.specs.Stepped.{Stepped}
-use Rattle.image.specs.Theory.Exactly.{kind_is}
-use Rattle.step_rules.specs.Theory.Reading.{rules, thread_stands}
+use Rattle.image.proofs.Theory.Exactly.{kind_is}
+use Rattle.step_rules.proofs.Theory.Reading.{rules, thread_stands}
 use Rattle.step_decide.proofs.Names.{as_thread, kind_there}
 use Rattle.step_decide.specs.declared.Decision.{Decision}
 use Rattle.step_decide.specs.declared.Decision.TheVariants.{Goes}
 use Rattle.step_decide.specs.Decided.{Decided, goes as decided_goes, refuses_used, refuses_wrong, waits}
 use Rattle.step_room.specs.declared.Size.{Size}
 use Rattle.step_room.specs.Counting.{After}
-use Rattle.image_check.specs.Theory.Names.{config_parts}
+use Rattle.image_check.proofs.Theory.Names.{config_parts}
 use Rattle.step_spec.specs.declared.Outcome.TheVariants.{Done, Refused}
 use Rattle.step_spec.specs.Stepping.{outcome_of_reply}
 use Rattle.step_look.specs.Looked.{Going, Staying, is_thread, stays}

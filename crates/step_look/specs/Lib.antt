@@ -1,3 +1,2 @@
 -- What a look at a thread says of the calculus's step.
 pub mod Looked
-pub mod Theory

@@ -3,19 +3,19 @@ use mathlib.Core.Path.{◌≡◌, ap, refl, ◌∙◌}
 use mathlib.Core.List.{List}
 use Prim.Native.Nat.{ℕ, ◌-◌}
 use Rattle.term.specs.Expressions.{bytes, term_at}
-use Rattle.term_subst.specs.Theory.Outcome.{bytes_beta, bytes_both}
+use Rattle.term_subst.proofs.Theory.Outcome.{bytes_beta, bytes_both}
 use Rattle.step_rules.specs.declared.Move.{Move}
 use Rattle.step_rules.specs.declared.Move.TheVariants.{Beta, CasePair, CaseList}
 use Rattle.step_rules.specs.declared.Step.{Step}
 use Rattle.step_rules.specs.Effects.{effect_of, taken_apart}
 use Rattle.step_rules.specs.Moves.{effect}
 use Rattle.step_rules.specs.Stepped.{Components}
-use Rattle.step_rules.specs.Theory.Writers.{has_by}
+use Rattle.step_rules.proofs.Theory.Writers.{has_by}
 use Rattle.step_rules.specs.declared.Substitution.{Substitution}
 use Rattle.step_reduct.specs.CanWrite.{CanWrite}
 use Rattle.step_rules.specs.Substitutions.{argument_in, components_in, substituted, Whole}
-use Rattle.step_rules.specs.Theory.Substitutions.{whole_applied, whole_taken}
-use Rattle.step_rules.specs.Theory.Lengths.{redex_by}
+use Rattle.step_rules.proofs.Theory.Substitutions.{whole_applied, whole_taken}
+use Rattle.step_rules.proofs.Theory.Lengths.{redex_by}
 
 -- what a step puts in place of the application or case is a body with values in it
 pub record Replaces (s : List ℕ) (step : Step) (with : Substitution) : Type 0 where

@@ -6,7 +6,7 @@ use lib.ListN.{length}
 use Rattle.calculus.specs.Limits.{max_names}
 use Rattle.image_layout.specs.Slice.{names}
 use Rattle.image_layout.specs.Readable.{HasHead}
-use Rattle.image_layout.specs.Theory.Reading.{has_head}
+use Rattle.image_layout.proofs.Theory.Reading.{has_head}
 use Rattle.step_rules.specs.declared.Move.{Move}
 use Rattle.step_rules.specs.declared.Step.{Step}
 use Rattle.step_rules.specs.Effects.{effect_of}

@@ -8,7 +8,7 @@ use Rattle.calculus.specs.Bytes.{Bytes, two_byte_values}
 use Rattle.calculus.specs.Limits.{first_head, max_nodes}
 use Rattle.calculus.specs.Syntax.{Exp}
 use Rattle.calculus.specs.Image.{nodes, size}
-use Rattle.calculus.specs.Theory.Weights.{Weight, nodes_weight, places_weigh, uses_most}
+use Rattle.calculus.proofs.Theory.Weights.{Weight, nodes_weight, places_weigh, uses_most}
 use Rattle.term.specs.Expressions.{term_at}
 use Rattle.term.proofs.Expressions.{term_stands}
 use Rattle.term.proofs.Views.{end_inside}

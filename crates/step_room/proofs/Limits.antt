@@ -6,7 +6,7 @@ use native.Mathlib.Omega.{arith}
 use lib.Dec.{leb, ltb}
 use Rattle.calculus.specs.Image.{within_limits}
 use Rattle.calculus.specs.Limits.{max_names, max_nodes}
-use Rattle.calculus.specs.Theory.Tests.{ltb_complete, ltb_not}
+use Rattle.calculus.proofs.Theory.Tests.{ltb_complete, ltb_not}
 use borrow.Author.Tests.{leb-false, leb-true}
 
 -- at most n is below n + 1

@@ -12,4 +12,3 @@ pub mod Stepped
 pub mod Substitutions
 -- the meeting of two values in a thread of an image
 pub mod Meets
-pub mod Theory

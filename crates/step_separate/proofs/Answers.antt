@@ -18,7 +18,7 @@ use Rattle.step_spec.specs.declared.Outcome.{Outcome}
 use Rattle.step_spec.specs.declared.Outcome.TheVariants.{Refused, Rule}
 use Rattle.step_spec.specs.Stepping.{outcome_of_reply, out_after_reply}
 use Rattle.step_look.specs.Looked.{Going, Staying}
-use Rattle.step_look.specs.Theory.Answers.{goes_writes, left, reply_under, room_reply, stays_answer, stays_unmoved, unwritten}
+use Rattle.step_look.proofs.Theory.Answers.{goes_writes, left, reply_under, room_reply, stays_answer, stays_unmoved, unwritten}
 use Rattle.step_shares.specs.Leaving.{outcome_from, shares_after}
 
 -- the answer to a step of thread x, and what is left in the out buffer

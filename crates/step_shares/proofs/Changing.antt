@@ -8,12 +8,12 @@ use Rattle.calculus.specs.Limits.{max_names, max_nodes}
 use Rattle.calculus.specs.Owners.{Owned, grown, owner}
 use Rattle.calculus.specs.Syntax.{Config}
 use Rattle.calculus.specs.Image.{nodes_all}
-use Rattle.calculus.specs.Theory.BaySums.{bay_names}
-use Rattle.calculus.specs.Theory.ImageTest.{limits_test_iff}
+use Rattle.calculus.proofs.Theory.BaySums.{bay_names}
+use Rattle.calculus.proofs.Theory.ImageTest.{limits_test_iff}
 use Rattle.term_redex.specs.declared.Meeting.{Meeting}
 use Rattle.image_layout.specs.Slice.{names, owner_at}
 use Rattle.image.specs.Configuration.{config_of, owned_of, owners_of}
-use Rattle.image.specs.Theory.Exactly.{length_config, owner_said}
+use Rattle.image.proofs.Theory.Exactly.{length_config, owner_said}
 use Rattle.step_rules.specs.declared.Carried.{Carried}
 use Rattle.step_rules.specs.declared.Move.{Move}
 use Rattle.step_rules.specs.declared.Move.TheVariants.{Beta, ThreadNew, FutureDeref, HandleNew, HandleBind, CellNew, CellExch, CasePair, CaseList}
@@ -21,7 +21,7 @@ use Rattle.step_rules.specs.declared.Step.{Step}
 use Rattle.step_rules.specs.Effects.{carried_of}
 use Rattle.step_rules.specs.Moves.{carried, names_after}
 use Rattle.step_rules.specs.Stepped.{Counted, Has, Movable}
-use Rattle.step_rules.specs.Theory.Meeting.{length_owners}
+use Rattle.step_rules.proofs.Theory.Meeting.{length_owners}
 use Rattle.step_room.specs.declared.Size.{Size}
 use Rattle.step_look.specs.Looked.{Going, Stands}
 use Rattle.step_shares.specs.declared.Flow.{Flow}

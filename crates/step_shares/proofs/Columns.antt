@@ -13,13 +13,13 @@ use Rattle.calculus.specs.Lists.{sum_below, tabulate}
 use Rattle.calculus.specs.Syntax.{Component, Config, sum_all, sum_in}
 use Rattle.calculus.specs.Image.{nodes, nodes_all}
 use Rattle.calculus.specs.Shares.{bay_components, of_bay}
-use Rattle.calculus.specs.Theory.BaySums.{bay_tabulated, for_bay, length_sum}
+use Rattle.calculus.proofs.Theory.BaySums.{bay_tabulated, for_bay, length_sum}
 use Rattle.image_layout.specs.Slice.{names, owner_at}
 use Rattle.image.specs.Configuration.{owned_of, owners_of}
 use Rattle.image.specs.Stands.{image_stands}
 use Rattle.image_check.specs.Parts.{component_of, nodes_of}
-use Rattle.image_check.specs.Theory.Names.{config_tabulated, sum_below_most, sum_below_next}
-use Rattle.image_check.specs.Theory.Whole.{whole_sound}
+use Rattle.image_check.proofs.Theory.Names.{config_tabulated, sum_below_most, sum_below_next}
+use Rattle.image_check.proofs.Theory.Whole.{whole_sound}
 use Rattle.step_shares.specs.Tallies.{Tallied}
 
 -- of the first k names, what bay y has of f

@@ -8,11 +8,11 @@ use Rattle.calculus.specs.Bytes.{Bytes}
 use Rattle.calculus.specs.Limits.{max_bays}
 use Rattle.calculus.specs.Lists.{tabulate}
 use Rattle.calculus.specs.Shares.{bays_in}
-use Rattle.calculus.specs.Theory.BaySums.{bays_most, bays_raised, bays_still}
+use Rattle.calculus.proofs.Theory.BaySums.{bays_most, bays_raised, bays_still}
 use Rattle.image_layout.specs.Slice.{names, owner_at}
 use Rattle.image.specs.Configuration.{owners_of}
 use Rattle.image.specs.Stands.{image_stands}
-use Rattle.image.specs.Theory.Exactly.{kept_read, length_config, owner_said}
+use Rattle.image.proofs.Theory.Exactly.{kept_read, length_config, owner_said}
 
 -- every owner is below 16
 pub owner_small : (s : List ℕ) → Bytes s → image_stands s ≡ true → (k : ℕ) → k < names s → owner_at s k < max_bays

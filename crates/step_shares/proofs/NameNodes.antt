@@ -15,10 +15,10 @@ use Rattle.term.proofs.Expressions.{found_at}
 use Rattle.image_layout.specs.Slice.{names, kind_at, offset_at}
 use Rattle.image.specs.Configuration.{config_of, encode}
 use Rattle.image.specs.Stands.{image_stands}
-use Rattle.image.specs.Theory.Exactly.{kind_is}
+use Rattle.image.proofs.Theory.Exactly.{kind_is}
 use Rattle.image_check.specs.Parts.{component_of, nodes_of}
-use Rattle.image_check.specs.Theory.Names.{config_at}
-use Rattle.step_rules.specs.Theory.Reading.{cell_stands, thread_stands}
+use Rattle.image_check.proofs.Theory.Names.{config_at}
+use Rattle.step_rules.proofs.Theory.Reading.{cell_stands, thread_stands}
 
 module _ (s : List ℕ) (b : Bytes s) (stands : image_stands s ≡ true) (k : ℕ) where
   -- a handle or a future has none

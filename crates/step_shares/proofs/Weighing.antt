@@ -11,10 +11,10 @@ use Rattle.calculus.specs.Lists.{each_below}
 use Rattle.calculus.specs.Owners.{Owned}
 use Rattle.calculus.specs.Image.{nodes_all}
 use Rattle.calculus.specs.Shares.{bay_components, bays_in, names_share, nodes_share, share_test, shares_test}
-use Rattle.calculus.specs.Theory.Tests.{and_true, clash, equal_from, false_of, leb_complete, leb_sound, true_of}
-use Rattle.calculus.specs.Theory.Tabulate.{each_below_same, each_below_sound}
+use Rattle.calculus.proofs.Theory.Tests.{and_true, clash, equal_from, false_of, leb_complete, leb_sound, true_of}
+use Rattle.calculus.proofs.Theory.Tabulate.{each_below_same, each_below_sound}
 use Rattle.image.specs.Configuration.{owned_of, owners_of}
-use Rattle.image_check.specs.Theory.Names.{each_below_next}
+use Rattle.image_check.proofs.Theory.Names.{each_below_next}
 use Rattle.step_shares.specs.declared.Flow.{Flow}
 use Rattle.step_shares.specs.declared.Tally.{Tally}
 use Rattle.step_shares.specs.Leaving.{left_by, shares_after}

@@ -2,5 +2,5 @@
 
 -- what a step answers, and what it leaves in the out buffer
 pub mod Stepping
--- the theorems that tie it to Fig. 5
-pub mod Theory
+-- an awaited name has a small number
+pub mod Waiting

@@ -17,7 +17,7 @@ use Rattle.step_spec.specs.declared.Outcome.{Outcome}
 use Rattle.step_spec.specs.declared.Outcome.TheVariants.{Rule}
 use Rattle.step_spec.specs.Stepping.{outcome_of_reply, out_after_reply}
 use Rattle.step_look.specs.Looked.{Going, Staying, reply_in}
-use Rattle.step_look.specs.Theory.Answers.{goes_reply, goes_writes, stays_answer, stays_unmoved, unwritten}
+use Rattle.step_look.proofs.Theory.Answers.{goes_reply, goes_writes, stays_answer, stays_unmoved, unwritten}
 use Rattle.step_thread.specs.Counted.{nodes_after}
 
 -- the answer to a step of thread x, what is left in the out buffer, and the nodes of the image that is left, where there were `nodes`

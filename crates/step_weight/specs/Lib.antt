@@ -2,4 +2,3 @@
 
 -- document 02, T-05, sentence by sentence
 pub mod WeighedFirst
-pub mod Theory

@@ -9,13 +9,13 @@ use Rattle.calculus.specs.Lists.{tabulate}
 use Rattle.image_layout.specs.Encoded.{Encoded, image_bytes}
 use Rattle.image_layout.specs.declared.Head.{Head}
 use Rattle.image_layout.specs.Heads.{Says}
-use Rattle.image_layout.specs.Theory.Turns.{Room}
+use Rattle.image_layout.specs.Room.{Room}
 use Rattle.step_rules.specs.declared.Step.{Step}
 use Rattle.step_rules.specs.Positions.{application_length, name_length}
 use Rattle.step_rules.specs.Effects.{started_bytes}
 use Rattle.step_rules.specs.Moves.{component_after, names_after, components_after, image_after}
 use Rattle.step_reduct.specs.CanWrite.{CanWrite}
-use Rattle.step_rules.specs.Theory.Lengths.{argument_length}
+use Rattle.step_rules.proofs.Theory.Lengths.{argument_length}
 use Rattle.step_write.specs.declared.Change.{Change}
 use Rattle.step_write.specs.Changes.{Becomes}
 

@@ -7,7 +7,7 @@ ghost use Rattle.buffer.specs.Written.{Wrote};
 ghost use Rattle.image_layout.specs.Encoded.{heads, head_offset, expressions};
 ghost use Rattle.image_layout.specs.Slice.{names};
 ghost use Rattle.image_layout.specs.Heads.{Says};
-ghost use Rattle.image_layout.specs.Theory.Turns.{Room};
+ghost use Rattle.image_layout.specs.Room.{Room};
 ghost use Rattle.step_rules.specs.Positions.{application_length, name_length};
 ghost use Rattle.step_rules.specs.Effects.{started_bytes};
 ghost use Rattle.step_rules.specs.Moves.{component_after, expression_after, owner_after, names_after, image_after};

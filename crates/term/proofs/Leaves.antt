@@ -10,7 +10,7 @@ use Rattle.calculus.specs.Syntax.{Const, unit, num, Op, op, cell, exch, thread, 
 use Rattle.calculus.specs.Names.{count}
 use Rattle.calculus.specs.Limits.{byte_values}
 use Rattle.calculus.specs.Image.{nodes, WritableConst}
-use Rattle.calculus.specs.Theory.Expressions.{count_other}
+use Rattle.calculus.proofs.Theory.Expressions.{count_other}
 use Rattle.term.specs.Forms.{form_of, forms, variable_tag, unit_tag, num_tag, cell_tag, handle_tag, name_tag, pair_tag}
 use Rattle.term.specs.Tree.{InTable, leaf}
 use Rattle.term.specs.Expressions.{const_tree, leaf_exp, leaf_forms, nesting, op_tag, tree_of, FitsBytes}

@@ -11,7 +11,7 @@ use lib.ListN.{length, get_or, drop, length-append}
 use lib.Seq.{drop_at}
 use Rattle.calculus.specs.Bytes.{Bytes, two_byte_values}
 use Rattle.calculus.specs.Limits.{byte_values}
-use Rattle.calculus.specs.Theory.Tests.{and_parts}
+use Rattle.calculus.proofs.Theory.Tests.{and_parts}
 use Rattle.term.specs.declared.Form.{Form}
 use Rattle.term.specs.declared.Front.TheVariants.{Is, Bad}
 use Rattle.term.specs.declared.Node.{Node}

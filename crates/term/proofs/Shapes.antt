@@ -8,7 +8,7 @@ use Rattle.calculus.specs.Syntax.{Each, each_app, each_both, each_case, each_lam
 use Rattle.calculus.specs.Limits.{byte_values}
 use Rattle.calculus.specs.Names.{count, uses}
 use Rattle.calculus.specs.Image.{nodes, Writable}
-use Rattle.calculus.specs.Theory.Tests.{clash}
+use Rattle.calculus.proofs.Theory.Tests.{clash}
 use Rattle.term.specs.Forms.{application_tag, binders_of, case_list_tag, case_pair_tag, cell_tag, exch_tag, form_of, forms, handle_tag, lambda_tag, list_tag, name_tag, num_tag, pair_tag, subterms_of, tags, thread_tag, unit_tag, variable_tag}
 use Rattle.term.specs.Tree.{forms_below, HasForm, InTable, leaf, one, Shaped, Tree, two}
 use Rattle.term.specs.Expressions.{both_tag, case_tag, FitsBytes, nesting, tree_of, two_exp, two_forms}

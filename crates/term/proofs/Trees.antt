@@ -11,8 +11,8 @@ use Rattle.calculus.specs.Syntax.{Const, unit, num, op, Shape, pair, list, Exp, 
 use Rattle.calculus.specs.Names.{count}
 use Rattle.calculus.specs.Limits.{byte_values}
 use Rattle.calculus.specs.Image.{size, WritableConst}
-use Rattle.calculus.specs.Theory.Tests.{clash}
-use Rattle.calculus.specs.Theory.Expressions.{count_same}
+use Rattle.calculus.proofs.Theory.Tests.{clash}
+use Rattle.calculus.proofs.Theory.Expressions.{count_same}
 use Rattle.term.specs.Numbers.{little_endian}
 use Rattle.term.specs.Forms.{form_of, forms, lambda_tag, application_tag}
 use Rattle.term.specs.Tree.{InTable, Tree, leaf, node_bytes, one, tree_bytes, tree_size, two, WellFormed}

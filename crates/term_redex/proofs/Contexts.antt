@@ -9,7 +9,7 @@ use Rattle.calculus.specs.Syntax.{Exp, app, both, case_of, Shape, thread_of, Con
 use Rattle.calculus.specs.Reduction.{Context, hole, in_function, in_argument, in_first, in_second, in_subject, plug, Has, put}
 use Rattle.calculus.specs.Step.{application, Redex, subject}
 use Rattle.calculus.specs.Image.{Closed, closed_app, closed_both, closed_case, nodes, nodes_all, size}
-use Rattle.calculus.specs.Theory.Configurations.{sum_set}
+use Rattle.calculus.proofs.Theory.Configurations.{sum_set}
 use Rattle.term.specs.Expressions.{both_tag, bytes, case_tag, TermAt, FitsBytes}
 use Rattle.term.proofs.Sizes.{length_bytes}
 use Rattle.term.proofs.Trees.{fits_app, fits_both, fits_case}

@@ -9,8 +9,8 @@ use Rattle.calculus.specs.Syntax.{Exp, Value}
 use Rattle.calculus.specs.Reduction.{Context, plug}
 use Rattle.calculus.specs.Step.{Place, settled, meet, loose, place, Redex}
 use Rattle.calculus.specs.Image.{Closed, size}
-use Rattle.calculus.specs.Theory.Places.{Placed, place_sound, place_value}
-use Rattle.calculus.specs.Theory.Tests.{clash}
+use Rattle.calculus.proofs.Theory.Places.{Placed, place_sound, place_value}
+use Rattle.calculus.proofs.Theory.Tests.{clash}
 use Rattle.term.specs.Expressions.{TermAt}
 use Rattle.term_redex.specs.declared.Meeting.{Meeting}
 use Rattle.term_redex.specs.declared.Place.TheVariants.{Done, Meet}

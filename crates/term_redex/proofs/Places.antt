@@ -8,7 +8,7 @@ use Rattle.calculus.specs.Syntax.{unit, num, op, Exp, app, both, case_of, cell, 
 use Rattle.calculus.specs.Reduction.{Context, hole, in_function, in_argument, in_first, in_second, in_subject}
 use Rattle.calculus.specs.Step.{application, beside, loose, meet, Place, place, Redex, settled, subject, within}
 use Rattle.calculus.specs.Image.{size}
-use Rattle.calculus.specs.Theory.Places.{place_sound}
+use Rattle.calculus.proofs.Theory.Places.{place_sound}
 use Rattle.term.specs.Expressions.{bytes}
 use Rattle.term.proofs.Sizes.{length_bytes}
 use Rattle.term_redex.specs.declared.Meeting.{Meeting}

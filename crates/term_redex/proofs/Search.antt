@@ -9,7 +9,7 @@ use Rattle.calculus.specs.Bytes.{Bytes}
 use Rattle.calculus.specs.Syntax.{Exp, is_both, is_const, is_exch, is_lam, is_name, Value}
 use Rattle.calculus.specs.Step.{loose, meet, place, Place as CalculusPlace, settled}
 use Rattle.calculus.specs.Image.{Closed, is_settled, size}
-use Rattle.calculus.specs.Theory.Places.{place_sound, place_value}
+use Rattle.calculus.proofs.Theory.Places.{place_sound, place_value}
 use Rattle.term.specs.declared.Front.TheVariants.{Is}
 use Rattle.term.specs.declared.Node.{Node}
 use Rattle.term.specs.Tree.{HasForm}

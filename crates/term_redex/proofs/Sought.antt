@@ -8,8 +8,8 @@ use Rattle.calculus.specs.Bytes.{Bytes}
 use Rattle.calculus.specs.Syntax.{Exp, Shape}
 use Rattle.calculus.specs.Step.{place}
 use Rattle.calculus.specs.Image.{Closed, is_settled, size}
-use Rattle.calculus.specs.Theory.Tests.{clash}
-use Rattle.calculus.specs.Theory.ImageTest.{settled_value}
+use Rattle.calculus.proofs.Theory.Tests.{clash}
+use Rattle.calculus.proofs.Theory.ImageTest.{settled_value}
 use Rattle.term.specs.declared.Front.TheVariants.{Is}
 use Rattle.term.specs.declared.Node.{Node}
 use Rattle.term.specs.Forms.{application_tag}

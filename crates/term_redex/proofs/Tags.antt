@@ -6,7 +6,7 @@ use native.Mathlib.Omega.{arith}
 use lib.Dec.{eqb}
 use Rattle.calculus.specs.Syntax.{Exp, is_const, is_name, lam, Value}
 use Rattle.calculus.specs.Image.{Closed, closed_var}
-use Rattle.calculus.specs.Theory.Tests.{eqb_differ}
+use Rattle.calculus.proofs.Theory.Tests.{eqb_differ}
 use Rattle.term.specs.Forms.{application_tag, exch_tag, is_case_tag, variable_tag}
 use Rattle.term.specs.Tree.{HasForm}
 use Rattle.term.specs.Expressions.{leaf_exp, leaf_forms, two_exp, two_forms}

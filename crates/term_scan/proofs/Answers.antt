@@ -8,7 +8,7 @@ use borrow.Author.Tests.{le-leb, leb-true}
 use lib.Dec.{leb}
 use lib.ListN.{drop, length, length-drop}
 use Rattle.calculus.specs.Image.{nodes}
-use Rattle.calculus.specs.Theory.Tests.{clash}
+use Rattle.calculus.proofs.Theory.Tests.{clash}
 use Rattle.term.specs.Tree.{forms_below, Tree, tree_nodes, tree_size}
 use Rattle.term.specs.Reader.{end_at, first_tree, GoodAt, Got, got, none, of_edition, read_term, tree_at}
 use Rattle.term.specs.Expressions.{term_at, term_of}

@@ -5,7 +5,7 @@ use Prim.Native.Nat.{◌+◌, ◌-◌, ◌<◌, ◌≤◌, suc, zero, ℕ}
 use native.Mathlib.Omega.{arith}
 use borrow.Author.Tests.{le-leb, lt-leb}
 use lib.ListN.{drop, length, replicate}
-use Rattle.calculus.specs.Theory.Tests.{clash}
+use Rattle.calculus.proofs.Theory.Tests.{clash}
 use Rattle.term.specs.declared.Front.TheVariants.{Bad, Is}
 use Rattle.term.specs.declared.Node.{Node}
 use Rattle.term.specs.Tree.{leaf, one, Tree, tree_nodes, tree_size, two}

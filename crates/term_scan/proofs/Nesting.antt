@@ -8,7 +8,7 @@ use borrow.Author.Tests.{le-leb, leb-true, le-ltb, lt-ltb, ltb-true}
 use lib.Dec.{leb, ltb}
 use lib.ListN.{get_or, length}
 use Rattle.calculus.specs.Limits.{max_nesting}
-use Rattle.calculus.specs.Theory.Tests.{and_parts, equal_from}
+use Rattle.calculus.proofs.Theory.Tests.{and_parts, equal_from}
 use Rattle.term.specs.declared.Front.TheVariants.{Bad, Is}
 use Rattle.term.specs.declared.Front.{Front}
 use Rattle.term.specs.declared.Node.{Node}

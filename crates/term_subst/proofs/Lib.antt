@@ -8,3 +8,4 @@ pub mod Counting
 pub mod Copies
 -- writing the outcome
 pub mod Putting
+pub mod Theory

@@ -11,7 +11,7 @@ use Rattle.calculus.specs.Bytes.{Bytes}
 use Rattle.calculus.specs.Limits.{max_nodes}
 use Rattle.calculus.specs.Syntax.{Exp, lam, var}
 use Rattle.calculus.specs.Image.{nodes}
-use Rattle.calculus.specs.Theory.Tests.{clash}
+use Rattle.calculus.proofs.Theory.Tests.{clash}
 use Rattle.term.specs.declared.Front.TheVariants.{Is}
 use Rattle.term.specs.declared.Node.{Node}
 use Rattle.term.specs.Forms.{application_tag, binders_of, case_list_tag, case_pair_tag, cell_tag, exch_tag, form_of, forms, handle_tag, lambda_tag, list_tag, name_tag, num_tag, pair_tag, refers_of, thread_tag, unit_tag}
@@ -27,7 +27,7 @@ use Rattle.term_walk.specs.Frames.{max_waits, opened, Passed, stack_of}
 use Rattle.term_walk.proofs.Law.{ahead, fold, from, from_good, from_node, from_none, onward, Walk}
 use Rattle.term_walk.proofs.Stack.{pop}
 use Rattle.buffer.specs.Written.{Wrote}
-use Rattle.buffer.specs.Theory.Writes.{known_as, same, still, then}
+use Rattle.buffer.proofs.Theory.Writes.{known_as, same, still, then}
 use Rattle.term_scan.proofs.Going.{Going, going_few, going_node, going_on, going_start}
 use Rattle.term_subst.specs.declared.Span.{Span}
 use Rattle.term_subst.specs.Variable.{is_variable}

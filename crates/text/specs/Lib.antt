@@ -4,4 +4,3 @@
 pub mod Ascii
 -- a text put into a lent buffer
 pub mod Put
-pub mod Theory

@@ -1,6 +1,6 @@
 -- `buffer::put_byte` meets its contract: one store.
 use borrow.Author.Rules.{rules}
-use Rattle.buffer.specs.Theory.Writes.{stored}
+use Rattle.buffer.proofs.Theory.Writes.{stored}
 use Rattle.buffer.proofs.put_byte.Goals as goal
 
 pub returns : goal.returns

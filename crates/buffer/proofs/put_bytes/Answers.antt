@@ -2,7 +2,7 @@
 use mathlib.Core.Path.{◌∙◌}
 use Prim.Native.Nat.{◌-◌}
 use native.Mathlib.Omega.{arith}
-use Rattle.buffer.specs.Theory.Writes.{known_as, length_rest, same, then, with_rest}
+use Rattle.buffer.proofs.Theory.Writes.{known_as, length_rest, same, then, with_rest}
 use borrow.Author.Rules.{rules}
 use Rattle.buffer.proofs.put_bytes.Goals as goal
 

@@ -4,7 +4,7 @@ use Prim.Native.Nat.{◌≤◌, ◌-◌}
 use native.Mathlib.Omega.{arith}
 use lib.ListN.{length, take}
 use Rattle.buffer.specs.Written.{Wrote}
-use Rattle.buffer.specs.Theory.Writes.{still, same, copied_one, copied_next, copied_all}
+use Rattle.buffer.proofs.Theory.Writes.{still, same, copied_one, copied_next, copied_all}
 use Rattle.buffer.proofs.put_each.Goals as goal
 
 pub loop-copied-init : goal.loop-copied-init

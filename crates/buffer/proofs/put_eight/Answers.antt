@@ -1,7 +1,7 @@
 -- `buffer::put_eight` meets its contract.
 use mathlib.Core.Path.{◌∙◌}
 use native.Mathlib.Omega.{arith}
-use Rattle.buffer.specs.Theory.Writes.{eight_from, known_as, same, then}
+use Rattle.buffer.proofs.Theory.Writes.{eight_from, known_as, same, then}
 use borrow.Author.Rules.{rules}
 use Rattle.buffer.proofs.put_eight.Goals as goal
 

@@ -3,7 +3,7 @@ use Prim.Native.Nat.{◌≤◌, ◌-◌}
 use native.Mathlib.Omega.{arith}
 use lib.ListN.{length, take}
 use Rattle.buffer.specs.Written.{Wrote}
-use Rattle.buffer.specs.Theory.Writes.{copied_eight, copied_next, copied_to, same, still}
+use Rattle.buffer.proofs.Theory.Writes.{copied_eight, copied_next, copied_to, same, still}
 use Rattle.buffer.proofs.put_eights.Goals as goal
 
 pub loop-copied-init : goal.loop-copied-init

@@ -1,7 +1,7 @@
 -- `buffer::put_two` meets its contract.
 use mathlib.Core.Path.{◌∙◌}
 use native.Mathlib.Omega.{arith}
-use Rattle.buffer.specs.Theory.Writes.{same, then}
+use Rattle.buffer.proofs.Theory.Writes.{same, then}
 use borrow.Author.Rules.{rules}
 use Rattle.buffer.proofs.put_two.Goals as goal
 

@@ -3,7 +3,7 @@ use borrow.Author.Rules.{rules}
 use native.Mathlib.Omega.{arith}
 use lib.ListN.{length-set}
 use Rattle.calculus.specs.Bytes.{two_bytes}
-use Rattle.buffer.specs.Theory.Writes.{stored, then, landed}
+use Rattle.buffer.proofs.Theory.Writes.{stored, then, landed}
 use Rattle.buffer.proofs.put_u16.Goals as goal
 
 pub bounds-out-at-2 : goal.bounds-out-at-2

@@ -15,7 +15,7 @@ use Rattle.term.specs.declared.Node.{Node}
 use Rattle.term.specs.Reader.{node_at}
 use Rattle.term.proofs.Views.{lambda_one, leaf_from, LeafAt, node_there, NodeAt, not_bad, one_from, OneAt, past_first, rest_two, two_from, TwoAt}
 use Rattle.term.proofs.node_at.Reads as node-at-reads
-use Rattle.check_linearity.specs.Theory.Levels.{floor_below}
+use Rattle.check_linearity.proofs.Theory.Levels.{floor_below}
 use Rattle.check_types.specs.Two.{can_open}
 use Rattle.check_types.proofs.TwoNodes.{two_node, TwoNode}
 use Rattle.check_types.proofs.can_open.Reads as can-open-reads

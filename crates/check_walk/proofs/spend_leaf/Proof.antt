@@ -2,7 +2,7 @@
 use mathlib.Core.Path.{refl}
 use native.Mathlib.Omega.{arith}
 use lib.ListN.{length-set}
-use Rattle.check_linearity.specs.Theory.Walks.{walked_due, walked_many, walked_past_reach, walked_spent}
+use Rattle.check_linearity.proofs.Theory.Walks.{walked_due, walked_many, walked_past_reach, walked_spent}
 use Rattle.check_walk.proofs.Walks.{still_leaf, variable_leaf}
 use Rattle.check_walk.proofs.spend_leaf.Statement.{statement}
 use Rattle.check_walk.proofs.spend_leaf.Tie as tie

@@ -5,7 +5,7 @@ use Prim.Native.Nat.{◌-◌}
 use native.Mathlib.Omega.{arith}
 use borrow.Author.Rules.{rules}
 use lib.ListN.{length}
-use Rattle.buffer.specs.Theory.Writes.{same}
+use Rattle.buffer.proofs.Theory.Writes.{same}
 use Rattle.draw_spec.specs.Draws.{draws}
 use Rattle.draw_spec.specs.Lines.{lines}
 use Rattle.draw_text.specs.Lines.{present}

@@ -1,10 +1,10 @@
 -- `draw_text::put_line` meets its contract: the name, the outcome, the end of the line.
 use native.Mathlib.Omega.{arith}
 use borrow.Author.Rules.{rules}
-use Rattle.buffer.specs.Theory.Writes.{same, then}
-use Rattle.text.specs.Theory.Digits.{length_decimal}
+use Rattle.buffer.proofs.Theory.Writes.{same, then}
+use Rattle.text.proofs.Theory.Digits.{length_decimal}
 use Rattle.draw_spec.specs.Lines.{line}
-use Rattle.draw_spec.specs.Theory.Lines.{length_outcome}
+use Rattle.draw_spec.proofs.Theory.Lines.{length_outcome}
 use Rattle.draw_text.proofs.put_line.Statement.{statement}
 use Rattle.draw_text.proofs.put_line.Tie as tie
 

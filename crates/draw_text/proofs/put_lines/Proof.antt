@@ -7,12 +7,12 @@ use lib.ListN.{length, replicate}
 use lib.Seq.{length-take-le}
 use Rattle.calculus.specs.Profile.{common}
 use Rattle.calculus.specs.Limits.{max_image_length}
-use Rattle.buffer.specs.Theory.Writes.{known_as}
+use Rattle.buffer.proofs.Theory.Writes.{known_as}
 use Rattle.text.specs.Ascii.{verdict_line}
-use Rattle.text.specs.Theory.Put.{too_short}
+use Rattle.text.proofs.Theory.Put.{too_short}
 use Rattle.load_spec.specs.Loading.{loaded_of, out_after_load}
 use Rattle.draw_spec.specs.Lines.{max_text_length, text_of}
-use Rattle.draw_spec.specs.Theory.Lines.{few_draws}
+use Rattle.draw_spec.proofs.Theory.Lines.{few_draws}
 use Rattle.draw_text.specs.Lines.{refusal_of}
 use Rattle.draw_text.proofs.Whole.{Loads, drawn_is, loaded_inside, loaded_stands, loaded_starts, puts_draws, puts_refusal, refusal_is, refusal_small}
 use Rattle.draw_text.proofs.put_lines.Statement.{statement}

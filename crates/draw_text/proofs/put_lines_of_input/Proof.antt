@@ -3,9 +3,9 @@ use mathlib.Core.Path.{◌∙◌, ap, sym}
 use borrow.Author.Rules.{rules}
 use lib.ListN.{length, take}
 use lib.Seq.{length-take-le}
-use Rattle.text.specs.Theory.Put.{inside, put_as}
+use Rattle.text.proofs.Theory.Put.{inside, put_as}
 use Rattle.draw_spec.specs.Lines.{max_text_length, text_of}
-use Rattle.draw_spec.specs.Theory.Lines.{text_of_longer}
+use Rattle.draw_spec.proofs.Theory.Lines.{text_of_longer}
 use Rattle.draw_text.proofs.put_lines_of_input.Statement.{statement}
 use Rattle.draw_text.proofs.put_lines_of_input.Tie as tie
 

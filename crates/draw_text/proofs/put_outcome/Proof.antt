@@ -2,7 +2,7 @@
 use mathlib.Core.Path.{ap, sym}
 use native.Mathlib.Omega.{arith}
 use borrow.Author.Rules.{rules}
-use Rattle.buffer.specs.Theory.Writes.{known_as, then}
+use Rattle.buffer.proofs.Theory.Writes.{known_as, then}
 use Rattle.text.specs.Ascii.{decimal}
 use Rattle.draw_spec.specs.Lines.{number_of, outcome_text, word_of}
 use Rattle.draw_text.proofs.put_outcome.Statement.{statement}

@@ -2,7 +2,7 @@
 use mathlib.Core.Path.{refl}
 use native.Mathlib.Omega.{arith}
 use borrow.Author.Rules.{rules}
-use Rattle.calculus.specs.Theory.Tests.{eqb_complete, eqb_differ}
+use Rattle.calculus.proofs.Theory.Tests.{eqb_complete, eqb_differ}
 use Rattle.draw_text.specs.Lines.{refusal_of}
 use Rattle.draw_text.proofs.refusal_of.Statement.{statement}
 use Rattle.draw_text.proofs.refusal_of.Tie as tie

@@ -5,7 +5,7 @@ use native.Mathlib.Omega.{arith}
 use borrow.Author.Rules.{rules}
 use borrow.Author.Tests.{not-false, not-true}
 use Rattle.image_layout.specs.Slice.{names}
-use Rattle.image_layout.specs.Theory.Reading.{has_names}
+use Rattle.image_layout.proofs.Theory.Reading.{has_names}
 use Rattle.draw_thread.proofs.Counted.{Counted, counted_all, counted_few, counted_none, counted_one, counted_skip, next_head}
 use Rattle.draw_thread.proofs.count_threads.Statement.{statement}
 use Rattle.draw_thread.proofs.count_threads.Tie as tie

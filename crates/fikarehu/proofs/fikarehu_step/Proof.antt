@@ -1,7 +1,8 @@
 use mathlib.Core.Path.{◌∙◌, ap, subst⁻¹}
 use borrow.Author.Rules.{rules}
 use Rattle.calculus.specs.Profile.{common}
-use Rattle.step_spec.specs.Theory.Waiting.{NameSmall, waiting_small}
+use Rattle.step_spec.specs.Waiting.{NameSmall}
+use Rattle.step_spec.proofs.Theory.Waiting.{waiting_small}
 use Rattle.fikarehu.specs.Numbers.{step_numbers}
 use Rattle.fikarehu.proofs.fikarehu_step.Statement.{statement}
 use Rattle.fikarehu.proofs.fikarehu_step.Tie as tie

@@ -6,7 +6,7 @@ use native.Mathlib.Omega.{arith}
 use borrow.Author.Rules.{rules}
 use lib.ListN.{length}
 use Rattle.term_walk.specs.Frames.{max_waits}
-use Rattle.image_layout.specs.Theory.Reading.{has_names}
+use Rattle.image_layout.proofs.Theory.Reading.{has_names}
 use Rattle.image_check.proofs.Budgets.{enough, next_named, Spent, spent_all, spent_fault, spent_none, spent_one, within}
 use Rattle.image_check.proofs.all_nodes.Statement.{statement}
 use Rattle.image_check.proofs.all_nodes.Tie as tie

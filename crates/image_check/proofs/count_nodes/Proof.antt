@@ -1,7 +1,7 @@
 use mathlib.Core.Path.{◌∙◌, sym}
 use mathlib.Core.Bool.{false≢true}
 use borrow.Author.Rules.{rules}
-use Rattle.image_check.specs.Theory.Answers.{answered, refused}
+use Rattle.image_check.proofs.Theory.Answers.{answered, refused}
 use Rattle.image_check.proofs.count_nodes.Statement.{statement}
 use Rattle.image_check.proofs.count_nodes.Tie as tie
 

@@ -3,7 +3,7 @@
 use Prim.Native.Nat.{◌-◌}
 use native.Mathlib.Omega.{arith}
 use borrow.Author.Rules.{rules}
-use Rattle.image_layout.specs.Theory.Reading.{has_names}
+use Rattle.image_layout.proofs.Theory.Reading.{has_names}
 use Rattle.image_check.proofs.Components.{named_head}
 use Rattle.image_check.proofs.Handles.{next_named, small, Tallied, tallied_all, tallied_none, tallied_one, tallied_skip}
 use Rattle.image_check.proofs.handle_counts.Statement.{statement}

@@ -4,7 +4,7 @@ use mathlib.Core.Path.{sym, ◌∙◌}
 use Prim.Native.Nat.{◌-◌}
 use native.Mathlib.Omega.{arith}
 use borrow.Author.Tests.{not-true, not-false}
-use Rattle.image_layout.specs.Theory.Reading.{has_names}
+use Rattle.image_layout.proofs.Theory.Reading.{has_names}
 use Rattle.image_check.proofs.Pairs.{next_counted, Paired, paired_all, paired_fault, paired_none, paired_one}
 use Rattle.image_check.proofs.pairs_stand.Statement.{statement}
 use Rattle.image_check.proofs.pairs_stand.Tie as tie

@@ -3,7 +3,7 @@ use borrow.Author.Rules.{rules}
 use mathlib.Core.Path.{refl}
 use native.Mathlib.Omega.{arith}
 use Rattle.calculus.specs.Bytes.{two_bytes}
-use Rattle.buffer.specs.Theory.Writes.{then}
+use Rattle.buffer.proofs.Theory.Writes.{then}
 use Rattle.image_layout.specs.Encoded.{head}
 use Rattle.image_layout.proofs.put_head.Goals as goal
 
@@ -15,9 +15,7 @@ put_u16-after_size-requires c =
       c.put_u16-after_offset.ensures.ends,
       c.put_u16-after_offset.auto.out,
       c.put_byte-after_companion.ensures.ends,
-      c.put_byte-after_companion.kept.out,
       c.put_byte-after_kind.ensures.ends,
-      c.put_byte-after_kind.kept.out,
     )
 
 pub returns : goal.returns

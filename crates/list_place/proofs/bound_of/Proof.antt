@@ -1,6 +1,6 @@
 -- `list_place::bound_of` meets its contract: tag by tag.
 use mathlib.Core.Path.{refl}
-use Rattle.calculus.specs.Theory.Tests.{eqb_differ}
+use Rattle.calculus.proofs.Theory.Tests.{eqb_differ}
 use Rattle.list_place.specs.Candidates.{leaf_bound}
 use Rattle.list_place.proofs.bound_of.Statement.{statement}
 use Rattle.list_place.proofs.bound_of.Tie as tie

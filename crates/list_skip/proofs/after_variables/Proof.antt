@@ -1,6 +1,6 @@
 -- `list_skip::after_variables` meets its contract.
 use mathlib.Core.Path.{refl}
-use Rattle.calculus.specs.Theory.Tests.{leb_complete}
+use Rattle.calculus.proofs.Theory.Tests.{leb_complete}
 use Rattle.list_place.proofs.Asking.{leb_not}
 use Rattle.list_skip.specs.Jumps.{variables_end}
 use Rattle.list_skip.proofs.after_variables.Statement.{statement}

@@ -2,7 +2,7 @@
 use mathlib.Core.Path.{refl}
 use native.Mathlib.Omega.{arith}
 use borrow.Author.Rules.{rules}
-use Rattle.calculus.specs.Theory.Tests.{eqb_differ}
+use Rattle.calculus.proofs.Theory.Tests.{eqb_differ}
 use Rattle.list_skip.specs.Jumps.{found_in}
 use Rattle.list_skip.proofs.found_in.Statement.{statement}
 use Rattle.list_skip.proofs.found_in.Tie as tie

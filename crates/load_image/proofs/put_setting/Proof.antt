@@ -1,7 +1,7 @@
 -- `load_image::put_setting` meets its contract.
 use borrow.Author.Rules.{rules}
 use Rattle.load_image.specs.Starting.{setting_bytes}
-use Rattle.buffer.specs.Theory.Writes.{then}
+use Rattle.buffer.proofs.Theory.Writes.{then}
 use Rattle.load_image.proofs.put_setting.Statement.{statement}
 use Rattle.load_image.proofs.put_setting.Tie as tie
 

@@ -10,13 +10,13 @@ use Rattle.calculus.specs.Limits.{first_head, max_image_length}
 use Rattle.recipe_file.specs.File.{bays, offset_of}
 use Rattle.recipe_file.specs.FileRule.{FileRule}
 use Rattle.buffer.specs.Written.{Wrote}
-use Rattle.buffer.specs.Theory.Writes.{same, known_as}
-use Rattle.buffer.specs.Theory.TwoBytes.{length_two_bytes}
+use Rattle.buffer.proofs.Theory.Writes.{same, known_as}
+use Rattle.buffer.proofs.Theory.TwoBytes.{length_two_bytes}
 use Rattle.image_layout.specs.Encoded.{expressions, head_offset}
-use Rattle.image_layout.specs.Theory.Turns.{room_kept, heads_end}
+use Rattle.image_layout.proofs.Theory.Turns.{room_kept, heads_end}
 use Rattle.load_image.specs.Starting.{first_term, setting_length, starting_at, starting_names}
-use Rattle.load_image.specs.Theory.Parts.{terms_begin_inside}
-use Rattle.load_spec.specs.Theory.Image.{laid, starting_fits}
+use Rattle.load_image.proofs.Theory.Parts.{terms_begin_inside}
+use Rattle.load_spec.proofs.Theory.Image.{laid, starting_fits}
 use Rattle.load_image.proofs.Names.{few_bays, starting_room, settings_length, settings_read, starting_length, starting_wrote}
 use Rattle.load_image.proofs.put_starting.Statement.{statement}
 use Rattle.load_image.proofs.put_starting.Tie as tie

@@ -6,9 +6,9 @@ use native.Mathlib.Omega.{arith}
 use lib.ListN.{length, take}
 use lib.Seq.{take_all}
 use Rattle.buffer.specs.Written.{Wrote}
-use Rattle.buffer.specs.Theory.Writes.{known_as, same, still, then}
+use Rattle.buffer.proofs.Theory.Writes.{known_as, same, still, then}
 use Rattle.recipe_text.specs.Text.{hexadecimal}
-use Rattle.recipe_text.specs.Theory.Digits.{hexadecimal_turn, length_so_far}
+use Rattle.recipe_text.proofs.Theory.Digits.{hexadecimal_turn, length_so_far}
 use Rattle.recipe_text.proofs.put_hexadecimal.Statement.{statement}
 use Rattle.recipe_text.proofs.put_hexadecimal.Tie as tie
 

@@ -6,12 +6,12 @@ use borrow.Author.Rules.{rules}
 use lib.ListN.{length, take}
 use lib.Seq.{length-take-le}
 use Rattle.calculus.specs.Limits.{max_image_length}
-use Rattle.buffer.specs.Theory.Writes.{known_as, same}
+use Rattle.buffer.proofs.Theory.Writes.{known_as, same}
 use Rattle.text.specs.Ascii.{verdict_line}
-use Rattle.text.specs.Theory.Digits.{length_accepted}
-use Rattle.text.specs.Theory.Put.{too_short}
+use Rattle.text.proofs.Theory.Digits.{length_accepted}
+use Rattle.text.proofs.Theory.Put.{too_short}
 use Rattle.load_spec.specs.Starting.{starting_image}
-use Rattle.load_spec.specs.Theory.Told.{accepted_told, image_told, length_inside, length_told, refusal_told, refusal_told_small}
+use Rattle.load_spec.proofs.Theory.Told.{accepted_told, image_told, length_inside, length_told, refusal_told, refusal_told_small}
 use Rattle.recipe_text.specs.Text.{image_line, max_text_length, text_of}
 use Rattle.recipe_text.proofs.Ways.{puts_image, puts_refusal}
 use Rattle.recipe_text.proofs.put_text.Statement.{statement}

@@ -4,7 +4,7 @@ use native.Mathlib.Omega.{arith}
 use borrow.Author.Rules.{rules}
 use lib.ListN.{take}
 use lib.Seq.{length-take-le}
-use Rattle.text.specs.Theory.Put.{inside, put_as}
+use Rattle.text.proofs.Theory.Put.{inside, put_as}
 use Rattle.recipe_text.specs.Text.{max_text_length, text_of}
 use Rattle.recipe_text.proofs.Ways.{same_text}
 use Rattle.recipe_text.proofs.put_text_of_input.Statement.{statement}

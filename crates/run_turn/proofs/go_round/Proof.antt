@@ -3,9 +3,9 @@ use mathlib.Core.Bool.{false}
 use Prim.Native.Nat.{ℕ, ◌-◌}
 use native.Mathlib.Omega.{arith}
 use borrow.Author.Rules.{rules}
-use Rattle.image_layout.specs.Theory.Reading.{has_names}
+use Rattle.image_layout.proofs.Theory.Reading.{has_names}
 use Rattle.image_layout.specs.Slice.{names}
-use Rattle.image_check.specs.Theory.Whole.{whole_sound}
+use Rattle.image_check.proofs.Theory.Whole.{whole_sound}
 use Rattle.run_spec.specs.Course.{look_along, upward}
 use Rattle.run_turn.specs.Turning.{Finds}
 use Rattle.run_turn.proofs.Along.{not_nobody, round_found, round_on}

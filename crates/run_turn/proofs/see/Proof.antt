@@ -1,7 +1,7 @@
 use mathlib.Core.Path.{subst, subst⁻¹}
 use borrow.Author.Rules.{rules}
 use Rattle.step_look.specs.Looked.{Looked}
-use Rattle.step_look.specs.Theory.Ways.{looked_goes, looked_stays}
+use Rattle.step_look.proofs.Theory.Ways.{looked_goes, looked_stays}
 use Rattle.run_turn.specs.Turning.{Seen, goes}
 use Rattle.run_turn.proofs.Sights.{by_going, by_staying}
 use Rattle.run_turn.proofs.see.Statement.{statement}

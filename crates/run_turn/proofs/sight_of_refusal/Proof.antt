@@ -1,5 +1,5 @@
 use mathlib.Core.Path.{refl}
-use Rattle.calculus.specs.Theory.Tests.{eqb_complete, eqb_differ}
+use Rattle.calculus.proofs.Theory.Tests.{eqb_complete, eqb_differ}
 use Rattle.run_turn.specs.Turning.{sight_of_refusal}
 use Rattle.run_turn.proofs.sight_of_refusal.Statement.{statement}
 use Rattle.run_turn.proofs.sight_of_refusal.Tie as tie

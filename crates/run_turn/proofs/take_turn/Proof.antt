@@ -6,7 +6,7 @@ use borrow.Author.Rules.{rules}
 use Rattle.calculus.specs.Bytes.{Bytes}
 use Rattle.step_rules.specs.Moves.{image_after}
 use Rattle.step_look.specs.Looked.{Going}
-use Rattle.step_look.specs.Theory.Writing.{after_fits, can_write}
+use Rattle.step_look.proofs.Theory.Writing.{after_fits, can_write}
 use Rattle.run_spec.specs.Course.{found, search_from}
 use Rattle.run_turn.specs.Turning.{Finds, met_one, nobody_went, went}
 use Rattle.run_turn.proofs.Turns.{few_names, found_goes, found_met, found_nobody, goes_below, turn_went}

@@ -1,8 +1,8 @@
 use native.Mathlib.Omega.{arith}
 use Rattle.step_look.proofs.is_thread.Statement.{statement}
 use Rattle.step_look.proofs.Looking.{by_kind, no_such}
-use Rattle.image_layout.specs.Theory.Reading.{has_head, has_names}
-use Rattle.image_check.specs.Theory.Whole.{whole_sound}
+use Rattle.image_layout.proofs.Theory.Reading.{has_head, has_names}
+use Rattle.image_check.proofs.Theory.Whole.{whole_sound}
 use Rattle.step_look.proofs.is_thread.Tie as tie
 
 names-of-requires : tie.Need-names-of-requires

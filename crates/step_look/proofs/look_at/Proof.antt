@@ -11,19 +11,19 @@ use Rattle.calculus.specs.Step.{place}
 use Rattle.calculus.specs.Image.{limits_test, nodes_all}
 use Rattle.term.specs.Expressions.{term_at}
 use Rattle.image_layout.specs.Slice.{offset_at}
-use Rattle.image_layout.specs.Theory.Reading.{has_head}
+use Rattle.image_layout.proofs.Theory.Reading.{has_head}
 use Rattle.image.specs.Configuration.{config_of}
 use Rattle.term_redex.specs.declared.Place.{Place}
 use Rattle.term_redex.specs.Places.{place_of, Searchable}
 use Rattle.step_rules.specs.Meets.{Deciding}
 use Rattle.step_rules.specs.Stepped.{Stepped}
-use Rattle.step_rules.specs.Theory.Found.{found_done, thread_searchable}
+use Rattle.step_rules.proofs.Theory.Found.{found_done, thread_searchable}
 use Rattle.step_decide.specs.Decided.{Decided}
-use Rattle.image_check.specs.Theory.Names.{config_parts}
-use Rattle.image_check.specs.Theory.Whole.{whole_sound}
+use Rattle.image_check.proofs.Theory.Names.{config_parts}
+use Rattle.image_check.proofs.Theory.Whole.{whole_sound}
 use Rattle.step_look.proofs.look_at.Statement.{statement}
 use Rattle.step_look.specs.Looked.{Staying, goes, stays_so}
-use Rattle.step_look.specs.Theory.Writing.{countable}
+use Rattle.step_look.proofs.Theory.Writing.{countable}
 use Rattle.step_look.proofs.Looking.{by_decision, by_done, by_no_room, by_no_thread, by_room, few_before, no_thread_there, not_goes, room_is, stepped, thread_is_there}
 use Rattle.step_look.proofs.look_at.Tie as tie
 

@@ -1,7 +1,7 @@
 -- `step_reduct::put_argument` meets its contract.
 use native.Mathlib.Omega.{arith}
 use Rattle.step_rules.specs.Effects.{bytes_between}
-use Rattle.step_rules.specs.Theory.Lengths.{argument_length}
+use Rattle.step_rules.proofs.Theory.Lengths.{argument_length}
 use borrow.Author.Rules.{rules}
 use Rattle.step_reduct.proofs.put_argument.Statement.{statement}
 use Rattle.step_reduct.proofs.put_argument.Tie as tie

@@ -1,10 +1,10 @@
 -- `step_reduct::put_dereferenced` meets its contract.
 use mathlib.Core.Path.{sym}
 use native.Mathlib.Omega.{arith}
-use Rattle.buffer.specs.Theory.Writes.{same, then, known_as}
+use Rattle.buffer.proofs.Theory.Writes.{same, then, known_as}
 use Rattle.step_rules.specs.Effects.{bytes_between, effect_of}
-use Rattle.step_rules.specs.Theory.Writers.{has_by}
-use Rattle.step_rules.specs.Theory.Lengths.{argument_length, copied_length, function_length, redex_by, length_3}
+use Rattle.step_rules.proofs.Theory.Writers.{has_by}
+use Rattle.step_rules.proofs.Theory.Lengths.{argument_length, copied_length, function_length, redex_by, length_3}
 use borrow.Author.Rules.{rules}
 use Rattle.step_reduct.proofs.put_dereferenced.Statement.{statement}
 use Rattle.step_reduct.proofs.put_dereferenced.Tie as tie

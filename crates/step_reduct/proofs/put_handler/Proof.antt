@@ -2,9 +2,9 @@
 use mathlib.Core.Path.{ap, sym}
 use Prim.Native.Nat.{◌-◌, ◌+◌, ℕ}
 use native.Mathlib.Omega.{arith}
-use Rattle.buffer.specs.Theory.Writes.{same, then, known_as}
+use Rattle.buffer.proofs.Theory.Writes.{same, then, known_as}
 use Rattle.step_rules.specs.Effects.{name_bytes, effect_of}
-use Rattle.step_rules.specs.Theory.Lengths.{argument_length, redex_by, length_4}
+use Rattle.step_rules.proofs.Theory.Lengths.{argument_length, redex_by, length_4}
 use Rattle.step_reduct.proofs.Redexes.{names_by}
 use borrow.Author.Rules.{rules}
 use Rattle.step_reduct.proofs.put_handler.Statement.{statement}

@@ -1,5 +1,5 @@
 -- `step_reduct::put_name` meets its contract.
-use Rattle.buffer.specs.Theory.Writes.{then}
+use Rattle.buffer.proofs.Theory.Writes.{then}
 use borrow.Author.Rules.{rules}
 use Rattle.step_reduct.proofs.put_name.Statement.{statement}
 use Rattle.step_reduct.proofs.put_name.Tie as tie

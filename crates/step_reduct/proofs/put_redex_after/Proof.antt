@@ -2,10 +2,10 @@
 use mathlib.Core.Path.{ap, sym, ◌∙◌}
 use native.Mathlib.Omega.{arith}
 use lib.ListN.{length}
-use Rattle.buffer.specs.Theory.Writes.{known_as}
+use Rattle.buffer.proofs.Theory.Writes.{known_as}
 use Rattle.step_rules.specs.Effects.{bytes_between, name_bytes, effect_of}
-use Rattle.step_rules.specs.Theory.Writers.{has_by}
-use Rattle.step_rules.specs.Theory.Lengths.{redex_by, length_7}
+use Rattle.step_rules.proofs.Theory.Writers.{has_by}
+use Rattle.step_rules.proofs.Theory.Lengths.{redex_by, length_7}
 use Rattle.step_reduct.proofs.Redexes.{names_by}
 use Rattle.step_reduct.proofs.Outcomes.{Replaces, replaces_as, replaces_1, replaces_8, replaces_9}
 use borrow.Author.Rules.{rules}

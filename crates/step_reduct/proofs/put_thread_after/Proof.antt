@@ -3,10 +3,10 @@ use mathlib.Core.Path.{ap, ◌≡◌, ap₂}
 use Prim.Native.Nat.{◌-◌, ◌+◌, ℕ}
 use native.Mathlib.Omega.{arith}
 use lib.ListN.{take, drop}
-use Rattle.buffer.specs.Theory.Writes.{same, then, known_as}
+use Rattle.buffer.proofs.Theory.Writes.{same, then, known_as}
 use Rattle.step_rules.specs.Effects.{bytes_between}
 use Rattle.step_rules.specs.Moves.{expression_after}
-use Rattle.step_rules.specs.Theory.Lengths.{length_between, expression_length}
+use Rattle.step_rules.proofs.Theory.Lengths.{length_between, expression_length}
 use Rattle.step_reduct.proofs.Redexes.{has_thread}
 use borrow.Author.Rules.{rules}
 use Rattle.step_reduct.proofs.put_thread_after.Statement.{statement}

@@ -3,8 +3,8 @@ use mathlib.Core.Path.{ap, refl}
 use native.Mathlib.Omega.{arith}
 use lib.ListN.{length}
 use Rattle.step_rules.specs.Effects.{effect_of}
-use Rattle.step_rules.specs.Theory.Lengths.{length_3, redex_by}
-use Rattle.step_rules.specs.Theory.Writers.{has_by}
+use Rattle.step_rules.proofs.Theory.Lengths.{length_3, redex_by}
+use Rattle.step_rules.proofs.Theory.Writers.{has_by}
 use Rattle.step_room.proofs.Counts.{counts}
 use borrow.Author.Rules.{rules}
 use Rattle.step_room.proofs.count_followed.Statement.{statement}

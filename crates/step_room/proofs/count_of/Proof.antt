@@ -4,8 +4,8 @@ use native.Mathlib.Omega.{arith}
 use lib.ListN.{length}
 use borrow.Author.Rules.{rules}
 use Rattle.step_rules.specs.Effects.{effect_of}
-use Rattle.step_rules.specs.Theory.Lengths.{length_4, length_7, redex_by}
-use Rattle.step_rules.specs.Theory.Writers.{has_by}
+use Rattle.step_rules.proofs.Theory.Lengths.{length_4, length_7, redex_by}
+use Rattle.step_rules.proofs.Theory.Writers.{has_by}
 use Rattle.step_room.proofs.Counts.{counts, counts_by}
 use Rattle.step_room.proofs.count_of.Statement.{statement}
 use Rattle.step_room.proofs.count_of.Tie as tie

@@ -3,7 +3,7 @@ use mathlib.Core.Path.{refl}
 use Prim.Native.Nat.{◌-◌}
 use native.Mathlib.Omega.{arith}
 use Rattle.calculus.specs.Bytes.{Bytes}
-use Rattle.calculus.specs.Theory.Weights.{nodes_weight, size_weight}
+use Rattle.calculus.proofs.Theory.Weights.{nodes_weight, size_weight}
 use Rattle.step_room.specs.Counting.{Weighable}
 use Rattle.step_room.proofs.Bounds.{part_short, part_size, weighable}
 use Rattle.step_room.proofs.Counts.{substitutes}

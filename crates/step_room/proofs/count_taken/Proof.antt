@@ -1,6 +1,6 @@
 -- `step_room::count_taken` meets its contract.
 use Rattle.step_rules.specs.Substitutions.{Whole}
-use Rattle.step_rules.specs.Theory.Substitutions.{whole_as, whole_taken}
+use Rattle.step_rules.proofs.Theory.Substitutions.{whole_as, whole_taken}
 use Rattle.step_room.proofs.Counts.{counts_taken}
 use borrow.Author.Rules.{rules}
 use Rattle.step_room.proofs.count_taken.Statement.{statement}

@@ -3,9 +3,9 @@ use mathlib.Core.Path.{◌∙◌, ap₂}
 use Prim.Native.Nat.{ℕ, ◌+◌, ◌-◌}
 use native.Mathlib.Omega.{arith}
 use borrow.Author.Rules.{rules}
-use Rattle.image_layout.specs.Theory.Reading.{has_head}
+use Rattle.image_layout.proofs.Theory.Reading.{has_head}
 use Rattle.step_rules.specs.Moves.{names_after, nodes_after}
-use Rattle.step_rules.specs.Theory.Lengths.{expression_length}
+use Rattle.step_rules.proofs.Theory.Lengths.{expression_length}
 use Rattle.step_room.proofs.Bounds.{has_names}
 use Rattle.step_room.proofs.size_after.Statement.{statement}
 use Rattle.step_room.proofs.size_after.Tie as tie

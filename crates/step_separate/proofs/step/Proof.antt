@@ -3,8 +3,8 @@ use mathlib.Core.Path.{◌∙◌, sym}
 use native.Mathlib.Omega.{arith}
 use borrow.Author.Rules.{rules}
 use Rattle.calculus.specs.Profile.{separate}
-use Rattle.image_check.specs.Theory.Answers.{answered, refused}
-use Rattle.step_look.specs.Theory.Answers.{broken, checked, too_short}
+use Rattle.image_check.proofs.Theory.Answers.{answered, refused}
+use Rattle.step_look.proofs.Theory.Answers.{broken, checked, too_short}
 use Rattle.step_separate.proofs.step.Statement.{statement}
 use Rattle.step_separate.proofs.step.Tie as tie
 

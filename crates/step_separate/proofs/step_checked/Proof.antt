@@ -7,8 +7,8 @@ use borrow.Author.Rules.{rules}
 use borrow.Author.Tests.{not-false, not-true}
 use Rattle.calculus.specs.Bytes.{Bytes}
 use Rattle.step_look.specs.Looked.{Going, Looked}
-use Rattle.step_look.specs.Theory.Ways.{looked_goes, looked_stays}
-use Rattle.step_look.specs.Theory.Writing.{after_fits, can_write}
+use Rattle.step_look.proofs.Theory.Ways.{looked_goes, looked_stays}
+use Rattle.step_look.proofs.Theory.Writing.{after_fits, can_write}
 use Rattle.step_separate.proofs.Answers.{by_going, by_shares, by_staying, goer_goes}
 use Rattle.step_separate.proofs.step_checked.Statement.{statement}
 use Rattle.step_separate.proofs.step_checked.Tie as tie

@@ -3,9 +3,9 @@
 use Prim.Native.Nat.{◌-◌}
 use native.Mathlib.Omega.{arith}
 use borrow.Author.Rules.{rules}
-use Rattle.image_layout.specs.Theory.Reading.{has_names}
-use Rattle.image.specs.Theory.Exactly.{has_owner}
-use Rattle.image_check.specs.Theory.Whole.{whole_sound}
+use Rattle.image_layout.proofs.Theory.Reading.{has_names}
+use Rattle.image.proofs.Theory.Exactly.{has_owner}
+use Rattle.image_check.proofs.Theory.Whole.{whole_sound}
 use Rattle.step_shares.proofs.Highest.{Highest, highest_all, highest_none, highest_raised, highest_still, next_below, owner_small}
 use Rattle.step_shares.proofs.bays_of.Statement.{statement}
 use Rattle.step_shares.proofs.bays_of.Tie as tie

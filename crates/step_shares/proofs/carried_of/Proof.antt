@@ -5,7 +5,7 @@ use borrow.Author.Rules.{rules}
 use Rattle.step_rules.specs.declared.Move.{Move}
 use Rattle.step_rules.specs.Effects.{carried_of}
 use Rattle.step_rules.specs.Moves.{carried}
-use Rattle.step_rules.specs.Theory.Writers.{has_by}
+use Rattle.step_rules.proofs.Theory.Writers.{has_by}
 use Rattle.step_shares.proofs.Changing.{carry}
 use Rattle.step_shares.proofs.carried_of.Statement.{statement}
 use Rattle.step_shares.proofs.carried_of.Tie as tie

@@ -7,9 +7,9 @@ use Rattle.calculus.specs.Bytes.{Bytes}
 use Rattle.calculus.specs.Image.{nodes_all}
 use Rattle.calculus.specs.Limits.{max_nodes}
 use Rattle.image.specs.Configuration.{config_of}
-use Rattle.image.specs.Theory.Exactly.{has_owner}
+use Rattle.image.proofs.Theory.Exactly.{has_owner}
 use Rattle.step_rules.specs.declared.Carried.{Carried}
-use Rattle.step_rules.specs.Theory.Reading.{rules}
+use Rattle.step_rules.proofs.Theory.Reading.{rules}
 use Rattle.step_shares.proofs.Changing.{changed, few_after, no_fewer, small}
 use Rattle.step_shares.proofs.flow_of.Statement.{statement}
 use Rattle.step_shares.proofs.flow_of.Tie as tie

@@ -3,8 +3,8 @@ use mathlib.Core.Path.{◌∙◌, ap}
 use Prim.Native.Nat.{ℕ}
 use Rattle.calculus.specs.Image.{nodes}
 use Rattle.term.specs.Expressions.{term_at}
-use Rattle.image_layout.specs.Theory.Reading.{has_head}
-use Rattle.image_check.specs.Theory.Whole.{whole_sound}
+use Rattle.image_layout.proofs.Theory.Reading.{has_head}
+use Rattle.image_check.proofs.Theory.Whole.{whole_sound}
 use Rattle.step_shares.proofs.NameNodes.{bare_nodes, whole_nodes}
 use Rattle.step_shares.proofs.name_nodes.Statement.{statement}
 use Rattle.step_shares.proofs.name_nodes.Tie as tie

@@ -2,9 +2,9 @@
 use Prim.Native.Nat.{◌-◌}
 use native.Mathlib.Omega.{arith}
 use borrow.Author.Rules.{rules}
-use Rattle.image_layout.specs.Theory.Reading.{has_names}
-use Rattle.image.specs.Theory.Exactly.{has_owner}
-use Rattle.image_check.specs.Theory.Whole.{whole_sound}
+use Rattle.image_layout.proofs.Theory.Reading.{has_names}
+use Rattle.image.proofs.Theory.Exactly.{has_owner}
+use Rattle.image_check.proofs.Theory.Whole.{whole_sound}
 use Rattle.step_shares.proofs.Highest.{owner_small}
 use Rattle.step_shares.proofs.Columns.{Counting, counting_all, counting_none, counting_one, few_found, few_names, few_nodes, next_below}
 use Rattle.step_shares.proofs.tally_of.Statement.{statement}

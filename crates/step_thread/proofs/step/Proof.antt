@@ -2,9 +2,9 @@ use mathlib.Core.Path.{◌∙◌, sym}
 use native.Mathlib.Omega.{arith}
 use borrow.Author.Rules.{rules}
 use Rattle.calculus.specs.Profile.{common}
-use Rattle.image_check.specs.Theory.Answers.{answered, refused}
+use Rattle.image_check.proofs.Theory.Answers.{answered, refused}
 use Rattle.step_thread.proofs.step.Statement.{statement}
-use Rattle.step_look.specs.Theory.Answers.{broken, checked, too_short}
+use Rattle.step_look.proofs.Theory.Answers.{broken, checked, too_short}
 use Rattle.step_thread.proofs.step.Tie as tie
 
 returns : tie.Need-returns

@@ -5,8 +5,8 @@ use native.Mathlib.Omega.{arith}
 use borrow.Author.Rules.{rules}
 use Rattle.calculus.specs.Bytes.{Bytes}
 use Rattle.step_look.specs.Looked.{Going, Looked}
-use Rattle.step_look.specs.Theory.Ways.{looked_goes, looked_stays}
-use Rattle.step_look.specs.Theory.Writing.{after_fits, can_write}
+use Rattle.step_look.proofs.Theory.Ways.{looked_goes, looked_stays}
+use Rattle.step_look.proofs.Theory.Writing.{after_fits, can_write}
 use Rattle.step_thread.proofs.step_checked.Statement.{statement}
 use Rattle.step_thread.proofs.Answers.{by_going, by_staying}
 use Rattle.step_thread.proofs.step_checked.Tie as tie

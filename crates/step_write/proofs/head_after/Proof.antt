@@ -1,11 +1,11 @@
 -- `step_write::head_after` meets its contract.
 use mathlib.Core.Path.{ap, sym, ◌∙◌}
 use lib.ListN.{length}
-use Rattle.image_layout.specs.Theory.Slice.{encoded_kind, encoded_companion, encoded_expression}
-use Rattle.image_layout.specs.Theory.Reading.{has_head, expression_length}
+use Rattle.image_layout.proofs.Theory.Slice.{encoded_kind, encoded_companion, encoded_expression}
+use Rattle.image_layout.proofs.Theory.Reading.{has_head, expression_length}
 use Rattle.step_write.specs.Changes.{changed}
 use Rattle.step_write.proofs.Components.{becomes_as, as_head, started_length}
-use Rattle.step_rules.specs.Theory.Lengths.{argument_length}
+use Rattle.step_rules.proofs.Theory.Lengths.{argument_length}
 use borrow.Author.Rules.{rules}
 use Rattle.step_write.proofs.head_after.Statement.{statement}
 use Rattle.step_write.proofs.head_after.Tie as tie

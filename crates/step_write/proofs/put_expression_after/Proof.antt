@@ -3,9 +3,9 @@ use mathlib.Core.Path.{ap, sym, ◌∙◌, ◌≡◌}
 use Prim.Native.Nat.{◌+◌, ◌≤◌}
 use native.Mathlib.Omega.{arith}
 use lib.ListN.{length}
-use Rattle.buffer.specs.Theory.Writes.{still, known_as}
-use Rattle.image_layout.specs.Theory.Slice.{encoded_expression}
-use Rattle.image_layout.specs.Theory.Reading.{has_expression}
+use Rattle.buffer.proofs.Theory.Writes.{still, known_as}
+use Rattle.image_layout.proofs.Theory.Slice.{encoded_expression}
+use Rattle.image_layout.proofs.Theory.Reading.{has_expression}
 use Rattle.step_rules.specs.Moves.{component_after}
 use Rattle.step_write.specs.declared.Change.{Change}
 use Rattle.step_write.specs.Changes.{Becomes, changed}

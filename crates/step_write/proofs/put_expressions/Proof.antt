@@ -4,11 +4,11 @@ use mathlib.Core.List.{List}
 use Prim.Native.Nat.{◌-◌, ◌≤◌, ◌<◌, ℕ}
 use native.Mathlib.Omega.{arith}
 use Rattle.calculus.specs.Lists.{tabulate}
-use Rattle.calculus.specs.Theory.Tabulate.{tabulate_all}
+use Rattle.calculus.proofs.Theory.Tabulate.{tabulate_all}
 use Rattle.buffer.specs.Written.{Wrote}
-use Rattle.buffer.specs.Theory.Writes.{still, same, known_as}
+use Rattle.buffer.proofs.Theory.Writes.{still, same, known_as}
 use Rattle.image_layout.specs.Encoded.{expressions}
-use Rattle.image_layout.specs.Theory.Turns.{expression_turn, room_expression}
+use Rattle.image_layout.proofs.Theory.Turns.{expression_turn, room_expression}
 use Rattle.step_rules.specs.Moves.{component_after, names_after}
 use Rattle.step_write.proofs.put_expressions.Statement.{statement}
 use Rattle.step_write.proofs.put_expressions.Tie as tie

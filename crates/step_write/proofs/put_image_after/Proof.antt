@@ -6,9 +6,10 @@ use lib.ListN.{length}
 use Rattle.calculus.specs.Bytes.{two_bytes, two_byte_values}
 use Rattle.calculus.specs.Limits.{first_head}
 use Rattle.buffer.specs.Written.{Wrote}
-use Rattle.buffer.specs.Theory.Writes.{same, known_as}
-use Rattle.buffer.specs.Theory.TwoBytes.{length_two_bytes}
-use Rattle.image_layout.specs.Theory.Turns.{Room, room_kept, room_names, heads_end, image_turns}
+use Rattle.buffer.proofs.Theory.Writes.{same, known_as}
+use Rattle.buffer.proofs.Theory.TwoBytes.{length_two_bytes}
+use Rattle.image_layout.specs.Room.{Room}
+use Rattle.image_layout.proofs.Theory.Turns.{room_kept, room_names, heads_end, image_turns}
 use Rattle.step_rules.specs.Moves.{component_after, names_after}
 use Rattle.step_write.proofs.Components.{image_room, image_is}
 use borrow.Author.Rules.{rules}

@@ -1,10 +1,10 @@
 -- `step_write::put_started` meets its contract.
 use mathlib.Core.Path.{ap}
 use native.Mathlib.Omega.{arith}
-use Rattle.buffer.specs.Theory.Writes.{same, then, known_as}
+use Rattle.buffer.proofs.Theory.Writes.{same, then, known_as}
 use Rattle.step_rules.specs.Effects.{name_bytes}
 use Rattle.step_write.proofs.Components.{started_length}
-use Rattle.step_rules.specs.Theory.Lengths.{argument_length}
+use Rattle.step_rules.proofs.Theory.Lengths.{argument_length}
 use borrow.Author.Rules.{rules}
 use Rattle.step_write.proofs.put_started.Statement.{statement}
 use Rattle.step_write.proofs.put_started.Tie as tie

@@ -13,7 +13,7 @@ use Rattle.term.specs.declared.Node.{Node}
 use Rattle.term.specs.Reader.{node_at}
 use Rattle.term.proofs.Views.{NodeAt}
 use Rattle.term_walk.specs.Frames.{max_waits}
-use Rattle.buffer.specs.Theory.Writes.{same}
+use Rattle.buffer.proofs.Theory.Writes.{same}
 use Rattle.term_scan.proofs.Going.{going_node, going_not_bad, going_room, going_top}
 use Rattle.term_subst.proofs.Putting.{Copied, copied, piece, Putting, putting_asks, putting_done, putting_few, putting_on, putting_start, value}
 use Rattle.term_subst.proofs.put_substituted.Statement.{statement}

@@ -1,9 +1,9 @@
 -- `text::put_verdict_line` meets its contract: the word, the number, the end of the line.
 use native.Mathlib.Omega.{arith}
 use borrow.Author.Rules.{rules}
-use Rattle.buffer.specs.Theory.Writes.{same, then}
+use Rattle.buffer.proofs.Theory.Writes.{same, then}
 use Rattle.text.specs.Ascii.{verdict_line}
-use Rattle.text.specs.Theory.Digits.{length_decimal}
+use Rattle.text.proofs.Theory.Digits.{length_decimal}
 use Rattle.text.proofs.put_verdict_line.Goals as goal
 
 pub put_bytes-requires : goal.put_bytes-requires

@@ -1,0 +1,3 @@
+-- What is proved of the definitions of specs/.
+-- the theorems
+pub mod Theory
