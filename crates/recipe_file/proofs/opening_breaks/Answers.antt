@@ -10,10 +10,10 @@ pub returns-then-recipe : goal.returns-then-recipe
 returns-then-recipe c = other_first _ c.if-recipe.true
 
 pub returns-then-recipe-2 : goal.returns-then-recipe-2
-returns-then-recipe-2 c = other_second _ c.t13-1.false c.if-recipe-2.true
+returns-then-recipe-2 c = other_second _ c.if-recipe.false c.if-recipe-2.true
 
 pub returns-then-recipe-edition : goal.returns-then-recipe-edition
-returns-then-recipe-edition c = other_edition _ c.t13-1.false c.if-recipe-2.false _ c.requires.1 c.if-recipe-edition.true
+returns-then-recipe-edition c = other_edition _ c.if-recipe.false c.if-recipe-2.false _ c.requires.1 c.if-recipe-edition.true
 
 pub overflow_add-least : goal.overflow_add-least
 overflow_add-least c =
@@ -26,4 +26,4 @@ overflow_add-most c =
     omega (arith, says.one_byte)
 
 pub returns : goal.returns
-returns c = c.is_outside.ensures ∙ opening_stands _ c.t13-1.false c.if-recipe-2.false _ c.requires.1 c.if-recipe-edition.false _ c.wide.ensures.0
+returns c = c.is_outside.ensures ∙ opening_stands _ c.if-recipe.false c.if-recipe-2.false _ c.requires.1 c.if-recipe-edition.false _ c.wide.ensures.0
