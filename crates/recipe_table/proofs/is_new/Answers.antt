@@ -1,0 +1,18 @@
+-- `recipe_table::is_new` meets its contract. The loop's invariant: the keys passed and those still to come decide together.
+use mathlib.Core.Path.{◌≡◌, refl, sym, ◌∙◌}
+use mathlib.Core.Bool.{◌&&◌}
+use Prim.Native.Nat.{◌-◌, ◌≤◌}
+use native.Mathlib.Omega.{arith}
+use borrow.Author.Rules.{rules}
+use Rattle.recipe_table.specs.Keys.{absent}
+use Rattle.recipe_table.proofs.Keys.{absent_done, absent_turn}
+use Rattle.recipe_table.proofs.is_new.Goals as goal
+
+pub loop-j-init : goal.loop-j-init
+loop-j-init c = (omega arith, refl)
+
+pub loop-j-preserved : goal.loop-j-preserved
+loop-j-preserved c = (omega arith, absent_turn _ _ _ _ c.loop-j.fresh _ _ (omega arith) refl refl ∙ c.loop-j.invariant.1)
+
+pub returns : goal.returns
+returns c = sym (absent_done _ _ _ _ _ (omega arith)) ∙ c.loop-j.invariant.1
