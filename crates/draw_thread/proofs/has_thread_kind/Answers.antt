@@ -5,12 +5,8 @@ use borrow.Author.Rules.{rules}
 use lib.Dec.{eqb}
 use Rattle.calculus.specs.Kinds.{thread_kind}
 use Rattle.draw_spec.specs.Draws.{has_thread_kind}
-use Rattle.draw_thread.proofs.has_thread_kind.Statement.{statement}
-use Rattle.draw_thread.proofs.has_thread_kind.Tie as tie
+use Rattle.draw_thread.proofs.has_thread_kind.Goals as goal
 
-returns : tie.Need-returns
+pub returns : goal.returns
 unfolding has_thread_kind
 returns c = ap (λ (k : ℕ). eqb k thread_kind) c.kind_at.ensures
-
-pub has-thread-kind-spec : {M : Type 1} → statement M
-has-thread-kind-spec = tie.close (tie.spec (λ c κs. search rules) returns)
