@@ -162,8 +162,7 @@ enum {
     FIKAREHU_REFUSED_STARTING = 19,    /* edition 3: a starting part whose length is not twice the number of
                                           bays */
     FIKAREHU_REFUSED_OTHER_SETTING = 20,  /* separate: a bay names another bay's setting */
-    FIKAREHU_REFUSED_SHARE = 21,       /* separate: a bay starts above its share */
-    FIKAREHU_REFUSED_SIZE = 22         /* a size outside 1 to 6; no function here answers it */
+    FIKAREHU_REFUSED_SHARE = 21        /* separate: a bay starts above its share */
 };
 
 /* The rules: Fig. 5's in its order, and the two that take a pair or a list apart. */

@@ -42,5 +42,3 @@ pub const STARTING: u32 = 19;
 pub const OTHER_SETTING: u32 = 20;
 /// A bay of the separate profile that starts above its share (document 02, T-09).
 pub const SHARE: u32 = 21;
-/// A size outside 1 to 6, of the next small recipe (document 02, T-10).
-pub const SIZE: u32 = 22;
