@@ -1,5 +1,7 @@
 // Writers into a lent buffer. Each writes at a place, answers the next place, and promises by `Wrote` what the buffer holds then. And the reader of the two-byte
 // numbers that they write.
+#![tactic(auto)]
+
 ghost use Rattle.std.specs.Prelude.{◌≡◌, ◌+◌, ◌-◌, ◌<◌, ◌≤◌, [], ◌∷◌, length, take, drop};
 ghost use Rattle.calculus.specs.Bytes.{two_byte_values, two_bytes, word};
 ghost use Rattle.buffer.specs.Written.{CopiedTo, Wrote};

@@ -1,6 +1,6 @@
 -- Tests one after the other, as a function asks them: the first that fails refuses, and the last one is the answer.
 use mathlib.Core.Path.{◌≡◌, refl, sym, ◌∙◌}
-use mathlib.Core.Bool.{◌&&◌, Bool, false, not, true}
+use mathlib.Core.Bool.{◌&&◌, Bool, false, true}
 use mathlib.Core.List.{List, [], ◌∷◌}
 
 unfoldable pub all : List Bool → Bool

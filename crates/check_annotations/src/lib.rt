@@ -1,4 +1,6 @@
 // Document 01, cause 8, and T-03: the types that lambdas, constants, pairs and list fronts are annotated with.
+#![tactic(auto)]
+
 ghost use Rattle.std.specs.Prelude.{◌≡◌, false, true, ◌<◌, ◌≤◌};
 ghost use Rattle.calculus.specs.Limits.{byte_values};
 ghost use Rattle.calculus.specs.Syntax.{at};

@@ -1,4 +1,6 @@
 // Loops over all bays of a recipe: whether each part is one term and how many nodes they have, whether each term passes a test, and the types.
+#![tactic(auto)]
+
 ghost use Rattle.std.specs.Prelude.{◌≡◌, ◌<◌};
 ghost use Rattle.recipe_file.specs.File.{edition_of, bays, term_bytes};
 ghost use Rattle.recipe_file.specs.FileRule.{FileRule};

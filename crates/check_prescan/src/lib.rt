@@ -1,5 +1,7 @@
 // Causes 5 to 8 of a part in one pass: whether it is exactly one term, nests within the limit, and has its variables, names and types. It is a walk (crate
 // term_walk), whose frames are the numbers of nodes above and of variables around the terms still to come.
+#![tactic(auto)]
+
 ghost use Rattle.std.specs.Prelude.{◌≡◌, ◌<◌, ◌≤◌, length};
 ghost use Rattle.calculus.specs.Limits.{max_entries};
 ghost use Rattle.calculus.specs.Bytes.{two_byte_values};

@@ -1,4 +1,6 @@
 // Checking a recipe file: each cause over the whole file before the next, and the lowest number is answered.
+#![tactic(auto)]
+
 ghost use Rattle.std.specs.Prelude.{◌≡◌};
 ghost use Rattle.calculus.specs.Table.{TableRule};
 ghost use Rattle.recipe_file.specs.File.{edition_of};

@@ -1,4 +1,6 @@
 // T-09: what the second loader asks of a recipe that is accepted. Cause 20: a bay names another's setting. Cause 21: a bay starts above its share.
+#![tactic(auto)]
+
 ghost use Rattle.std.specs.Prelude.{◌≡◌, ◌<◌};
 ghost use Rattle.calculus.specs.Profile.{names_only};
 ghost use Rattle.term.specs.Reader.{GoodAt};

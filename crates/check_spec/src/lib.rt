@@ -1,4 +1,5 @@
 // The verdict on a recipe file: what is answered. The definitions and theorems stand in specs/.
+#![tactic(auto)]
 
 use numbers::Recipe;
 

@@ -12,7 +12,6 @@ use Rattle.calculus.specs.Kinds.{cell_type_kind, once_type_kind}
 use Rattle.calculus.specs.Syntax.{Shape, pair, list, at}
 use Rattle.calculus.specs.Table as calculus
 use Rattle.calculus.specs.Verdict.{is_function_kind, lambda_number, on_cell, on_function, on_once_function, result_number, with_components}
-use Rattle.recipe_table.specs.declared.Entry.{Entry}
 use Rattle.recipe_table.specs.Entries.{table_of}
 use Rattle.recipe_table.specs.Filled.{as_entry, unused}
 use Rattle.check_types.specs.Entries.{entry_of, known_entry}

@@ -1,4 +1,6 @@
 // The type of a term from those of its subterms, with the types of the variables in scope.
+#![tactic(auto)]
+
 ghost use Rattle.std.specs.Prelude.{◌≡◌, ◌<◌};
 ghost use Rattle.std.proofs.Math.Option.{some};
 ghost use Rattle.calculus.specs.Limits.{byte_values};

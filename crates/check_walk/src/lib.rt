@@ -1,5 +1,7 @@
 // The type walk: document 01's causes 9 and 10 on the bytes of a term. It carries the types of the variables in scope and a mark for each, and is no
 // deeper than the limit of nesting.
+#![tactic(auto)]
+
 ghost use Rattle.std.specs.Prelude.{◌≡◌, ◌+◌, ◌≤◌};
 ghost use Rattle.calculus.specs.Limits.{max_variables};
 ghost use Rattle.check_linearity.specs.Spend.{new_mark};

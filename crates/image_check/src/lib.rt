@@ -1,5 +1,7 @@
 // Document 01, refusal 13: whether a slice of any length and any bytes is an image that keeps every rule and limit. One pass over the heads, one over
 // the expressions, which are read by loops, and two over the handles: no recursion, and no walk that is quadratic in the number of names.
+#![tactic(auto)]
+
 ghost use Rattle.std.specs.Prelude.{◌≡◌, true, ◌≤◌, length};
 ghost use Rattle.calculus.specs.Limits.{max_names, max_nodes};
 ghost use Rattle.calculus.specs.Image.{nodes_all};

@@ -1,4 +1,6 @@
 // Document 01, "The image": its limits and kinds, and its heads and expressions read and written in bytes.
+#![tactic(auto)]
+
 ghost use Rattle.std.specs.Prelude.{◌≡◌, ◌+◌, ◌<◌, ◌≤◌, length};
 ghost use Rattle.calculus.specs.Bytes.{two_byte_values};
 ghost use Rattle.calculus.specs.Limits.{first_head, head_length};

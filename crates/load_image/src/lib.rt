@@ -1,4 +1,6 @@
 // Document 01, "Loading": writes the starting image of an accepted recipe. Names 0 to b − 1 are the settings, b to 2b − 1 the bays' threads.
+#![tactic(auto)]
+
 ghost use Rattle.std.specs.Prelude.{◌≡◌, ◌+◌, ◌*◌, ◌<◌, ◌≤◌, get_or, length};
 ghost use Rattle.calculus.specs.Limits.{first_head, max_bays, max_image_length};
 ghost use Rattle.calculus.specs.Lists.{tabulate};

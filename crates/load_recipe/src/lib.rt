@@ -1,4 +1,6 @@
 // Loading a recipe: the out buffer's length, then the check, and only then the starting image is written.
+#![tactic(auto)]
+
 ghost use Rattle.std.specs.Prelude.{◌≡◌, ◌++◌, ◌≤◌, drop, length};
 ghost use Rattle.calculus.specs.Limits.{max_image_length};
 ghost use Rattle.calculus.specs.Profile.{common};

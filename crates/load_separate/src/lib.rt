@@ -1,4 +1,6 @@
 // T-09: loading a recipe in the separate profile. As the first loader, with causes 20 and 21 between the check and the starting image.
+#![tactic(auto)]
+
 ghost use Rattle.std.specs.Prelude.{◌≡◌, length};
 ghost use Rattle.calculus.specs.Profile.{separate};
 ghost use Rattle.load_spec.specs.Loading.{loaded_of, out_after_load};

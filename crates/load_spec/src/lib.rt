@@ -1,4 +1,5 @@
 // What a load answers. The definitions stand in specs/.
+#![tactic(auto)]
 
 use numbers::Recipe;
 

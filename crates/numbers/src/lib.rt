@@ -1,5 +1,7 @@
 // Document 01's limits, kinds, rules and causes, and document 02's: each number has its name here and nowhere else. That they are the numbers of the definitions
 // is what the functions below say.
+#![tactic(auto)]
+
 ghost use Rattle.std.specs.Prelude.{◌≡◌};
 ghost use Rattle.calculus.specs.Limits.{byte_values};
 ghost use Rattle.numbers.specs.Tables.{recipe_limits, image_limits, load_limits, term_limits, type_kinds, type_entries, image_kinds, rules, causes};

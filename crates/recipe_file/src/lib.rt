@@ -1,4 +1,6 @@
 // The recipe file: its limits, its layout, and its parts as slices of it.
+#![tactic(auto)]
+
 ghost use Rattle.std.specs.Prelude.{◌≡◌, false, ◌+◌, ◌*◌, ◌<◌, ◌≤◌, length};
 ghost use Rattle.calculus.specs.Bytes.{two_byte_values};
 ghost use Rattle.calculus.specs.Limits.{byte_values, max_bays, min_file_length};

@@ -1,4 +1,6 @@
 // The type table: read by value, and its rules.
+#![tactic(auto)]
+
 ghost use Rattle.std.specs.Prelude.{◌≡◌, ◌&&◌, not, ◌-◌, ◌<◌, ◌≤◌, ◌/◌, ltb, length};
 ghost use Rattle.calculus.specs.Limits.{min_entries, max_entries};
 ghost use Rattle.calculus.specs.Table.{is_once_kind, entry_stands, entries_test, same_entry, distinct_test, table_test};

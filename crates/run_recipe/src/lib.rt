@@ -1,4 +1,6 @@
 // The runner: checks and loads a recipe, then turn after turn between two lent buffers.
+#![tactic(auto)]
+
 ghost use Rattle.std.specs.Prelude.{◌≡◌, cond, length, take};
 ghost use Rattle.run_turn.specs.Turning.{Took};
 ghost use Rattle.run_spec.specs.Course.{idle, no_room, take_turns};

@@ -18,7 +18,7 @@ use Rattle.step_look.specs.Looked.{Going, Staying, reply_in}
 use Rattle.run_spec.specs.Course as course
 use Rattle.run_spec.specs.Course.{look, look_of}
 use Rattle.run_turn.specs.declared.Sight.TheVariants.{LacksRoom, Rests, PassesOn}
-use Rattle.run_turn.specs.Turning.{Seen, goes, lacks_room, rests, passes_on, sight_of, sight_of_refusal}
+use Rattle.run_turn.specs.Turning.{Seen, lacks_room, rests, passes_on, sight_of, sight_of_refusal}
 
 -- 13 does not fit, so a look is the calculus's step
 look_stands : (s : List ℕ) → image_stands s ≡ true → (x : ℕ) → look s x ≡ look_of (reply_in s x)

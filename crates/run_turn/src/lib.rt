@@ -1,4 +1,6 @@
 // A turn of the runner: a look at one name after the other, going round, until a thread goes; only its step is written.
+#![tactic(auto)]
+
 ghost use Rattle.std.specs.Prelude.{◌≡◌, ◌-◌, ◌<◌, ◌≤◌, length};
 ghost use Rattle.calculus.specs.Limits.{max_image_length};
 ghost use Rattle.image_layout.specs.Slice.{names};

@@ -1,6 +1,6 @@
 -- Document 01, "A run", in bytes: "an accepted recipe, its load into a buffer that is long enough, and a list of steps, none or many". What is loaded is said by
 -- `loaded_of` and `out_after_load`, what a step answers and leaves by `outcome_of` and `out_after_step`: the definitions that the contracts of load and step cite.
-use Rattle.std.specs.Prelude.{◌≡◌, List, [], ◌∷◌, ◌++◌, map, ℕ, ◌+◌, ◌≤◌, length, take}
+use Rattle.std.specs.Prelude.{◌≡◌, List, [], ◌∷◌, ◌++◌, map, ℕ, ◌≤◌, length, take}
 use Rattle.std.proofs.Math.Option.{some}
 use Rattle.calculus.specs.Types.{LinType}
 use Rattle.calculus.specs.Syntax.{Exp, name, thread_of, open_for, at}

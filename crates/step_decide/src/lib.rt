@@ -1,5 +1,7 @@
 // Document 01, "A step": what comes of the place where values meet. The tag of the function decides, or of the subject of a case; where it is a name, or exch
 // applied to one, the kind of that name.
+#![tactic(auto)]
+
 ghost use Rattle.std.specs.Prelude.{◌≡◌};
 ghost use Rattle.step_rules.specs.Meets.{Deciding, step_at};
 ghost use Rattle.step_decide.specs.declared.Decision.TheVariants.{Goes};

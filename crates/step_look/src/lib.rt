@@ -1,4 +1,6 @@
 // A look at one thread of an image: whether a rule moves it and there is room, found out before a byte is written.
+#![tactic(auto)]
+
 ghost use Rattle.std.specs.Prelude.{◌≡◌, true};
 ghost use Rattle.image.specs.Stands.{image_stands};
 ghost use Rattle.step_look.specs.Looked.{Looked, Stands, is_thread, stays};

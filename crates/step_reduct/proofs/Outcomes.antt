@@ -1,7 +1,7 @@
 -- The outcome of rules 1, 8 and 9: a body with values in it.
 use mathlib.Core.Path.{◌≡◌, ap, refl, ◌∙◌}
 use mathlib.Core.List.{List}
-use Prim.Native.Nat.{ℕ, ◌-◌}
+use Prim.Native.Nat.{ℕ}
 use Rattle.term.specs.Expressions.{bytes, term_at}
 use Rattle.term_subst.proofs.Theory.Outcome.{bytes_beta, bytes_both}
 use Rattle.step_rules.specs.declared.Move.{Move}

@@ -1,5 +1,7 @@
 // Document 01, "A step": the expression of the thread that goes, after a step by a rule. What stands in place of the application or case is written by rule; the
 // rest of the expression is copied.
+#![tactic(auto)]
+
 ghost use Rattle.std.specs.Prelude.{◌≡◌, ◌+◌, ◌<◌, ◌≤◌, length};
 ghost use Rattle.calculus.specs.Limits.{byte_values};
 ghost use Rattle.buffer.specs.Written.{Wrote};

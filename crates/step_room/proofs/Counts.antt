@@ -9,7 +9,7 @@ use Rattle.calculus.specs.Names.{uses}
 use Rattle.calculus.specs.Reduction.{substitute, substitute_both}
 use Rattle.calculus.specs.Syntax.{Exp}
 use Rattle.calculus.proofs.Theory.Weights.{closed_unused, nodes_weight, size_weight, weigh_both, weigh_substitute}
-use Rattle.term.specs.Expressions.{bytes, term_at}
+use Rattle.term.specs.Expressions.{term_at}
 use Rattle.term.proofs.Sizes.{length_bytes}
 use Rattle.term_redex.specs.declared.Meeting.{Meeting}
 use Rattle.term_subst.specs.declared.Uses.{Uses}

@@ -1,5 +1,7 @@
 // Document 01, refusal 15, and document 02, T-05: a step is weighed before a byte is written. Each value that is put in is counted once, then the body that it is
 // put in is walked once. Whether there is room is decided from these numbers, and the writer is handed them.
+#![tactic(auto)]
+
 ghost use Rattle.std.specs.Prelude.{◌≡◌, ◌*◌, ◌+◌, ◌-◌, ◌<◌, ◌≤◌, length};
 ghost use Rattle.calculus.specs.Bytes.{two_byte_values};
 ghost use Rattle.calculus.specs.Limits.{max_nodes};

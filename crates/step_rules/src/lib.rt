@@ -1,4 +1,6 @@
 // What a step by a rule does to an image. The definitions stand in specs/.
+#![tactic(auto)]
+
 ghost use Rattle.std.specs.Prelude.{◌≡◌, ◌<◌};
 ghost use Rattle.calculus.specs.Bytes.{two_byte_values};
 ghost use Rattle.calculus.specs.Reduction.{number};

@@ -1,4 +1,6 @@
 // Document 02, T-09, the second stepper: 12 and 13 first; then a look at the thread, and where it goes, each bay's share; only then the new image is written.
+#![tactic(auto)]
+
 ghost use Rattle.std.specs.Prelude.{◌≡◌, ◌≤◌, length};
 ghost use Rattle.calculus.specs.Limits.{max_image_length};
 ghost use Rattle.calculus.specs.Profile.{separate};

@@ -1,5 +1,7 @@
 // Document 02, T-09: a step's outcome weighed bay by bay before a byte is written. What each bay owns of the image is counted in one pass, and what the step brings to a
 // bay and takes from it is told by numbers.
+#![tactic(auto)]
+
 ghost use Rattle.std.specs.Prelude.{◌≡◌, ◌&&◌, cond, true, ◌+◌, ◌<◌, ◌≤◌, eqb, leb};
 ghost use Rattle.calculus.specs.Limits.{max_bays, max_names, max_nodes};
 ghost use Rattle.calculus.specs.Shares.{bays_in, names_share, nodes_share};

@@ -1,4 +1,6 @@
 // A step of one thread: 12 and 13 first; then a look at the thread, and only where it goes the new image is written.
+#![tactic(auto)]
+
 ghost use Rattle.std.specs.Prelude.{◌≡◌, ◌≤◌, length};
 ghost use Rattle.calculus.specs.Limits.{max_image_length};
 ghost use Rattle.calculus.specs.Profile.{common};

@@ -1,4 +1,6 @@
 // Document 01, "A step": writes the image after a step by a rule. Each name has its head and its expression by what the step makes of it.
+#![tactic(auto)]
+
 ghost use Rattle.std.specs.Prelude.{◌≡◌, cond, ◌+◌, ◌-◌, ◌<◌, ◌≤◌, length};
 ghost use Rattle.calculus.specs.Bytes.{two_byte_values};
 ghost use Rattle.calculus.specs.Limits.{byte_values, first_head};

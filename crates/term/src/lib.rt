@@ -1,5 +1,7 @@
 // Terms written root first, by the table of node forms. A function that walks a term takes the whole slice and the position of the
 // next node, reads that node's head, and goes on where the head ends: what falls is the part still unread.
+#![tactic(auto)]
+
 ghost use Rattle.std.specs.Prelude.{◌≡◌, ◌≤◌, ◌<◌, length, drop};
 ghost use Rattle.term.specs.Numbers.{value_of};
 ghost use Rattle.term.specs.Forms.{form_of, is_case_tag, tags};

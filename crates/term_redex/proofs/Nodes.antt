@@ -7,7 +7,6 @@ use native.Mathlib.Omega.{arith}
 use lib.Dec.{eqb}
 use lib.ListN.{drop}
 use Rattle.calculus.specs.Syntax.{is_lam, list, pair, Shape, Value}
-use Rattle.calculus.specs.Image.{size}
 use Rattle.term.specs.declared.Front.{Front}
 use Rattle.term.specs.declared.Front.TheVariants.{Bad, Is}
 use Rattle.term.specs.declared.Node.{Node}

@@ -1,5 +1,7 @@
 // Document 01, "A step": "Otherwise Fig. 3 gives one place where two values meet". An application whose function is not the constant exch is never a value,
 // and a case is none, so the place is inside such a node or it is the node itself: the search goes forward, node by node, and never comes back.
+#![tactic(auto)]
+
 ghost use Rattle.std.specs.Prelude.{◌≡◌};
 ghost use Rattle.calculus.specs.Step.{place};
 ghost use Rattle.calculus.specs.Image.{is_settled};

@@ -1,5 +1,7 @@
 // Terms in bytes that nobody has checked: where a term ends, how many nodes it has, how deep it nests, and whether what it names is there. The loops
 // are walks (crate term_walk): they read one node after the other and know the terms still to come, so that no input is too deep for them.
+#![tactic(auto)]
+
 ghost use Rattle.std.specs.Prelude.{◌≡◌, ◌≤◌, ◌<◌, leb, length};
 ghost use Rattle.calculus.specs.Bytes.{two_byte_values};
 ghost use Rattle.calculus.specs.Limits.{max_nesting, max_nodes};

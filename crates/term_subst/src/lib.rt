@@ -1,6 +1,8 @@
 // Rules 1, 8 and 9 on bytes: how often the two innermost variables around a term stand in it, and the term with closed values in their places. BETA has one
 // such variable, taking apart has two. Both are walks (crate term_walk), whose frames are the numbers of variables around the terms still to come, so that no
 // term is too deep for them.
+#![tactic(auto)]
+
 ghost use Rattle.std.specs.Prelude.{◌≡◌, cond, ◌*◌, ◌+◌, ◌≤◌, length};
 ghost use Rattle.calculus.specs.Limits.{max_nodes};
 ghost use Rattle.calculus.specs.Image.{nodes};

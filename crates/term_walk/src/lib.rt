@@ -1,5 +1,7 @@
 // A walk over a term in bytes, root first, one node after the other. For each term still to come a stack has a frame, the next one on top: a number that
 // says what is around it. A walk reads a node, takes what it wants of it, and goes on past it, by the number of its subterms.
+#![tactic(auto)]
+
 ghost use Rattle.std.specs.Prelude.{◌≡◌, ◌≤◌, ◌<◌, length};
 ghost use Rattle.term_walk.specs.Frames.{max_waits, Passed};
 

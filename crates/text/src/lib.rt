@@ -1,4 +1,6 @@
 // Decimal numbers and the line with a verdict, in ASCII, put into a lent buffer.
+#![tactic(auto)]
+
 ghost use Rattle.std.specs.Prelude.{◌≡◌, [], ◌∷◌, ◌+◌, ◌/◌, ◌%◌, ◌<◌, ◌≤◌, length};
 ghost use Rattle.buffer.specs.Written.{Wrote};
 ghost use Rattle.text.specs.Ascii.{decimal, digit, max_verdict_line_length, verdict_line};

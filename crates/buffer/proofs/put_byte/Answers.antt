@@ -1,5 +1,4 @@
 -- `buffer::put_byte` meets its contract: one store.
-use borrow.Author.Rules.{rules}
 use Rattle.buffer.proofs.Theory.Writes.{stored}
 use Rattle.buffer.proofs.put_byte.Goals as goal
 

@@ -3,7 +3,6 @@ use mathlib.Core.Path.{◌∙◌}
 use Prim.Native.Nat.{◌-◌}
 use native.Mathlib.Omega.{arith}
 use Rattle.buffer.proofs.Theory.Writes.{known_as, length_rest, same, then, with_rest}
-use borrow.Author.Rules.{rules}
 use Rattle.buffer.proofs.put_bytes.Goals as goal
 
 pub put_each-requires : goal.put_each-requires

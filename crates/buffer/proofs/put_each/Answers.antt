@@ -1,9 +1,6 @@
 -- `buffer::put_each` meets its contract. The loop's invariant: `out` has `src`'s first copied bytes written at `at`, and `next` is the place after them.
 -- The measure is what is left of `src`.
-use Prim.Native.Nat.{◌≤◌, ◌-◌}
 use native.Mathlib.Omega.{arith}
-use lib.ListN.{length, take}
-use Rattle.buffer.specs.Written.{Wrote}
 use Rattle.buffer.proofs.Theory.Writes.{still, same, copied_one, copied_next, copied_all}
 use Rattle.buffer.proofs.put_each.Goals as goal
 

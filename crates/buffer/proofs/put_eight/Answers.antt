@@ -2,7 +2,6 @@
 use mathlib.Core.Path.{◌∙◌}
 use native.Mathlib.Omega.{arith}
 use Rattle.buffer.proofs.Theory.Writes.{eight_from, known_as, same, then}
-use borrow.Author.Rules.{rules}
 use Rattle.buffer.proofs.put_eight.Goals as goal
 
 pub put_four-requires : goal.put_four-requires

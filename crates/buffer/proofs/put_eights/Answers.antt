@@ -1,8 +1,5 @@
 -- `buffer::put_eights` meets its contract. The loop's invariant is that of `put_each`.
-use Prim.Native.Nat.{◌≤◌, ◌-◌}
 use native.Mathlib.Omega.{arith}
-use lib.ListN.{length, take}
-use Rattle.buffer.specs.Written.{Wrote}
 use Rattle.buffer.proofs.Theory.Writes.{copied_eight, copied_next, copied_to, same, still}
 use Rattle.buffer.proofs.put_eights.Goals as goal
 

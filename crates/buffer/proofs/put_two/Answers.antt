@@ -2,7 +2,6 @@
 use mathlib.Core.Path.{◌∙◌}
 use native.Mathlib.Omega.{arith}
 use Rattle.buffer.proofs.Theory.Writes.{same, then}
-use borrow.Author.Rules.{rules}
 use Rattle.buffer.proofs.put_two.Goals as goal
 
 pub put_byte-requires : goal.put_byte-requires

@@ -1,5 +1,4 @@
 -- `buffer::put_u16` meets its contract: two stores in a row.
-use borrow.Author.Rules.{rules}
 use native.Mathlib.Omega.{arith}
 use lib.ListN.{length-set}
 use Rattle.calculus.specs.Bytes.{two_bytes}

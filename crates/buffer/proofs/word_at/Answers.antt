@@ -1,7 +1,6 @@
 -- `buffer::word_at` meets its contract.
 use Prim.Native.Nat.{◌+◌}
 use native.Mathlib.Omega.{arith}
-use borrow.Author.Rules.{rules}
 use Rattle.calculus.specs.Bytes.{word}
 use Rattle.buffer.proofs.word_at.Goals as goal
 

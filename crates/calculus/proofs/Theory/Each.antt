@@ -1,7 +1,7 @@
 -- No rule makes an index, a type number of a lambda, pair or list front, or a constant but unit: what is allowed of them before a step is allowed after it.
 use Rattle.std.specs.Prelude.{◌≡◌, Bool, cond, false, true, [], ◌++◌, ◌∷◌, suc, zero, ℕ, eqb, length, set}
 use Rattle.std.proofs.Common.{inl, inr}
-use Rattle.calculus.specs.Syntax.{unit, Exp, var, name, const, lam, app, Component, thread_of, holds, open_for, used, awaited, Config, at, Allowed, Each, each_var, each_name, each_const, each_lam, each_app, EachAll, In, Shape, both, case_of, each_both, each_case}
+use Rattle.calculus.specs.Syntax.{unit, Exp, var, name, const, lam, app, Component, thread_of, holds, open_for, used, awaited, Config, Allowed, Each, each_var, each_name, each_const, each_lam, each_app, EachAll, In, Shape, both, case_of, each_both, each_case}
 use Rattle.calculus.specs.Reduction.{substitute, Context, hole, in_function, in_argument, plug, Rule, Reduces, beta, thread_new, future_deref, future_deref_exch, handle_new, handle_bind, cell_new, cell_exch, in_first, in_second, in_subject, future_deref_case, case_both}
 use Rattle.calculus.proofs.Theory.Tests.{clash}
 use Rattle.calculus.proofs.Theory.Lists.{set_cases, append_cases}

@@ -4,7 +4,7 @@ use Rattle.std.specs.Prelude.{◌≡◌, refl, ◌↔◌, ◌⊎◌, Bool, ◌&&
 use Rattle.std.proofs.lemmas.Bool.{false≢true}
 use Rattle.std.proofs.Math.Option.{Option, none-ne-some, some-ne-none, none, some}
 use Rattle.calculus.specs.Types.{Multiplicity, LinType, unit_type, num_type, ref, fun, pair_type, list_type}
-use Rattle.calculus.specs.Syntax.{Const, unit, num, op, Shape, Exp, var, name, const, lam, app, both, case_of, at}
+use Rattle.calculus.specs.Syntax.{Const, unit, num, op, Shape, Exp, var, name, const, lam, app, both, case_of}
 use Rattle.calculus.specs.Typing.{TypeNumbers, Fig10}
 use Rattle.calculus.proofs.Theory.TypeTests.{same_type, τ_on_function, Parts, has_parts, no_parts, parts_of, by_parts, τ_with_components, on_type, τ_in_table, τ_scoped_const, τ_scoped, τ_annotated, type_of_const, applied_type, lambda_type, both_type, case_type, type_of, Offence, applies_no_function, argument_differs, body_differs, first_differs, second_differs, subject_differs, inside_function, inside_argument, inside_body, inside_first, inside_second, inside_subject, inside_case}
 use Rattle.calculus.proofs.Theory.Tests.{clash, true_of, false_of, and_parts, and_false, false_right, ltb_sound, same_type_sound, same_type_refl}

@@ -1,6 +1,6 @@
 -- Document 02, T-08: the owners that a recipe is loaded with keep their rule, and so do those after every step by a rule.
 use Rattle.std.proofs.Common.{◌∙◌, ap, sym, inl, inr, arith, length-append, length-set}
-use Rattle.std.specs.Prelude.{◌≡◌, refl, ◌⊎◌, [], ◌++◌, ◌∷◌, ◌+◌, ◌-◌, ◌<◌, ◌≤◌, suc, zero, ℕ, length, replicate, set}
+use Rattle.std.specs.Prelude.{◌≡◌, refl, ◌⊎◌, [], ◌++◌, ◌∷◌, ◌+◌, ◌-◌, ◌<◌, ◌≤◌, suc, zero, ℕ, length, set}
 use Rattle.std.proofs.Math.Option.{some}
 use Rattle.std.proofs.Math.Decide.{dec_lt}
 use Rattle.std.proofs.lemmas.List.{get_or-replicate, length-replicate}

@@ -1,7 +1,7 @@
 -- Fig. 3's place: a closed expression is a value, or has exactly one place where two values meet or a value is to be taken apart.
 use Rattle.std.proofs.Common.{◌∙◌, ap, sym, inl, inr, arith}
 use Rattle.std.specs.Prelude.{◌≡◌, refl, ◌⊎◌, ℕ}
-use Rattle.calculus.specs.Syntax.{unit, num, op, cell, exch, thread, handle, Shape, Exp, var, name, const, lam, app, both, case_of, Value, is_name, is_const, is_lam, is_exch, is_both, at}
+use Rattle.calculus.specs.Syntax.{unit, num, op, cell, exch, thread, handle, Shape, Exp, var, name, const, lam, app, both, case_of, Value, is_name, is_const, is_lam, is_exch, is_both}
 use Rattle.calculus.specs.Reduction.{Context, hole, in_function, in_argument, in_first, in_second, in_subject, plug}
 use Rattle.calculus.specs.Step.{Redex, application, subject, Place, settled, meet, loose, beside, within, place}
 use Rattle.calculus.specs.Image.{Closed, closed_var, closed_app, closed_both, closed_case}

@@ -1,7 +1,6 @@
 -- `check_annotations::constant_annotated` meets its contract: a law for each tag (proofs/Leaves.antt).
 use mathlib.Core.Path.{◌∙◌}
 use native.Mathlib.Omega.{arith}
-use borrow.Author.Rules.{rules}
 use Rattle.check_annotations.proofs.Tests.{fails, stands}
 use Rattle.check_annotations.proofs.Leaves.{cell_leaf, exch_leaf, handle_leaf, no_function, thread_leaf}
 use Rattle.check_annotations.proofs.constant_annotated.Goals as goal

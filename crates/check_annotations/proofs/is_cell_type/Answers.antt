@@ -1,7 +1,5 @@
 -- `check_annotations::is_cell_type` meets its contract: the entries are looked up, then tested (proofs/Instances.antt).
 use mathlib.Core.Path.{refl}
-use Prim.Native.Nat.{ℕ}
-use borrow.Author.Rules.{rules}
 use borrow.Author.Tests.{eq-eqb, ne_eqb}
 use lib.ListN.{drop}
 use Rattle.calculus.specs.Verdict.{cell_parts}

@@ -3,7 +3,6 @@ use mathlib.Core.Path.{refl}
 use borrow.Author.Tests.{eq-eqb, ne_eqb}
 use Rattle.check_annotations.proofs.Tests.{fails, last, pass, refuse, stands}
 use Rattle.check_annotations.proofs.Instances.{maps_tests}
-use borrow.Author.Rules.{rules}
 use Rattle.check_annotations.proofs.is_from_to.Goals as goal
 
 pub returns-then-not-is_function : goal.returns-then-not-is_function

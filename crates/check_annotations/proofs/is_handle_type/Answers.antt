@@ -1,6 +1,4 @@
 -- `check_annotations::is_handle_type` meets its contract: the entries are looked up, then tested (proofs/Instances.antt).
-use Prim.Native.Nat.{ℕ}
-use borrow.Author.Rules.{rules}
 use borrow.Author.Tests.{eq-eqb, ne_eqb}
 use lib.ListN.{drop}
 use Rattle.calculus.specs.Verdict.{handle_parts}

@@ -1,6 +1,4 @@
 -- `check_annotations::is_thread_type` meets its contract: the entries are looked up, then tested (proofs/Instances.antt).
-use Prim.Native.Nat.{ℕ}
-use borrow.Author.Rules.{rules}
 use lib.ListN.{drop}
 use Rattle.calculus.specs.Verdict.{thread_parts}
 use Rattle.recipe_table.specs.Entries.{table_of}

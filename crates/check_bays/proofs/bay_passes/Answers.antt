@@ -1,6 +1,5 @@
 -- `check_bays::bay_passes` meets its contract: each test is that of the walk it calls.
 use native.Mathlib.Omega.{arith}
-use borrow.Author.Rules.{rules}
 use Rattle.check_bays.proofs.Known.{few_nodes, good_part}
 use Rattle.check_bays.proofs.Answers.{nesting_is, scope_is}
 use Rattle.check_bays.proofs.bay_passes.Goals as goal

@@ -1,5 +1,4 @@
 -- `check_bays::walk_bay` meets its contract.
-use borrow.Author.Rules.{rules}
 use Rattle.check_bays.proofs.Answers.{walked_is, whole}
 use Rattle.check_bays.proofs.walk_bay.Goals as goal
 

@@ -1,16 +1,12 @@
 -- `check_prescan::glance` meets its contract. The loop's invariant: the terms still to come give the answer (proofs/Glancing.antt). The measure: a node takes a byte.
 use mathlib.Core.Path.{refl, sym, ◌∙◌}
-use mathlib.Core.List.{List}
-use Prim.Native.Nat.{◌-◌, ◌<◌, ◌≤◌, ℕ}
+use Prim.Native.Nat.{◌<◌, ◌≤◌}
 use native.Mathlib.Omega.{arith}
 use borrow.Author.Rules.{rules}
-use lib.ListN.{length}
 use Rattle.calculus.specs.Limits.{max_nesting}
-use Rattle.term.specs.declared.Node.{Node}
 use Rattle.term_scan.proofs.Many.{More}
-use Rattle.recipe_table.specs.Entries.{table_of}
 use Rattle.check_prescan.specs.Stands.{level_of}
-use Rattle.check_prescan.proofs.Glancing.{Glancing, glancing_bad, glancing_end, glancing_high, glancing_node, glancing_on, glancing_start, glancing_top, Next, next_is, top}
+use Rattle.check_prescan.proofs.Glancing.{glancing_bad, glancing_end, glancing_high, glancing_node, glancing_on, glancing_start, glancing_top, Next, next_is, top}
 use Rattle.check_prescan.proofs.glance.Goals as goal
 
 pub loop-waits-init : goal.loop-waits-init

@@ -1,8 +1,6 @@
 -- `check_prescan::next_node` meets its contract.
 use mathlib.Core.Path.{sym, ◌∙◌}
 use native.Mathlib.Omega.{arith}
-use borrow.Author.Rules.{rules}
-use borrow.Author.Tests.{not-false, not-true}
 use Rattle.term.proofs.Views.{node_there, small_arg}
 use Rattle.check_prescan.proofs.Tests.{next_bad, next_picked}
 use Rattle.check_prescan.proofs.next_node.Goals as goal

@@ -1,6 +1,5 @@
 -- `check_prescan::type_stands` meets its contract: a law for each return (proofs/Tests.antt).
 use mathlib.Core.Path.{◌∙◌}
-use borrow.Author.Rules.{rules}
 use Rattle.check_prescan.proofs.Tests.{both_annotated, constant_annotated, lambda_annotated, typed_constant}
 use Rattle.check_prescan.proofs.type_stands.Goals as goal
 

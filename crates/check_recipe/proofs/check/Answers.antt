@@ -1,11 +1,8 @@
 -- `check_recipe::check` meets its contract. Behind each cause it is known that the causes up to it do not fit.
 use mathlib.Core.Path.{◌∙◌, ◌≡◌}
 use mathlib.Core.Bool.{true}
-use mathlib.Core.List.{List}
-use Prim.Native.Nat.{ℕ}
 use native.Mathlib.Omega.{arith}
 use borrow.Author.Tests.{not-true, not-false}
-use borrow.Author.Rules.{rules}
 use Rattle.recipe_file.specs.File.{edition_of}
 use Rattle.check_recipe.proofs.Verdicts.{Admitted, admitted, all_pass, file_refused, filed, parts_refused, refused_linear, refused_once, refused_starting, refused_untyped}
 use Rattle.check_recipe.proofs.check.Goals as goal

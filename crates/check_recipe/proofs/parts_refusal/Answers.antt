@@ -1,7 +1,5 @@
 -- `check_recipe::parts_refusal` meets its contract.
 use mathlib.Core.Path.{◌∙◌, ◌≡◌, sym}
-use borrow.Author.Tests.{not-true, not-false}
-use borrow.Author.Rules.{rules}
 use Rattle.check_recipe.specs.Refusals.{terms_refusal}
 use Rattle.check_recipe.proofs.Parts.{all_clear, by_annotations, by_scope, by_terms, terms_stand}
 use Rattle.check_recipe.proofs.parts_refusal.Goals as goal

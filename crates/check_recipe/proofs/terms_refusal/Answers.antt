@@ -1,7 +1,5 @@
 -- `check_recipe::terms_refusal` meets its contract.
 use mathlib.Core.Path.{◌∙◌, sym}
-use borrow.Author.Tests.{not-true, not-false}
-use borrow.Author.Rules.{rules}
 use Rattle.check_recipe.proofs.Terms.{many_nodes, no_term, terms_known, terms_pass, too_deep}
 use Rattle.check_recipe.proofs.terms_refusal.Goals as goal
 

@@ -1,7 +1,6 @@
 -- `check_separate::bay_fits` meets its contract.
 use mathlib.Core.Path.{◌≡◌, sym, ◌∙◌, ap₂}
 use native.Mathlib.Omega.{arith}
-use borrow.Author.Rules.{rules}
 use lib.Dec.{leb}
 use Rattle.calculus.specs.Image.{nodes}
 use Rattle.calculus.specs.Shares.{nodes_share}

@@ -1,6 +1,5 @@
 -- `check_separate::bay_passes` meets its contract.
 use mathlib.Core.Path.{◌∙◌, ap, sym}
-use borrow.Author.Rules.{rules}
 use Rattle.check_separate.specs.declared.Test.{Test}
 use Rattle.check_separate.specs.Tests.{bay_passes}
 use Rattle.check_separate.proofs.bay_passes.Goals as goal

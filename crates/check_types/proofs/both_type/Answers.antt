@@ -1,8 +1,7 @@
 -- `check_types::both_type` meets its contract: the tests are those of the definition.
 use mathlib.Core.Path.{◌≡◌, sym, ◌∙◌}
 use mathlib.Core.Bool.{true}
-use borrow.Author.Rules.{rules}
-use borrow.Author.Tests.{eq-eqb, ne_eqb, not-false, not-true}
+use borrow.Author.Tests.{eq-eqb, ne_eqb}
 use Rattle.calculus.specs.Verdict.{both_number, is_kind_of, on_number, with_components}
 use Rattle.check_types.specs.Two.{shape_of}
 use Rattle.check_types.specs.Walk.{typed}

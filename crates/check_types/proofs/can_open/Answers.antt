@@ -1,6 +1,5 @@
 -- `check_types::can_open` meets its contract: the test is that of the definition.
 use mathlib.Core.Path.{sym, ◌∙◌}
-use borrow.Author.Rules.{rules}
 use Rattle.check_types.specs.Two.{can_open}
 use Rattle.check_types.proofs.can_open.Goals as goal
 

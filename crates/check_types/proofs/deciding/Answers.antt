@@ -1,7 +1,6 @@
 -- `check_types::deciding` meets its contract: the test is that of the definition.
 use mathlib.Core.Path.{sym, ◌∙◌}
 use native.Mathlib.Omega.{arith}
-use borrow.Author.Rules.{rules}
 use Rattle.check_types.specs.Two.{deciding}
 use Rattle.check_types.proofs.deciding.Goals as goal
 

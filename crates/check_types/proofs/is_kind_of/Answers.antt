@@ -1,6 +1,5 @@
 -- `check_types::is_kind_of` meets its contract: the tests are those of the definition.
 use mathlib.Core.Path.{sym, ◌∙◌}
-use borrow.Author.Rules.{rules}
 use borrow.Author.Tests.{eq-eqb, ne_eqb}
 use Rattle.calculus.specs.Kinds.{once_list_kind, once_pair_kind}
 use Rattle.check_types.specs.Two.{shape_of}

@@ -1,8 +1,7 @@
 -- `check_types::lambda_type` meets its contract: the tests are those of the definition.
 use mathlib.Core.Path.{◌≡◌, sym, ◌∙◌}
 use mathlib.Core.Bool.{false, true}
-use borrow.Author.Rules.{rules}
-use borrow.Author.Tests.{eq-eqb, ne_eqb, not-false, not-true}
+use borrow.Author.Tests.{eq-eqb, ne_eqb}
 use Rattle.calculus.specs.Verdict.{is_function_kind, lambda_number, on_number}
 use Rattle.check_types.specs.Walk.{typed}
 use Rattle.check_types.proofs.lambda_type.Goals as goal

@@ -1,7 +1,6 @@
 -- `check_types::many_at` meets its contract: where the entry is there, its kind decides.
 use mathlib.Core.Path.{ap, ◌∙◌}
 use mathlib.Core.Bool.{not}
-use borrow.Author.Rules.{rules}
 use Rattle.calculus.specs.Table as calculus
 use Rattle.check_types.proofs.Entries.{bytes_many, bytes_none}
 use Rattle.check_types.proofs.many_at.Goals as goal

@@ -1,6 +1,5 @@
 -- `check_types::second_component` meets its contract: the test is that of the definition.
 use mathlib.Core.Path.{sym, ◌∙◌}
-use borrow.Author.Rules.{rules}
 use Rattle.check_types.specs.Two.{shape_of}
 use Rattle.check_types.proofs.second_component.Goals as goal
 

@@ -1,6 +1,5 @@
 -- `check_types::two_type` meets its contract, form by form.
 use mathlib.Core.Path.{sym, ◌∙◌}
-use borrow.Author.Rules.{rules}
 use Rattle.check_types.specs.Two.{two_number}
 use Rattle.check_types.specs.Walk.{typed}
 use Rattle.check_types.proofs.two_type.Goals as goal

@@ -1,17 +1,13 @@
 -- The proof of the cycle of calls {walk_at}: what falls is the part still unread, and each return is a law of proofs/Together.antt.
 use mathlib.Core.Path.{◌≡◌, sym, ◌∙◌}
 use mathlib.Core.Bool.{true}
-use mathlib.Core.List.{List}
-use Prim.Native.Nat.{ℕ, ◌+◌, ◌-◌, ◌<◌}
+use Prim.Native.Nat.{◌+◌, ◌-◌, ◌<◌}
 use native.Mathlib.Omega.{arith}
-use borrow.Author.Rules.{rules}
-use borrow.Author.Tests.{not-false, not-true}
 use lib.ListN.{length, length-set}
 use Rattle.calculus.specs.Limits.{max_variables}
 use Rattle.term.specs.declared.Front.TheVariants.{Is}
-use Rattle.term.specs.declared.Node.{Node}
 use Rattle.term.specs.Reader.{node_at}
-use Rattle.term.proofs.Views.{lambda_one, leaf_from, LeafAt, node_there, NodeAt, not_bad, one_from, OneAt, past_first, rest_two, two_from, TwoAt}
+use Rattle.term.proofs.Views.{lambda_one, leaf_from, node_there, NodeAt, not_bad, one_from, OneAt, past_first, rest_two, two_from, TwoAt}
 use Rattle.check_linearity.proofs.Theory.Levels.{floor_below}
 use Rattle.check_types.specs.Two.{can_open}
 use Rattle.check_types.proofs.TwoNodes.{two_node, TwoNode}

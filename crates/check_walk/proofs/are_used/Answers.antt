@@ -1,5 +1,4 @@
 -- `check_walk::are_used` meets its contract: the tests are those of the definition.
-use borrow.Author.Rules.{rules}
 use Rattle.check_walk.specs.Walk.{all_used}
 use Rattle.check_walk.proofs.Walks.{first_due, second_decides}
 use Rattle.check_walk.proofs.are_used.Goals as goal

@@ -1,9 +1,8 @@
 -- `check_walk::close_lambda` meets its contract, case by case.
 use mathlib.Core.Path.{ap, sym}
-use borrow.Author.Rules.{rules}
 use Rattle.recipe_table.specs.Filled.{as_entry}
 use Rattle.check_walk.specs.declared.Walked.{Walked}
-use Rattle.check_walk.specs.Walk.{lambda_answer, with_uses}
+use Rattle.check_walk.specs.Walk.{lambda_answer}
 use Rattle.check_walk.proofs.close_lambda.Goals as goal
 
 pub returns-in_default : goal.returns-in_default

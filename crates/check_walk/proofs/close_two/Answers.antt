@@ -1,6 +1,5 @@
 -- `check_walk::close_two` meets its contract, case by case.
 use mathlib.Core.Path.{ap, sym}
-use borrow.Author.Rules.{rules}
 use Rattle.recipe_table.specs.Filled.{as_entry}
 use Rattle.check_walk.specs.declared.Walked.{Walked}
 use Rattle.check_walk.specs.Walk.{two_answer}

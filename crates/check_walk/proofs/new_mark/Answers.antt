@@ -1,6 +1,5 @@
 -- `check_walk::new_mark` meets its contract: the mark is by the multiplicity of the type.
 use mathlib.Core.Path.{sym, ◌∙◌}
-use borrow.Author.Rules.{rules}
 use Rattle.check_linearity.specs.Spend.{new_mark}
 use Rattle.check_walk.proofs.new_mark.Goals as goal
 

@@ -1,5 +1,4 @@
 -- `check_walk::open_scope` meets its contract: a case's two variables stand where the definition puts them.
-use borrow.Author.Rules.{rules}
 use Rattle.check_walk.proofs.Walks.{opened_both, opened_none}
 use Rattle.check_walk.proofs.open_scope.Goals as goal
 

@@ -1,6 +1,5 @@
 -- `check_walk::with_uses` meets its contract, case by case.
 use mathlib.Core.Path.{ap, sym}
-use borrow.Author.Rules.{rules}
 use Rattle.check_types.specs.declared.Typed.{Typed}
 use Rattle.check_walk.specs.Walk.{with_uses}
 use Rattle.check_walk.proofs.with_uses.Goals as goal

@@ -4,7 +4,6 @@ use Rattle.std.specs.Prelude.{◌≡◌, refl, ◌↔◌, List, map, ◌≤◌, 
 use Rattle.std.proofs.Math.Decide.{dec_lt}
 use Rattle.std.proofs.Math.Seq.{take-append_seam}
 use Rattle.calculus.specs.Profile.{Profile, common}
-use Rattle.calculus.specs.Syntax.{at}
 use Rattle.calculus.specs.Owners.{Owned}
 use Rattle.calculus.specs.Reduction.{HANDLE_BIND, number}
 use Rattle.calculus.specs.Typing.{TypeNumbers}

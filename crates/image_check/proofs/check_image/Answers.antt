@@ -1,8 +1,6 @@
 -- `image_check::check_image` meets its contract: a law for each return.
 use mathlib.Core.Path.{sym, ◌∙◌}
 use native.Mathlib.Omega.{arith}
-use borrow.Author.Rules.{rules}
-use borrow.Author.Tests.{not-true, not-false}
 use Rattle.image_check.proofs.Answers.{all_stand, no_expressions, no_layout, no_pairs, too_many, too_short}
 use Rattle.image_check.proofs.check_image.Goals as goal
 

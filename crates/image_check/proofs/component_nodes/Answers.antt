@@ -1,7 +1,5 @@
 -- `image_check::component_nodes` meets its contract: a law for each return.
 use mathlib.Core.Path.{sym, ◌∙◌}
-use borrow.Author.Rules.{rules}
-use borrow.Author.Tests.{not-true, not-false}
 use Rattle.image_check.proofs.Components.{named_expression, named_head, part_broken, part_cell, part_empty, part_good, part_thread, part_valueless}
 use Rattle.image_check.proofs.component_nodes.Goals as goal
 

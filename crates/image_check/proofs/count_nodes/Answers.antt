@@ -1,6 +1,5 @@
 use mathlib.Core.Path.{◌∙◌, sym}
 use mathlib.Core.Bool.{false≢true}
-use borrow.Author.Rules.{rules}
 use Rattle.image_check.proofs.Theory.Answers.{answered, refused}
 use Rattle.image_check.proofs.count_nodes.Goals as goal
 

@@ -1,7 +1,6 @@
 -- `image_check::expression_nodes` meets its contract: a law for each return.
 use mathlib.Core.Path.{sym, ◌∙◌}
 use Prim.Native.Nat.{zero-le}
-use borrow.Author.Rules.{rules}
 use Rattle.image_check.proofs.Expressions.{bytes_over, found, refused}
 use Rattle.image_check.proofs.expression_nodes.Goals as goal
 

@@ -1,5 +1,4 @@
 -- `image_check::pair_stands` meets its contract: a law for each return.
-use borrow.Author.Rules.{rules}
 use Rattle.image_check.proofs.Components.{named_head}
 use Rattle.image_check.proofs.Pairs.{companion_head, companion_pair, future_pair, other_pair, outside_pair}
 use Rattle.image_check.proofs.pair_stands.Goals as goal

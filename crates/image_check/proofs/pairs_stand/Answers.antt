@@ -1,11 +1,9 @@
 -- `image_check::pairs_stand` meets its contract. The loop's invariant: the names passed keep what handles and futures must (proofs/Pairs.antt). The measure is
 -- how many names are still to come.
 use mathlib.Core.Path.{sym, ◌∙◌}
-use Prim.Native.Nat.{◌-◌}
 use native.Mathlib.Omega.{arith}
-use borrow.Author.Tests.{not-true, not-false}
 use Rattle.image_layout.proofs.Theory.Reading.{has_names}
-use Rattle.image_check.proofs.Pairs.{next_counted, Paired, paired_all, paired_fault, paired_none, paired_one}
+use Rattle.image_check.proofs.Pairs.{next_counted, paired_all, paired_fault, paired_none, paired_one}
 use Rattle.image_check.proofs.pairs_stand.Goals as goal
 
 pub names_of-names-requires : goal.names_of-names-requires

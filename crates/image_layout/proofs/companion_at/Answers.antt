@@ -1,5 +1,4 @@
 -- `image_layout::companion_at` meets its contract.
-use borrow.Author.Rules.{rules}
 use mathlib.Core.Path.{refl}
 use Rattle.image_layout.specs.Slice.{companion_at}
 use Rattle.image_layout.proofs.companion_at.Goals as goal

@@ -1,5 +1,4 @@
 -- `image_layout::expression_at` meets its contract.
-use borrow.Author.Rules.{rules}
 use native.Mathlib.Nat.{add-sub_cancel_left}
 use Rattle.image_layout.specs.Slice.{expression_at}
 use Rattle.image_layout.proofs.expression_at.Goals as goal

@@ -1,7 +1,5 @@
 -- `image_layout::head_stands` meets its contract: a law for each return.
 use mathlib.Core.Path.{sym, ◌∙◌}
-use borrow.Author.Rules.{rules}
-use borrow.Author.Tests.{not-true, not-false}
 use Rattle.image_layout.proofs.Heads.{head_fault, offset_fault, head_inside}
 use Rattle.image_layout.proofs.head_stands.Goals as goal
 

@@ -1,10 +1,8 @@
 -- `image_layout::heads_stand` meets its contract. The loop's invariant: k names have stood, and what is left of the test is the test of the others. The measure is
 -- their number.
 use mathlib.Core.Path.{sym, ◌∙◌}
-use Prim.Native.Nat.{◌-◌}
 use native.Mathlib.Omega.{arith}
-use borrow.Author.Tests.{not-true, not-false}
-use Rattle.image_layout.proofs.Pass.{no_room, Passed, passed_none, passed_all, next_head, passed_fault, passed_one}
+use Rattle.image_layout.proofs.Pass.{no_room, passed_none, passed_all, next_head, passed_fault, passed_one}
 use Rattle.image_layout.proofs.heads_stand.Goals as goal
 
 pub returns-then-image-lt-FIRST_HEAD : goal.returns-then-image-lt-FIRST_HEAD

@@ -1,5 +1,4 @@
 -- `image_layout::kind_at` meets its contract.
-use borrow.Author.Rules.{rules}
 use mathlib.Core.Path.{refl}
 use Rattle.image_layout.specs.Slice.{kind_at}
 use Rattle.image_layout.proofs.kind_at.Goals as goal

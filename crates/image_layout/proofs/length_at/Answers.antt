@@ -1,5 +1,4 @@
 -- `image_layout::length_at` meets its contract.
-use borrow.Author.Rules.{rules}
 use Rattle.image_layout.specs.Slice.{length_at}
 use Rattle.image_layout.proofs.length_at.Goals as goal
 

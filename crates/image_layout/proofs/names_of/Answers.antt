@@ -1,5 +1,4 @@
 -- `image_layout::names_of` meets its contract.
-use borrow.Author.Rules.{rules}
 use Rattle.image_layout.specs.Slice.{names}
 use Rattle.image_layout.proofs.names_of.Goals as goal
 

@@ -1,5 +1,4 @@
 -- `image_layout::offset_at` meets its contract.
-use borrow.Author.Rules.{rules}
 use Rattle.image_layout.specs.Slice.{offset_at}
 use Rattle.image_layout.proofs.offset_at.Goals as goal
 

@@ -1,6 +1,5 @@
 -- `image_layout::owner_at` meets its contract.
 use mathlib.Core.Path.{◌∙◌, ap, sym}
-use borrow.Author.Rules.{rules}
 use Rattle.image_layout.specs.Slice.{companion_at}
 use Rattle.image_layout.proofs.Theory.Slice.{owner_of_open, owner_of_other}
 use Rattle.image_layout.proofs.owner_at.Goals as goal

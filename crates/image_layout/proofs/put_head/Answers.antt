@@ -1,5 +1,4 @@
 -- `image_layout::put_head` meets its contract.
-use borrow.Author.Rules.{rules}
 use mathlib.Core.Path.{refl}
 use native.Mathlib.Omega.{arith}
 use Rattle.calculus.specs.Bytes.{two_bytes}

@@ -1,6 +1,5 @@
 -- `load_image::head_of` meets its contract.
 use mathlib.Core.Path.{ap}
-use borrow.Author.Rules.{rules}
 use native.Mathlib.Omega.{arith}
 use lib.ListN.{length}
 use Rattle.load_image.proofs.Names.{few_bays, says_setting, says_thread}

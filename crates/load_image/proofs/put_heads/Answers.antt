@@ -1,12 +1,11 @@
 -- `load_image::put_heads` meets its contract.
 use mathlib.Core.Path.{refl}
-use mathlib.Core.List.{List}
-use Prim.Native.Nat.{ℕ, ◌-◌, ◌≤◌, ◌<◌}
+use Prim.Native.Nat.{◌≤◌, ◌<◌}
 use native.Mathlib.Omega.{arith}
 use Rattle.calculus.specs.Limits.{max_bays}
 use Rattle.buffer.proofs.Theory.Writes.{same}
-use Rattle.image_layout.proofs.Theory.Turns.{HeadsTo, heads_start, heads_turn, heads_all, room_head}
-use Rattle.load_image.specs.Starting.{starting_at, starting_names}
+use Rattle.image_layout.proofs.Theory.Turns.{heads_start, heads_turn, heads_all, room_head}
+use Rattle.load_image.specs.Starting.{starting_names}
 use Rattle.load_image.proofs.Names.{few_bays}
 use Rattle.load_image.proofs.put_heads.Goals as goal
 

@@ -1,12 +1,9 @@
 -- `load_image::put_settings` meets its contract.
 use mathlib.Core.Path.{ap, refl}
-use Prim.Native.Nat.{◌-◌, ◌≤◌}
 use native.Mathlib.Omega.{arith}
-use borrow.Author.Rules.{rules}
 use lib.ListN.{get_or}
 use Rattle.calculus.specs.Lists.{tabulate}
 use Rattle.calculus.proofs.Theory.Tabulate.{tabulate_all}
-use Rattle.buffer.specs.Written.{Wrote}
 use Rattle.buffer.proofs.Theory.Writes.{still, same, known_as}
 use Rattle.image_layout.specs.Encoded.{expressions}
 use Rattle.image_layout.proofs.Theory.Turns.{expression_turn}

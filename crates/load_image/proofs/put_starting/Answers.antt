@@ -1,11 +1,9 @@
 -- `load_image::put_starting` meets its contract.
 use mathlib.Core.Path.{ap, ◌≡◌}
-use mathlib.Core.List.{List}
 use Prim.Native.Nat.{◌-◌, ◌+◌, ◌*◌, ◌≤◌, ℕ}
-use borrow.Author.Rules.{rules}
 use native.Mathlib.Omega.{arith}
 use lib.ListN.{get_or, length, take, drop}
-use Rattle.calculus.specs.Bytes.{Bytes, two_bytes}
+use Rattle.calculus.specs.Bytes.{two_bytes}
 use Rattle.calculus.specs.Limits.{first_head, max_image_length}
 use Rattle.recipe_file.specs.File.{bays, offset_of}
 use Rattle.recipe_file.specs.FileRule.{FileRule}

@@ -1,7 +1,6 @@
 -- `load_recipe::load` meets its contract.
 use mathlib.Core.Path.{◌∙◌, ◌≡◌, refl, sym}
 use native.Mathlib.Omega.{arith}
-use borrow.Author.Rules.{rules}
 use Rattle.calculus.specs.Profile.{common}
 use Rattle.check_spec.specs.Verdict.{refusal}
 use Rattle.load_recipe.proofs.Answers.{loads, number_is, refuses_recipe, too_short}

@@ -1,5 +1,4 @@
 -- `load_recipe::put_loaded` meets its contract.
-use borrow.Author.Rules.{rules}
 use Rattle.check_spec.proofs.Theory.Accepted.{laid_and_started}
 use Rattle.load_recipe.proofs.Answers.{put}
 use Rattle.load_recipe.proofs.put_loaded.Goals as goal

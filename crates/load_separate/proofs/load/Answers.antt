@@ -1,7 +1,6 @@
 -- `load_separate::load` meets its contract.
 use mathlib.Core.Path.{◌∙◌, ◌≡◌, sym}
 use native.Mathlib.Omega.{arith}
-use borrow.Author.Rules.{rules}
 use Rattle.calculus.specs.Causes.{other_setting_cause, share_cause}
 use Rattle.calculus.specs.Profile.{separate}
 use Rattle.check_spec.specs.Verdict.{refusal}

@@ -3,7 +3,6 @@ use mathlib.Core.Path.{ap}
 use native.Mathlib.Omega.{arith}
 use Rattle.recipe_file.specs.declared.Edition.{Edition}
 use Rattle.recipe_file.specs.File.{parts, bays}
-use borrow.Author.Rules.{rules}
 use Rattle.recipe_file.proofs.bay_count.Goals as goal
 
 pub overflow_sub-result : goal.overflow_sub-result

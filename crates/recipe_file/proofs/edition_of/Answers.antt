@@ -1,5 +1,4 @@
 -- `recipe_file::edition_of` meets its contract.
-use borrow.Author.Rules.{rules}
 use Rattle.recipe_file.proofs.Editions.{says_none, says_0, says_unknown, says_known}
 use Rattle.recipe_file.proofs.edition_of.Goals as goal
 

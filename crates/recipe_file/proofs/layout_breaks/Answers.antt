@@ -2,9 +2,7 @@
 use mathlib.Core.Path.{◌∙◌, ap}
 use mathlib.Core.Bool.{not}
 use native.Mathlib.Omega.{arith}
-use borrow.Author.Tests.{not-true, not-false}
 use Rattle.recipe_file.proofs.Causes.{cut, pairs_broken, pairs_kept}
-use borrow.Author.Rules.{rules}
 use Rattle.recipe_file.proofs.layout_breaks.Goals as goal
 
 pub returns-then-recipe-pair_offset : goal.returns-then-recipe-pair_offset

@@ -1,6 +1,5 @@
 -- `recipe_file::layout_refusal` meets its contract.
 use Rattle.recipe_file.proofs.Causes.{lowest_1, long_enough, lowest_2, lowest_3, none_fits}
-use borrow.Author.Rules.{rules}
 use Rattle.recipe_file.proofs.layout_refusal.Goals as goal
 
 pub returns-then-is_outside : goal.returns-then-is_outside

@@ -2,7 +2,6 @@
 use mathlib.Core.Path.{◌∙◌, ap}
 use Prim.Native.Nat.{ℕ}
 use Rattle.recipe_file.specs.File.{offset_of}
-use borrow.Author.Rules.{rules}
 use Rattle.calculus.specs.Bytes.{word}
 use Rattle.recipe_file.proofs.offset_of.Goals as goal
 

@@ -3,7 +3,6 @@ use mathlib.Core.Path.{◌∙◌}
 use native.Mathlib.Omega.{arith}
 use Rattle.recipe_file.proofs.Editions.{EditionRule, edition_rule}
 use Rattle.recipe_file.proofs.Causes.{other_first, other_second, other_edition, opening_stands}
-use borrow.Author.Rules.{rules}
 use Rattle.recipe_file.proofs.opening_breaks.Goals as goal
 
 pub returns-then-recipe : goal.returns-then-recipe

@@ -1,8 +1,6 @@
 -- `recipe_file::pairs_stand` meets its contract. The loop's invariant: the pairs passed keep the layout, so that those still to come decide.
 use Prim.Native.Nat.{◌-◌}
-use borrow.Author.Rules.{rules}
-use Rattle.recipe_file.proofs.Walks.{PairsWalked, walked_start, walked_elsewhere, walked_empty, walked_next, walked_end}
-use borrow.Author.Rules.{rules}
+use Rattle.recipe_file.proofs.Walks.{PairsWalked}
 use Rattle.recipe_file.proofs.pairs_stand.Given as goal
 
 abbrev pub invariant-loop-cursor : goal.invariant-loop-cursor

@@ -3,7 +3,6 @@ use native.Mathlib.Nat.{add-sub_cancel_left}
 use native.Mathlib.Omega.{arith}
 use Rattle.recipe_file.specs.File.{part}
 use Rattle.recipe_file.proofs.Inside.{few_parts, pairs_inside, part_inside}
-use borrow.Author.Rules.{rules}
 use Rattle.recipe_file.proofs.part.Goals as goal
 
 pub offset_of-start-requires : goal.offset_of-start-requires

@@ -1,6 +1,5 @@
 -- `recipe_file::starting_breaks` meets its contract.
 use mathlib.Core.Path.{◌∙◌, ap, sym}
-use borrow.Author.Rules.{rules}
 use borrow.Author.Tests.{not-false, not-true}
 use Rattle.recipe_file.specs.declared.Edition.{Edition}
 use Rattle.recipe_file.proofs.Starting.{by_length, never_19}

@@ -1,9 +1,7 @@
 -- `recipe_file::starting_nums` meets its contract. The loop's invariant: the nums of the bays passed stand in the array.
 use Prim.Native.Nat.{◌-◌}
-use native.Mathlib.Omega.{arith}
-use borrow.Author.Rules.{rules}
 use Rattle.calculus.specs.Limits.{max_bays}
-use Rattle.recipe_file.proofs.Starting.{NumsRead, one_more, read_all, read_next, read_none, whole}
+use Rattle.recipe_file.proofs.Starting.{NumsRead}
 use Rattle.recipe_file.proofs.starting_nums.Given as goal
 
 abbrev pub invariant-loop-bay : goal.invariant-loop-bay

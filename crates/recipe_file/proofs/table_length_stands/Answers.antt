@@ -2,7 +2,6 @@
 use mathlib.Core.Path.{◌∙◌, ap}
 use mathlib.Core.Bool.{not}
 use Rattle.recipe_file.proofs.Causes.{no_multiple, multiple}
-use borrow.Author.Rules.{rules}
 use Rattle.recipe_file.proofs.table_length_stands.Goals as goal
 
 pub returns-then-size-ne0 : goal.returns-then-size-ne0

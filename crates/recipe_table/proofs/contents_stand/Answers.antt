@@ -1,7 +1,6 @@
 -- `recipe_table::contents_stand` meets its contract.
 use mathlib.Core.Path.{◌∙◌, sym}
 use Rattle.recipe_table.proofs.Rules.{list_contents, other_contents, pair_contents_first, pair_contents_second}
-use borrow.Author.Rules.{rules}
 use Rattle.recipe_table.proofs.contents_stand.Goals as goal
 
 pub returns-then-is_many : goal.returns-then-is_many

@@ -1,16 +1,11 @@
 -- `recipe_table::entries_stand` meets its contract. The loop's invariant: the entries passed keep their rule and differ, their keys stand in the array, and each key has its mark.
 use mathlib.Core.Path.{◌≡◌, refl}
-use mathlib.Core.Bool.{true}
 use Prim.Native.Nat.{◌+◌, ◌-◌, ◌<◌, ◌≤◌}
 use native.Mathlib.Omega.{arith}
-use borrow.Author.Tests.{not-true, not-false}
-use borrow.Author.Rules.{rules}
 use lib.ListN.{length}
-use Rattle.recipe_table.specs.Filled.{as_table}
-use Rattle.recipe_table.specs.Keys.{Marked}
-use Rattle.recipe_table.proofs.Keys.{Keyed, keyed_before, keyed_done, keyed_more, keyed_none, keyed_twice, marked_before, marked_more, marked_none}
+use Rattle.recipe_table.proofs.Keys.{keyed_before, keyed_done, keyed_more, keyed_none, keyed_twice, marked_before, marked_more, marked_none}
 use Rattle.recipe_table.proofs.Rules.{both_fail, both_hold, contents_broken, names_broken, rule_kept}
-use Rattle.recipe_table.proofs.Turns.{entries_done, entries_from}
+use Rattle.recipe_table.proofs.Turns.{entries_done}
 use Rattle.recipe_table.proofs.entries_stand.Goals as goal
 
 pub loop-i-init : goal.loop-i-init

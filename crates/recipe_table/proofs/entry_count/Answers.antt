@@ -3,7 +3,6 @@ use native.Mathlib.Omega.{arith}
 use mathlib.Core.Path.{ap}
 use lib.ListN.{length}
 use Rattle.recipe_table.proofs.Tables.{length_table}
-use borrow.Author.Rules.{rules}
 use Rattle.recipe_table.proofs.entry_count.Goals as goal
 
 pub returns : goal.returns

@@ -1,6 +1,5 @@
 -- `recipe_table::entry_stands` meets its contract.
 use Rattle.recipe_table.proofs.Rules.{plain_zero, plain_not, cell_below, cell_not, two_below, two_not, list_zero, list_not, kind_known, kind_not, unknown}
-use borrow.Author.Rules.{rules}
 use Rattle.recipe_table.proofs.entry_stands.Goals as goal
 
 pub returns-then-kinds-kind : goal.returns-then-kinds-kind

@@ -1,8 +1,6 @@
 -- `recipe_table::first_stand` meets its contract.
 use mathlib.Core.Path.{◌∙◌}
-use borrow.Author.Tests.{not-true, not-false}
 use Rattle.recipe_table.proofs.Rules.{no_unit, no_num, cell_third}
-use borrow.Author.Rules.{rules}
 use Rattle.recipe_table.proofs.first_stand.Goals as goal
 
 pub returns-then-not-is_same : goal.returns-then-not-is_same

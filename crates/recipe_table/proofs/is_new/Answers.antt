@@ -1,10 +1,6 @@
 -- `recipe_table::is_new` meets its contract. The loop's invariant: the keys passed and those still to come decide together.
-use mathlib.Core.Path.{◌≡◌, refl, sym, ◌∙◌}
-use mathlib.Core.Bool.{◌&&◌}
-use Prim.Native.Nat.{◌-◌, ◌≤◌}
+use mathlib.Core.Path.{refl, sym, ◌∙◌}
 use native.Mathlib.Omega.{arith}
-use borrow.Author.Rules.{rules}
-use Rattle.recipe_table.specs.Keys.{absent}
 use Rattle.recipe_table.proofs.Keys.{absent_done, absent_turn}
 use Rattle.recipe_table.proofs.is_new.Goals as goal
 

@@ -2,8 +2,6 @@
 use mathlib.Core.Path.{◌≡◌, sym}
 use mathlib.Core.Bool.{false}
 use native.Mathlib.Omega.{arith}
-use borrow.Author.Tests.{not-true}
-use borrow.Author.Rules.{rules}
 use lib.ListN.{get_or}
 use Rattle.recipe_table.specs.Keys.{mark_of}
 use Rattle.recipe_table.proofs.Keys.{unmarked}

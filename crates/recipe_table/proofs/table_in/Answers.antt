@@ -7,7 +7,6 @@ use lib.ListN.{length}
 use Rattle.recipe_table.specs.Entries.{table_of, type_table}
 use Rattle.recipe_table.specs.Filled.{filled}
 use Rattle.recipe_table.proofs.Tables.{count_fits}
-use borrow.Author.Rules.{rules}
 use Rattle.recipe_table.proofs.table_in.Goals as goal
 
 pub read_table-requires : goal.read_table-requires

@@ -1,8 +1,6 @@
 -- `recipe_table::table_refusal` meets its contract.
-use borrow.Author.Tests.{not-true, not-false}
 use Rattle.recipe_file.proofs.LaidOut.{laid_where}
 use Rattle.recipe_table.proofs.Tables.{count_between, layout_first, table_broken, table_sound}
-use borrow.Author.Rules.{rules}
 use Rattle.recipe_table.proofs.table_refusal.Goals as goal
 
 pub returns-then-layout-ne0 : goal.returns-then-layout-ne0

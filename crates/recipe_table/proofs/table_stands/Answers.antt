@@ -2,10 +2,8 @@
 use mathlib.Core.Path.{◌∙◌}
 use Prim.Native.Nat.{◌≤◌}
 use native.Mathlib.Omega.{arith}
-use borrow.Author.Tests.{not-true, not-false}
 use lib.ListN.{length}
 use Rattle.recipe_table.proofs.Rules.{entry_broken, table_kept}
-use borrow.Author.Rules.{rules}
 use Rattle.recipe_table.proofs.table_stands.Goals as goal
 
 pub returns-then-not-entries_stand : goal.returns-then-not-entries_stand

@@ -1,13 +1,9 @@
 use mathlib.Core.Path.{◌≡◌, refl, subst, subst⁻¹, sym}
 use mathlib.Core.Bool.{Bool, cond, false, true}
-use lib.ListN.{length, take}
+use lib.ListN.{take}
 use lib.Seq.{length-take-le}
 use Rattle.run_turn.specs.Turning.{Took}
 use Rattle.run_recipe.specs.Running.{Ready}
-use borrow.Author.Rules.{rules}
-use Rattle.run_recipe.proofs.alternate.Reads as reads
-use Rattle.run_recipe.proofs.alternate.Lts as lts
-use Rattle.run_turn.proofs.take_turn.Reads as take-turn-reads
 use Rattle.run_recipe.proofs.alternate.Goals as goal
 
 pub slice_bounds-take_turn-end : goal.slice_bounds-take_turn-end

@@ -1,7 +1,5 @@
 use mathlib.Core.Path.{sym}
-use Prim.Native.Nat.{ℕ}
 use native.Mathlib.Omega.{arith}
-use borrow.Author.Rules.{rules}
 use lib.Seq.{length-take-le}
 use Rattle.run_recipe.proofs.Whole.{Loads, has_run, load_refused, loaded_inside, loaded_stands, loaded_starts, second_short}
 use Rattle.run_recipe.proofs.run.Goals as goal

@@ -1,10 +1,7 @@
 use mathlib.Core.Path.{◌∙◌, ◌≡◌, refl}
-use Prim.Native.Nat.{◌-◌}
 use native.Mathlib.Omega.{arith}
-use borrow.Author.Rules.{rules}
-use lib.ListN.{length, take}
-use Rattle.run_spec.specs.Course.{take_turns}
-use Rattle.run_recipe.proofs.Underway.{Underway, took_as, underway_end, underway_met, underway_nobody, underway_on, underway_ready, underway_start}
+use lib.ListN.{length}
+use Rattle.run_recipe.proofs.Underway.{took_as, underway_end, underway_met, underway_nobody, underway_on, underway_ready, underway_start}
 use Rattle.run_recipe.proofs.run_turns.Goals as goal
 
 pub loop-taken-init : goal.loop-taken-init

@@ -1,10 +1,8 @@
-use mathlib.Core.Path.{◌∙◌, ◌≡◌, refl}
+use mathlib.Core.Path.{◌≡◌}
 use Prim.Native.Nat.{◌-◌}
-use native.Mathlib.Omega.{arith}
-use borrow.Author.Rules.{rules}
 use lib.ListN.{length, take}
 use Rattle.run_spec.specs.Course.{take_turns}
-use Rattle.run_recipe.proofs.Underway.{Underway, took_as, underway_end, underway_met, underway_nobody, underway_on, underway_ready, underway_start}
+use Rattle.run_recipe.proofs.Underway.{Underway}
 use Rattle.run_recipe.proofs.run_turns.Given as goal
 
 abbrev pub invariant-loop-taken : goal.invariant-loop-taken

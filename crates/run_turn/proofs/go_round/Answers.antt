@@ -2,7 +2,6 @@ use mathlib.Core.Path.{◌≡◌, subst}
 use mathlib.Core.Bool.{false}
 use Prim.Native.Nat.{ℕ, ◌-◌}
 use native.Mathlib.Omega.{arith}
-use borrow.Author.Rules.{rules}
 use Rattle.image_layout.proofs.Theory.Reading.{has_names}
 use Rattle.image_layout.specs.Slice.{names}
 use Rattle.image_check.proofs.Theory.Whole.{whole_sound}

@@ -1,9 +1,7 @@
 use mathlib.Core.Path.{subst}
-use Prim.Native.Nat.{◌-◌}
 use native.Mathlib.Omega.{arith}
-use borrow.Author.Rules.{rules}
 use Rattle.run_turn.specs.Turning.{Seen}
-use Rattle.run_turn.proofs.Along.{Along, along_end, along_goes, along_lacks, along_met, along_rests, along_start}
+use Rattle.run_turn.proofs.Along.{along_end, along_goes, along_lacks, along_met, along_rests, along_start}
 use Rattle.run_turn.proofs.look_along.Goals as goal
 
 pub loop-x-init : goal.loop-x-init

@@ -1,5 +1,4 @@
 use mathlib.Core.Path.{subst, subst⁻¹}
-use borrow.Author.Rules.{rules}
 use Rattle.step_look.specs.Looked.{Looked}
 use Rattle.step_look.proofs.Theory.Ways.{looked_goes, looked_stays}
 use Rattle.run_turn.specs.Turning.{Seen, goes}

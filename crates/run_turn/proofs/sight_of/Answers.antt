@@ -1,5 +1,4 @@
 use mathlib.Core.Path.{◌∙◌, ap, sym}
-use borrow.Author.Rules.{rules}
 use Rattle.run_turn.specs.Turning.{sight_of}
 use Rattle.run_turn.proofs.sight_of.Goals as goal
 

@@ -1,9 +1,5 @@
 use mathlib.Core.Path.{◌≡◌, subst}
-use mathlib.Core.List.{List}
-use Prim.Native.Nat.{ℕ}
 use native.Mathlib.Omega.{arith}
-use borrow.Author.Rules.{rules}
-use Rattle.calculus.specs.Bytes.{Bytes}
 use Rattle.step_rules.specs.Moves.{image_after}
 use Rattle.step_look.specs.Looked.{Going}
 use Rattle.step_look.proofs.Theory.Writing.{after_fits, can_write}

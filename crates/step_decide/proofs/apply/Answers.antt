@@ -5,7 +5,6 @@ use Rattle.step_decide.specs.Decided.{refuses_wrong}
 use Rattle.step_decide.proofs.Tags.{tag_inside, tag_name, tag_application, tag_lambda, tag_cell, tag_thread, tag_handle, tag_other}
 use Rattle.step_decide.proofs.Decisions.{goes_by}
 use native.Mathlib.Omega.{arith}
-use borrow.Author.Rules.{rules}
 use Rattle.step_decide.proofs.apply.Goals as goal
 
 pub overflow_add-tag : goal.overflow_add-tag

@@ -1,7 +1,6 @@
 -- `step_decide::call` meets its contract.
 use Rattle.step_decide.proofs.Needed.{call_head}
 use Rattle.step_decide.proofs.Decisions.{call_follows, call_waits, call_goes, call_refuses_used, call_refuses}
-use borrow.Author.Rules.{rules}
 use Rattle.step_decide.proofs.call.Goals as goal
 
 pub kind_at-kind-requires : goal.kind_at-kind-requires

@@ -1,6 +1,5 @@
 -- `step_decide::decide` meets its contract: values meet in an application or in a case.
 use native.Mathlib.Omega.{arith}
-use borrow.Author.Rules.{rules}
 use Rattle.calculus.specs.Bytes.{Bytes}
 use Rattle.step_decide.proofs.Tags.{node_application, node_case, node_inside}
 use Rattle.step_decide.proofs.decide.Goals as goal

@@ -3,7 +3,6 @@ use Prim.Native.Nat.{◌+◌}
 use Rattle.step_decide.specs.Decided.{refuses_wrong}
 use Rattle.step_decide.proofs.Tags.{first_inside, first_is_name, first_is_other}
 use native.Mathlib.Omega.{arith}
-use borrow.Author.Rules.{rules}
 use Rattle.step_decide.proofs.exchange.Goals as goal
 
 pub overflow_add-at : goal.overflow_add-at

@@ -1,7 +1,6 @@
 -- `step_decide::exchange_name` meets its contract.
 use Rattle.step_decide.proofs.Needed.{exchange_head}
 use Rattle.step_decide.proofs.Decisions.{exchange_follows, exchange_waits, exchange_goes, exchange_refuses}
-use borrow.Author.Rules.{rules}
 use Rattle.step_decide.proofs.exchange_name.Goals as goal
 
 pub kind_at-kind-requires : goal.kind_at-kind-requires

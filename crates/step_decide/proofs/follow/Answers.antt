@@ -1,7 +1,5 @@
 -- `step_decide::follow` meets its contract.
-use borrow.Author.Tests.{not-true, not-false}
 use Rattle.step_decide.proofs.Decisions.{follow_good, follow_waits, follow_goes}
-use borrow.Author.Rules.{rules}
 use Rattle.step_decide.proofs.follow.Goals as goal
 
 pub is_value-requires : goal.is_value-requires

@@ -1,7 +1,6 @@
 -- `step_decide::take_apart` meets its contract.
 use Prim.Native.Nat.{◌+◌}
 use native.Mathlib.Omega.{arith}
-use borrow.Author.Rules.{rules}
 use Rattle.step_decide.specs.Decided.{refuses_wrong}
 use Rattle.step_decide.proofs.Tags.{subject_inside, takes_list, takes_name, takes_other, takes_pair}
 use Rattle.step_decide.proofs.take_apart.Goals as goal

@@ -1,7 +1,6 @@
 -- `step_decide::take_both` meets its contract: the tags of the case and of its subject match, or 17 fits.
 use mathlib.Core.Path.{refl}
 use native.Mathlib.Omega.{arith}
-use borrow.Author.Rules.{rules}
 use Rattle.step_decide.specs.Decided.{refuses_wrong}
 use Rattle.step_decide.proofs.Tags.{both_inside, component_good, list_takes_no_pair, pair_takes_no_list, takes_its_list, takes_its_pair}
 use Rattle.step_decide.proofs.Decisions.{goes_by}

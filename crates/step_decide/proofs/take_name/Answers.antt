@@ -1,7 +1,6 @@
 -- `step_decide::take_name` meets its contract.
 use Rattle.step_decide.proofs.Needed.{take_head}
 use Rattle.step_decide.proofs.Decisions.{take_follows, take_waits, take_refuses}
-use borrow.Author.Rules.{rules}
 use Rattle.step_decide.proofs.take_name.Goals as goal
 
 pub kind_at-kind-requires : goal.kind_at-kind-requires

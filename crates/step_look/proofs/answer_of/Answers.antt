@@ -1,5 +1,4 @@
 use mathlib.Core.Path.{ap, sym}
-use borrow.Author.Rules.{rules}
 use Rattle.step_look.specs.Looked.{stays}
 use Rattle.step_look.proofs.answer_of.Goals as goal
 

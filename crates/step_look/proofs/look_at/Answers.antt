@@ -1,10 +1,7 @@
 use mathlib.Core.Path.{◌∙◌, ◌≡◌, ap, subst, subst⁻¹, sym}
 use mathlib.Core.Option.{some}
-use mathlib.Core.List.{List}
 use Prim.Native.Nat.{ℕ}
 use native.Mathlib.Omega.{arith}
-use borrow.Author.Rules.{rules}
-use borrow.Author.Tests.{not-false, not-true}
 use Rattle.calculus.specs.Bytes.{Bytes}
 use Rattle.calculus.specs.Syntax.{at, thread_of}
 use Rattle.calculus.specs.Step.{place}
@@ -13,7 +10,6 @@ use Rattle.term.specs.Expressions.{term_at}
 use Rattle.image_layout.specs.Slice.{offset_at}
 use Rattle.image_layout.proofs.Theory.Reading.{has_head}
 use Rattle.image.specs.Configuration.{config_of}
-use Rattle.term_redex.specs.declared.Place.{Place}
 use Rattle.term_redex.specs.Places.{place_of, Searchable}
 use Rattle.step_rules.specs.Meets.{Deciding}
 use Rattle.step_rules.specs.Stepped.{Stepped}
@@ -23,7 +19,7 @@ use Rattle.image_check.proofs.Theory.Names.{config_parts}
 use Rattle.image_check.proofs.Theory.Whole.{whole_sound}
 use Rattle.step_look.specs.Looked.{Staying, goes, stays_so}
 use Rattle.step_look.proofs.Theory.Writing.{countable}
-use Rattle.step_look.proofs.Looking.{by_decision, by_done, by_no_room, by_no_thread, by_room, few_before, no_thread_there, not_goes, room_is, stepped, thread_is_there}
+use Rattle.step_look.proofs.Looking.{by_decision, by_done, by_no_room, by_no_thread, by_room, few_before, no_thread_there, room_is, stepped, thread_is_there}
 use Rattle.step_look.proofs.look_at.Goals as goal
 
 pub returns-then-not-is_thread : goal.returns-then-not-is_thread

@@ -2,7 +2,6 @@
 use native.Mathlib.Omega.{arith}
 use Rattle.step_rules.specs.Effects.{bytes_between}
 use Rattle.step_rules.proofs.Theory.Lengths.{argument_length}
-use borrow.Author.Rules.{rules}
 use Rattle.step_reduct.proofs.put_argument.Goals as goal
 
 pub put_part-requires : goal.put_part-requires

@@ -1,6 +1,5 @@
 -- `step_reduct::put_body` meets its contract.
 use Rattle.step_rules.specs.Substitutions.{substituted}
-use borrow.Author.Rules.{rules}
 use Rattle.step_reduct.proofs.put_body.Goals as goal
 
 pub put_substituted-requires : goal.put_substituted-requires

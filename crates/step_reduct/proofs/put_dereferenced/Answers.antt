@@ -5,7 +5,6 @@ use Rattle.buffer.proofs.Theory.Writes.{same, then, known_as}
 use Rattle.step_rules.specs.Effects.{bytes_between, effect_of}
 use Rattle.step_rules.proofs.Theory.Writers.{has_by}
 use Rattle.step_rules.proofs.Theory.Lengths.{argument_length, copied_length, function_length, redex_by, length_3}
-use borrow.Author.Rules.{rules}
 use Rattle.step_reduct.proofs.put_dereferenced.Goals as goal
 
 pub put_part-function-requires : goal.put_part-function-requires

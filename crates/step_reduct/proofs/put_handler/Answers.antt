@@ -1,12 +1,11 @@
 -- `step_reduct::put_handler` meets its contract.
 use mathlib.Core.Path.{ap, sym}
-use Prim.Native.Nat.{◌-◌, ◌+◌, ℕ}
+use Prim.Native.Nat.{◌+◌, ℕ}
 use native.Mathlib.Omega.{arith}
 use Rattle.buffer.proofs.Theory.Writes.{same, then, known_as}
 use Rattle.step_rules.specs.Effects.{name_bytes, effect_of}
 use Rattle.step_rules.proofs.Theory.Lengths.{argument_length, redex_by, length_4}
 use Rattle.step_reduct.proofs.Redexes.{names_by}
-use borrow.Author.Rules.{rules}
 use Rattle.step_reduct.proofs.put_handler.Goals as goal
 
 pub put_byte-outer-requires : goal.put_byte-outer-requires

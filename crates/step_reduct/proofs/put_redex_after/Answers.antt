@@ -8,7 +8,6 @@ use Rattle.step_rules.proofs.Theory.Writers.{has_by}
 use Rattle.step_rules.proofs.Theory.Lengths.{redex_by, length_7}
 use Rattle.step_reduct.proofs.Redexes.{names_by}
 use Rattle.step_reduct.proofs.Outcomes.{Replaces, replaces_as, replaces_1, replaces_8, replaces_9}
-use borrow.Author.Rules.{rules}
 use Rattle.step_reduct.proofs.put_redex_after.Goals as goal
 
 pub put_body-requires : goal.put_body-requires

@@ -8,7 +8,6 @@ use Rattle.step_rules.specs.Effects.{bytes_between}
 use Rattle.step_rules.specs.Moves.{expression_after}
 use Rattle.step_rules.proofs.Theory.Lengths.{length_between, expression_length}
 use Rattle.step_reduct.proofs.Redexes.{has_thread}
-use borrow.Author.Rules.{rules}
 use Rattle.step_reduct.proofs.put_thread_after.Goals as goal
 
 pub offset_at-begin-requires : goal.offset_at-begin-requires

@@ -5,7 +5,6 @@ use Rattle.step_rules.specs.Substitutions.{Whole}
 use Rattle.step_rules.proofs.Theory.Substitutions.{whole_applied, whole_as}
 use Rattle.step_rules.proofs.Theory.Writers.{has_by}
 use Rattle.step_room.proofs.Counts.{counts_applied, counts_by}
-use borrow.Author.Rules.{rules}
 use Rattle.step_room.proofs.count_applied.Goals as goal
 
 pub weigh-argument-requires : goal.weigh-argument-requires

@@ -6,7 +6,6 @@ use Rattle.step_rules.specs.Effects.{effect_of}
 use Rattle.step_rules.proofs.Theory.Lengths.{length_3, redex_by}
 use Rattle.step_rules.proofs.Theory.Writers.{has_by}
 use Rattle.step_room.proofs.Counts.{counts}
-use borrow.Author.Rules.{rules}
 use Rattle.step_room.proofs.count_followed.Goals as goal
 
 pub nodes_at-value-requires : goal.nodes_at-value-requires

@@ -2,7 +2,6 @@
 use mathlib.Core.Path.{ap, refl}
 use native.Mathlib.Omega.{arith}
 use lib.ListN.{length}
-use borrow.Author.Rules.{rules}
 use Rattle.step_rules.specs.Effects.{effect_of}
 use Rattle.step_rules.proofs.Theory.Lengths.{length_4, length_7, redex_by}
 use Rattle.step_rules.proofs.Theory.Writers.{has_by}

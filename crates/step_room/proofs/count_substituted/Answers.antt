@@ -2,12 +2,10 @@
 use mathlib.Core.Path.{refl}
 use Prim.Native.Nat.{◌-◌}
 use native.Mathlib.Omega.{arith}
-use Rattle.calculus.specs.Bytes.{Bytes}
 use Rattle.calculus.proofs.Theory.Weights.{nodes_weight, size_weight}
 use Rattle.step_room.specs.Counting.{Weighable}
 use Rattle.step_room.proofs.Bounds.{part_short, part_size, weighable}
 use Rattle.step_room.proofs.Counts.{substitutes}
-use borrow.Author.Rules.{rules}
 use Rattle.step_room.proofs.count_substituted.Goals as goal
 
 pub with_values-gained-requires : goal.with_values-gained-requires

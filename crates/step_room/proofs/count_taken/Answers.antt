@@ -2,7 +2,6 @@
 use Rattle.step_rules.specs.Substitutions.{Whole}
 use Rattle.step_rules.proofs.Theory.Substitutions.{whole_as, whole_taken}
 use Rattle.step_room.proofs.Counts.{counts_taken}
-use borrow.Author.Rules.{rules}
 use Rattle.step_room.proofs.count_taken.Goals as goal
 
 pub weigh-second-requires : goal.weigh-second-requires

@@ -1,6 +1,5 @@
 -- `step_room::nodes_at` meets its contract.
 use mathlib.Core.Path.{sym, ◌∙◌}
-use borrow.Author.Rules.{rules}
 use Rattle.term_scan.proofs.Answers.{not_refused, scanned_nodes}
 use Rattle.step_room.proofs.nodes_at.Goals as goal
 

@@ -2,7 +2,6 @@
 use mathlib.Core.Path.{◌∙◌, ap₂}
 use Prim.Native.Nat.{ℕ, ◌+◌, ◌-◌}
 use native.Mathlib.Omega.{arith}
-use borrow.Author.Rules.{rules}
 use Rattle.image_layout.proofs.Theory.Reading.{has_head}
 use Rattle.step_rules.specs.Moves.{names_after, nodes_after}
 use Rattle.step_rules.proofs.Theory.Lengths.{expression_length}

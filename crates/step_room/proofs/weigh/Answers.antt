@@ -1,8 +1,6 @@
 -- `step_room::weigh` meets its contract.
 use native.Mathlib.Omega.{arith}
-use Rattle.calculus.specs.Bytes.{Bytes}
 use Rattle.step_room.proofs.Bounds.{part_size, weighed}
-use borrow.Author.Rules.{rules}
 use Rattle.step_room.proofs.weigh.Goals as goal
 
 pub overflow_sub-result : goal.overflow_sub-result

@@ -1,10 +1,7 @@
 -- `step_shares::carried_of` meets its contract, rule by rule.
-use mathlib.Core.Path.{◌∙◌, ◌≡◌, ap, ap₂, sym}
+use mathlib.Core.Path.{◌∙◌, ap, ap₂, sym}
 use Prim.Native.Nat.{ℕ}
-use borrow.Author.Rules.{rules}
-use Rattle.step_rules.specs.declared.Move.{Move}
 use Rattle.step_rules.specs.Effects.{carried_of}
-use Rattle.step_rules.specs.Moves.{carried}
 use Rattle.step_rules.proofs.Theory.Writers.{has_by}
 use Rattle.step_shares.proofs.Changing.{carry}
 use Rattle.step_shares.proofs.carried_of.Goals as goal

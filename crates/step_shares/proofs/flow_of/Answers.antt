@@ -2,7 +2,6 @@
 use mathlib.Core.Path.{ap}
 use Prim.Native.Nat.{◌≤◌}
 use native.Mathlib.Omega.{arith}
-use Rattle.calculus.specs.Bytes.{Bytes}
 use Rattle.calculus.specs.Image.{nodes_all}
 use Rattle.calculus.specs.Limits.{max_nodes}
 use Rattle.image.specs.Configuration.{config_of}

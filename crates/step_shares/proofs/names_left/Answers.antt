@@ -2,7 +2,6 @@
 use mathlib.Core.Path.{ap}
 use Prim.Native.Nat.{◌+◌, ℕ}
 use native.Mathlib.Omega.{arith}
-use borrow.Author.Rules.{rules}
 use Rattle.step_shares.specs.Tallies.{names_to}
 use Rattle.step_shares.proofs.Weighing.{at_most}
 use Rattle.step_shares.proofs.names_left.Goals as goal

@@ -1,6 +1,5 @@
 -- `step_shares::nodes_left` meets its contract.
 use native.Mathlib.Omega.{arith}
-use borrow.Author.Rules.{rules}
 use Rattle.step_shares.specs.Tallies.{nodes_from, nodes_to}
 use Rattle.step_shares.proofs.Weighing.{at_most}
 use Rattle.step_shares.proofs.nodes_left.Goals as goal

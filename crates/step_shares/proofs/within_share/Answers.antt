@@ -1,5 +1,4 @@
 -- `step_shares::within_share` meets its contract.
-use borrow.Author.Rules.{rules}
 use lib.Dec.{leb}
 use Rattle.calculus.specs.Shares.{names_share, nodes_share}
 use Rattle.step_shares.proofs.Weighing.{few_enough, too_many}

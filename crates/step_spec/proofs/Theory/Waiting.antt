@@ -17,7 +17,6 @@ use Rattle.calculus.specs.Causes.{buffer_cause, image_cause, room_cause}
 use Rattle.image_layout.specs.Layout.{heads_stand}
 use Rattle.image.specs.Configuration.{config_of, owned_of}
 use Rattle.image.specs.Stands.{image_stands, terms_stand}
-use Rattle.step_spec.specs.declared.Outcome.{Outcome}
 use Rattle.step_spec.specs.declared.Outcome.TheVariants.{Waiting}
 use Rattle.step_spec.specs.Waiting.{NameSmall}
 use Rattle.step_spec.specs.Stepping.{outcome_of_reply, outcome_of, step_reply}

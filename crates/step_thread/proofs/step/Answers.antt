@@ -1,6 +1,5 @@
 use mathlib.Core.Path.{◌∙◌, sym}
 use native.Mathlib.Omega.{arith}
-use borrow.Author.Rules.{rules}
 use Rattle.calculus.specs.Profile.{common}
 use Rattle.image_check.proofs.Theory.Answers.{answered, refused}
 use Rattle.step_look.proofs.Theory.Answers.{broken, checked, too_short}

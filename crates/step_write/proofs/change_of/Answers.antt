@@ -4,7 +4,6 @@ use native.Mathlib.Omega.{arith}
 use Rattle.step_rules.specs.Effects.{effect_of, taken_apart}
 use Rattle.step_reduct.proofs.Redexes.{names_by}
 use Rattle.step_write.proofs.Names.{it_goes, by_none, by_thread, by_handle, by_bind, by_cell, by_exchange}
-use borrow.Author.Rules.{rules}
 use Rattle.step_write.proofs.change_of.Goals as goal
 
 pub returns-then-k-step : goal.returns-then-k-step

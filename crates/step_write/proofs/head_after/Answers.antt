@@ -6,7 +6,6 @@ use Rattle.image_layout.proofs.Theory.Reading.{has_head, expression_length}
 use Rattle.step_write.specs.Changes.{changed}
 use Rattle.step_write.proofs.Components.{becomes_as, as_head, started_length}
 use Rattle.step_rules.proofs.Theory.Lengths.{argument_length}
-use borrow.Author.Rules.{rules}
 use Rattle.step_write.proofs.head_after.Goals as goal
 
 pub kind_at-requires : goal.kind_at-requires

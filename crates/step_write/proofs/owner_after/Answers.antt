@@ -1,7 +1,6 @@
 -- `step_write::owner_after` meets its contract.
 use mathlib.Core.Path.{◌∙◌, sym}
 use native.Mathlib.Omega.{arith}
-use borrow.Author.Rules.{rules}
 use Rattle.step_write.proofs.Names.{old_owner, new_owner}
 use Rattle.step_write.proofs.owner_after.Goals as goal
 

@@ -1,16 +1,12 @@
 -- `step_write::put_expression_after` meets its contract.
-use mathlib.Core.Path.{ap, sym, ◌∙◌, ◌≡◌}
-use Prim.Native.Nat.{◌+◌, ◌≤◌}
+use mathlib.Core.Path.{ap, sym, ◌∙◌}
 use native.Mathlib.Omega.{arith}
 use lib.ListN.{length}
 use Rattle.buffer.proofs.Theory.Writes.{still, known_as}
 use Rattle.image_layout.proofs.Theory.Slice.{encoded_expression}
 use Rattle.image_layout.proofs.Theory.Reading.{has_expression}
-use Rattle.step_rules.specs.Moves.{component_after}
-use Rattle.step_write.specs.declared.Change.{Change}
-use Rattle.step_write.specs.Changes.{Becomes, changed}
+use Rattle.step_write.specs.Changes.{changed}
 use Rattle.step_write.proofs.Components.{becomes_as, same_expression}
-use borrow.Author.Rules.{rules}
 use Rattle.step_write.proofs.put_expression_after.Goals as goal
 
 pub expression_at-requires : goal.expression_at-requires

@@ -1,11 +1,9 @@
 -- `step_write::put_expressions` meets its contract.
 use mathlib.Core.Path.{ap}
-use mathlib.Core.List.{List}
-use Prim.Native.Nat.{◌-◌, ◌≤◌, ◌<◌, ℕ}
+use Prim.Native.Nat.{◌<◌}
 use native.Mathlib.Omega.{arith}
 use Rattle.calculus.specs.Lists.{tabulate}
 use Rattle.calculus.proofs.Theory.Tabulate.{tabulate_all}
-use Rattle.buffer.specs.Written.{Wrote}
 use Rattle.buffer.proofs.Theory.Writes.{still, same, known_as}
 use Rattle.image_layout.specs.Encoded.{expressions}
 use Rattle.image_layout.proofs.Theory.Turns.{expression_turn, room_expression}

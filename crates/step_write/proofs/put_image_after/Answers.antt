@@ -12,7 +12,6 @@ use Rattle.image_layout.specs.Room.{Room}
 use Rattle.image_layout.proofs.Theory.Turns.{room_kept, room_names, heads_end, image_turns}
 use Rattle.step_rules.specs.Moves.{component_after, names_after}
 use Rattle.step_write.proofs.Components.{image_room, image_is}
-use borrow.Author.Rules.{rules}
 use Rattle.step_write.proofs.put_image_after.Goals as goal
 
 pub put_u16-after_names-requires : goal.put_u16-after_names-requires

@@ -5,7 +5,6 @@ use Rattle.buffer.proofs.Theory.Writes.{same, then, known_as}
 use Rattle.step_rules.specs.Effects.{name_bytes}
 use Rattle.step_write.proofs.Components.{started_length}
 use Rattle.step_rules.proofs.Theory.Lengths.{argument_length}
-use borrow.Author.Rules.{rules}
 use Rattle.step_write.proofs.put_started.Goals as goal
 
 pub put_argument-name-requires : goal.put_argument-name-requires

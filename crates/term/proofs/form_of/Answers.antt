@@ -1,5 +1,4 @@
 -- `term::form_of` meets its contract: the table in the code is the table of `specs/`.
-use borrow.Author.Rules.{rules}
 use Rattle.term.proofs.Packed.{unpacked_form}
 use Rattle.term.proofs.form_of.Goals as goal
 

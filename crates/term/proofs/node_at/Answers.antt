@@ -1,11 +1,7 @@
 -- `term::node_at` meets its contract: the part from the position to the end is what is left when so many bytes are dropped.
 use mathlib.Core.Path.{ap, ◌∙◌}
-use borrow.Author.Rules.{rules}
 use borrow.Author.Rules.{part_to_end}
 use Rattle.term.specs.Reader.{node_at, node_of}
-use Rattle.term.proofs.node_at.Reads as reads
-use Rattle.term.proofs.node_at.Lts as lts
-use Rattle.term.proofs.node_of.Reads as node-of-reads
 use Rattle.term.proofs.node_at.Goals as goal
 
 pub returns : goal.returns

@@ -1,7 +1,6 @@
 -- `term::node_of` meets its contract: at each `return` the tests that led there say which case of `node_of` holds (proofs/Nodes.antt).
 use mathlib.Core.Path.{◌≡◌, ap}
 use native.Mathlib.Omega.{arith}
-use borrow.Author.Rules.{rules}
 use lib.ListN.{get_or}
 use Rattle.term.specs.declared.Form.{Form}
 use Rattle.term.specs.Forms.{operand_of}

@@ -1,6 +1,5 @@
 -- `term_redex::end_of` meets its contract: a scan of a term that stands answers.
 use mathlib.Core.Path.{sym, ◌∙◌}
-use borrow.Author.Rules.{rules}
 use Rattle.term_scan.proofs.Many.{refused_ends}
 use Rattle.term_scan.proofs.Answers.{scan_good, scan_stands}
 use Rattle.term_redex.proofs.end_of.Goals as goal

@@ -1,7 +1,6 @@
 -- `term_redex::is_stop` meets its contract: the tag says it, and of an application the function's tag.
 use mathlib.Core.Path.{ap, sym, ◌∙◌}
 use native.Mathlib.Omega.{arith}
-use borrow.Author.Rules.{rules}
 use Rattle.term_redex.proofs.Tags.{case_stop, stop_tagged}
 use Rattle.term_redex.proofs.Nodes.{tagged_application, tagged_function, tagged_stop}
 use Rattle.term_redex.proofs.is_stop.Goals as goal

@@ -1,5 +1,4 @@
 -- `term_redex::is_value` meets its contract: a search of a value passes it.
-use borrow.Author.Rules.{rules}
 use Rattle.term_redex.proofs.Sought.{value_passed, value_stopped}
 use Rattle.term_redex.proofs.is_value.Goals as goal
 

@@ -1,6 +1,5 @@
 -- `term_redex::known_node` meets its contract: a good term has a node at its front.
 use mathlib.Core.Path.{sym, ◌∙◌}
-use borrow.Author.Rules.{rules}
 use Rattle.term.proofs.Views.{not_bad}
 use Rattle.term_redex.proofs.known_node.Goals as goal
 

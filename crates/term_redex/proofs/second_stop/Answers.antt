@@ -1,6 +1,5 @@
 -- `term_redex::second_stop` meets its contract: the root says whether the second subterm is searched.
 use mathlib.Core.Path.{◌≡◌, sym, ◌∙◌}
-use borrow.Author.Rules.{rules}
 use Rattle.term.specs.Expressions.{term_at}
 use Rattle.term_redex.specs.Shapes.{is_case}
 use Rattle.term_redex.specs.Stops.{argument, body}

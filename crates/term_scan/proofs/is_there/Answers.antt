@@ -1,5 +1,4 @@
 -- `term_scan::is_there` meets its contract: every operand is below what two bytes say.
-use borrow.Author.Rules.{rules}
 use Rattle.term_scan.proofs.Scopes.{there}
 use Rattle.term_scan.proofs.is_there.Goals as goal
 

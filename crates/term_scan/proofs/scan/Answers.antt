@@ -1,6 +1,5 @@
 -- `term_scan::scan` meets its contract, by that of `scan_small`.
 use mathlib.Core.Path.{◌∙◌}
-use borrow.Author.Rules.{rules}
 use Rattle.term_scan.proofs.Answers.{small_all}
 use Rattle.term_scan.proofs.scan.Goals as goal
 

@@ -1,6 +1,5 @@
 -- `term_scan::scoped_within` meets its contract: of a term within the limit the scan says the scope.
 use mathlib.Core.Path.{sym, ◌∙◌}
-use borrow.Author.Rules.{rules}
 use Rattle.calculus.specs.Limits.{max_nodes}
 use Rattle.term_scan.proofs.Answers.{scope_ends, scope_refused}
 use Rattle.term_scan.proofs.scoped_within.Goals as goal

@@ -1,5 +1,5 @@
 -- The outcome of a substitution in bytes is what the rules say.
-use Rattle.std.specs.Prelude.{◌≡◌, Bool, cond, List, ◌++◌, ◌∷◌, ◌+◌, ◌≤◌, suc, ℕ, eqb}
+use Rattle.std.specs.Prelude.{◌≡◌, Bool, cond, List, ◌++◌, ◌∷◌, ◌≤◌, suc, ℕ, eqb}
 use Rattle.std.proofs.Math.Path.{ap, ap₂, refl}
 use Rattle.std.proofs.Math.Bool.{false, true}
 use Rattle.std.proofs.Common.{arith}

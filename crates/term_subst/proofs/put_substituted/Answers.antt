@@ -1,21 +1,18 @@
 -- `term_subst::put_substituted` meets its contract. The loop's invariant: what is written, and what is still to be written of the terms to come, is the
 -- outcome (proofs/Putting.antt). The measure is what is still unread.
 use mathlib.Core.Path.{◌≡◌, refl, sym, ◌∙◌}
-use mathlib.Core.List.{List}
-use Prim.Native.Nat.{◌*◌, ◌+◌, ◌-◌, ◌<◌, ◌≤◌, ℕ}
+use Prim.Native.Nat.{◌*◌, ◌+◌, ◌-◌, ◌<◌, ◌≤◌}
 use native.Mathlib.Omega.{arith}
 use borrow.Author.Rules.{rules}
-use lib.ListN.{get_or, length}
-use Rattle.calculus.specs.Bytes.{Bytes}
+use lib.ListN.{get_or}
 use Rattle.calculus.specs.Limits.{max_nodes}
 use Rattle.term.specs.declared.Front.TheVariants.{Is}
-use Rattle.term.specs.declared.Node.{Node}
 use Rattle.term.specs.Reader.{node_at}
 use Rattle.term.proofs.Views.{NodeAt}
 use Rattle.term_walk.specs.Frames.{max_waits}
 use Rattle.buffer.proofs.Theory.Writes.{same}
 use Rattle.term_scan.proofs.Going.{going_node, going_not_bad, going_room, going_top}
-use Rattle.term_subst.proofs.Putting.{Copied, copied, piece, Putting, putting_asks, putting_done, putting_few, putting_on, putting_start, value}
+use Rattle.term_subst.proofs.Putting.{Copied, copied, piece, putting_asks, putting_done, putting_few, putting_on, putting_start, value}
 use Rattle.term_subst.proofs.put_substituted.Goals as goal
 
 pub loop-waits-init : goal.loop-waits-init

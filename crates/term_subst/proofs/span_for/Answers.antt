@@ -1,5 +1,4 @@
 -- `term_subst::span_for` meets its contract, by its tests.
-use borrow.Author.Rules.{rules}
 use Rattle.term_subst.proofs.span_for.Goals as goal
 
 pub returns-then-is_variable : goal.returns-then-is_variable

@@ -1,6 +1,5 @@
 -- `term_subst::use_of` meets its contract.
 use native.Mathlib.Omega.{arith}
-use borrow.Author.Rules.{rules}
 use Rattle.term_subst.proofs.use_of.Goals as goal
 
 pub returns-then-is_variable : goal.returns-then-is_variable

@@ -1,5 +1,4 @@
 -- `term_walk::pass` meets its contract: what it stores (proofs/Stack.antt).
-use borrow.Author.Rules.{rules}
 use Rattle.term_walk.proofs.Stack.{passed}
 use Rattle.term_walk.proofs.pass.Goals as goal
 

@@ -1,6 +1,5 @@
 -- `text::digit_of` meets its contract: the table in code is that of the definition.
 use mathlib.Core.Path.{refl}
-use borrow.Author.Rules.{rules}
 use Rattle.text.proofs.digit_of.Goals as goal
 
 pub returns : goal.returns

@@ -1,6 +1,5 @@
 -- `text::put_decimal` meets its contract: one digit, two, or three in a row.
 use native.Mathlib.Omega.{arith}
-use borrow.Author.Rules.{rules}
 use Rattle.buffer.proofs.Theory.Writes.{known_as, then}
 use Rattle.text.proofs.Theory.Digits.{decimal_one, decimal_rest, decimal_two}
 use Rattle.text.proofs.put_decimal.Goals as goal

@@ -1,6 +1,5 @@
 -- `text::put_two_digits` meets its contract: two digits in a row.
 use mathlib.Core.Path.{refl}
-use borrow.Author.Rules.{rules}
 use Rattle.buffer.proofs.Theory.Writes.{known_as, then}
 use Rattle.text.proofs.put_two_digits.Goals as goal
 

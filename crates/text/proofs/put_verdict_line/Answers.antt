@@ -1,6 +1,5 @@
 -- `text::put_verdict_line` meets its contract: the word, the number, the end of the line.
 use native.Mathlib.Omega.{arith}
-use borrow.Author.Rules.{rules}
 use Rattle.buffer.proofs.Theory.Writes.{same, then}
 use Rattle.text.specs.Ascii.{verdict_line}
 use Rattle.text.proofs.Theory.Digits.{length_decimal}
