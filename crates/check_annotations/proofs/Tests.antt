@@ -2,7 +2,6 @@
 use mathlib.Core.Path.{◌≡◌, refl, sym, ◌∙◌}
 use mathlib.Core.Bool.{◌&&◌, Bool, false, not, true}
 use mathlib.Core.List.{List, [], ◌∷◌}
-use borrow.Author.Tests.{not-false, not-true}
 
 unfoldable pub all : List Bool → Bool
 all [] = true
@@ -33,8 +32,8 @@ unfolding all
 last tests e = e ∙ sym tests.same
 
 -- what a test that was asked by `!` says of the definition
-pub fails : {r b : Bool} → r ≡ b → not r ≡ true → b ≡ false
-fails {r} e t = sym e ∙ not-true r t
+pub fails : {r b : Bool} → r ≡ b → r ≡ false → b ≡ false
+fails e t = sym e ∙ t
 
-pub stands : {r b : Bool} → r ≡ b → not r ≡ false → b ≡ true
-stands {r} e t = sym e ∙ not-false r t
+pub stands : {r b : Bool} → r ≡ b → r ≡ true → b ≡ true
+stands e t = sym e ∙ t

@@ -110,10 +110,10 @@ pub fn put_substituted(
     inner: Span,
     outer: Span,
 ) -> usize
-    requires good_at { GoodAt s.now at × (nodes (term_at s.now at) ≤ max_nodes) }
-    requires good_at_2 { GoodAt s.now inner.from × (inner.to ≡ end_at s.now inner.from) }
-    requires good_at_3 { GoodAt s.now outer.from × (outer.to ≡ end_at s.now outer.from) }
-    requires at_in_bounds { pos + length (replaced 0 (bytes (term_at s.now inner.from)) (bytes (term_at s.now outer.from)) (term_at s.now at)) ≤ length out.old }
+    requires good { GoodAt s.now at × (nodes (term_at s.now at) ≤ max_nodes) }
+    requires good_inner { GoodAt s.now inner.from × (inner.to ≡ end_at s.now inner.from) }
+    requires good_outer { GoodAt s.now outer.from × (outer.to ≡ end_at s.now outer.from) }
+    requires room { pos + length (replaced 0 (bytes (term_at s.now inner.from)) (bytes (term_at s.now outer.from)) (term_at s.now at)) ≤ length out.old }
     ensures { Wrote out.old pos (replaced 0 (bytes (term_at s.now inner.from)) (bytes (term_at s.now outer.from)) (term_at s.now at)) out.new result }
 {
     let mut frames = [0u16; Frames::MAX_WAITS];
