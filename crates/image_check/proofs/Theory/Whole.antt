@@ -9,7 +9,7 @@ use Rattle.calculus.specs.Lists.{sum_below}
 use Rattle.calculus.specs.Limits.{max_names, max_nodes}
 use Rattle.calculus.specs.Step.{place}
 use Rattle.calculus.specs.Image.{component_test, each_test, expression_test, image_test, is_settled, limits_test}
-use Rattle.calculus.proofs.Theory.Tests.{and_parts, and-true}
+use Rattle.calculus.proofs.Theory.Tests.{and_parts, and_true}
 use Rattle.calculus.proofs.Theory.Tabulate.{each_below_sound, each_below_complete}
 use Rattle.calculus.proofs.Theory.ImageTest.{limits_test_iff}
 use Rattle.image_layout.specs.Slice.{names}
@@ -57,7 +57,7 @@ module _ (s : List ℕ) where
       record {
         heads = heads;
         few_names = omega (arith, within.few_names, length_config s);
-        expressions = λ k l. and-true (each_below_sound (names s) (term_stands s) terms k l) (kept k l).0;
+        expressions = λ k l. and_true (each_below_sound (names s) (term_stands s) terms k l) (kept k l).0;
         few_nodes = omega (arith, within.few_nodes, config_nodes s);
         pairs = λ k l. (kept k l).1;
       }
@@ -67,10 +67,10 @@ module _ (s : List ℕ) where
   whole_complete w =
       let parts : (k : ℕ) → k < names s → (term_stands s k ≡ true) × (expression_keeps (names s) (component_of s k) ≡ true) =
       λ k l. and_parts (term_stands s k) (expression_keeps (names s) (component_of s k)) (w.expressions k l) in
-      and-true w.heads
-      (and-true (each_below_complete (names s) (term_stands s) (λ k l. (parts k l).0))
-      (and-true
+      and_true w.heads
+      (and_true (each_below_complete (names s) (term_stands s) (λ k l. (parts k l).0))
+      (and_true
       (config_tests s (component_test (config_of s))
-      ∙ each_below_complete (names s) (λ k. component_test (config_of s) k (component_of s k)) (λ k l. named_keeps k ∙ and-true (parts k l).1 (w.pairs k l)))
+      ∙ each_below_complete (names s) (λ k. component_test (config_of s) k (component_of s k)) (λ k l. named_keeps k ∙ and_true (parts k l).1 (w.pairs k l)))
       ((limits_test_iff (config_of s)).1
       record { few_names = omega (arith, w.few_names, length_config s); few_nodes = omega (arith, w.few_nodes, config_nodes s) })))

@@ -1,0 +1,13 @@
+-- `step_reduct::put_argument` meets its contract.
+use native.Mathlib.Omega.{arith}
+use Rattle.step_rules.specs.Effects.{bytes_between}
+use Rattle.step_rules.proofs.Theory.Lengths.{argument_length}
+use borrow.Author.Rules.{rules}
+use Rattle.step_reduct.proofs.put_argument.Goals as goal
+
+pub put_part-requires : goal.put_part-requires
+put_part-requires c = let w = c.requires.0 in (w.movable.third, (omega (arith, w.movable.ends, w.movable.inside), omega (arith, argument_length w.movable, c.requires.1)))
+
+pub returns : goal.returns
+unfolding bytes_between
+returns c = c.put_part.ensures
