@@ -53,3 +53,5 @@ pub alike_through : {A B C D : Type 0} {R : A → B → Type 0} {S : C → A →
     {k : List C} {n : List D} {l : List A} {m : List B} → Alike S k l → Alike S' n m → Alike R l m → Alike Q k n
 alike_through f alike_nil alike_nil alike_nil = alike_nil
 alike_through f (alike_cons p ps) (alike_cons q qs) (alike_cons r rs) = alike_cons (f _ _ _ _ p q r) (alike_through f ps qs rs)
+alike_through f alike_nil (alike_cons q qs) x15 = elim x15 [ ]
+alike_through f (alike_cons p ps) alike_nil x12 = elim x12 [ ]

@@ -95,6 +95,16 @@ module _ {k : ℕ} {τ σ : TypeNumbers} {I J : Owned} (B : Mirrors k τ σ I J)
   same_meeting_of c (same_app s (same_app e f)) v (is_exch (is_exch u)) (is_exch (is_exch u')) = same_wrong_kind
   same_meeting_of c (same_app s (same_both t e f)) v (is_exch (is_both u u')) (is_exch (is_both w w')) = same_wrong_kind
   same_meeting_of c (same_both t e f) v (is_both u u') (is_both w w') = same_wrong_kind
+  same_meeting_of c same_var v wf wg = elim wf [ ]
+  same_meeting_of c (same_app same_var (same_name n)) v wf wg = elim wf [ ]
+  same_meeting_of c (same_app (same_name _) (same_name n)) v wf wg = elim wf [ ]
+  same_meeting_of c (same_app (same_const same_unit) (same_name n)) v wf wg = elim wf [ ]
+  same_meeting_of c (same_app (same_const same_num) (same_name n)) v wf wg = elim wf [ ]
+  same_meeting_of c (same_app (same_lam _ _) (same_name n)) v wf wg = elim wf [ ]
+  same_meeting_of c (same_app (same_app _ _) (same_name n)) v wf wg = elim wf [ ]
+  same_meeting_of c (same_app (same_both _ _ _) (same_name n)) v wf wg = elim wf [ ]
+  same_meeting_of c (same_app (same_case _ _) (same_name n)) v wf wg = elim wf [ ]
+  same_meeting_of c (same_case _ _) v wf wg = elim wf [ ]
 
   -- F[case n of .. ⇒ e]
   same_subject_of : {F G : Context} (s : Shape) {n m : ℕ} {e f : Exp} {c d : Component} → SameContext (Mine k I J) τ σ F G →
@@ -120,12 +130,19 @@ module _ {k : ℕ} {τ σ : TypeNumbers} {I J : Owned} (B : Mirrors k τ σ I J)
   same_case_of s c (same_const d) e is_const is_const = same_wrong_kind
   same_case_of s c (same_lam t d) e is_lam is_lam = same_wrong_kind
   same_case_of s c (same_app d d') e (is_exch u) (is_exch w) = same_wrong_kind
+  same_case_of s c same_var e wv ww = elim wv [ ]
+  same_case_of s c (same_case _ _) e wv ww = elim wv [ ]
 
   same_redex_of : {F G : Context} {r q : Exp} → SameContext (Mine k I J) τ σ F G → Same (Mine k I J) τ σ r q → (d : Redex r) (d' : Redex q) →
       SameAnswer k τ σ I J x y (step_redex I.config x F d) (step_redex J.config y G d')
   unfolding step_redex
   same_redex_of c (same_app f v) (application wf wv) (application wg ww) = same_meeting_of c f v wf wg
   same_redex_of c (same_case {s = s} v e) (subject wv) (subject ww) = same_case_of s c v e wv ww
+  same_redex_of c same_var d _ = elim d [ ]
+  same_redex_of c (same_name _) d _ = elim d [ ]
+  same_redex_of c (same_const _) d' _ = elim d' [ ]
+  same_redex_of c (same_lam _ _) d _ = elim d [ ]
+  same_redex_of c (same_both _ _ _) d _ = elim d [ ]
 
   same_place_of : {q q' : Place} → SameMeeting (Mine k I J) τ σ q q' → SameAnswer k τ σ I J x y (step_place I.config x q) (step_place J.config y q')
   unfolding step_place

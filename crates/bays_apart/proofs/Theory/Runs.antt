@@ -41,7 +41,7 @@ module _ {τ : TypeNumbers} {b k : ℕ} where
   skip : {s : State} → Fine τ b s → (run : List ConfigCall) → Long run → Skips τ b k s run
   unfolding config_steps passing
   skip f [] l = no_turn refl
-  skip {s} f (a ∷ run) l = skip_one f a run l (is_turn k s.owned a.thread) refl (skip (fine_after f a) run (λ i. l (suc i)))
+  skip {s} f (a ∷ run) l = skip_one f a run l (is_turn k s.owned a.thread) refl (skip {s = state_after separate τ s a} (fine_after f a) run (λ i. l (suc i)))
 
 -- threads counted among a bay's components
 threads_injective : (C : Config) (r s : ℕ) (e f : Exp) → at C r ≡ some (thread_of e) → at C s ≡ some (thread_of f) → threads_below C r ≡ threads_below C s → r ≡ s

@@ -144,6 +144,16 @@ module _ {N : Names} {τ σ : TypeNumbers} where
   same_beside (same_lam t e) s is_lam is_lam wv ww = same_meet same_hole (same_app (same_lam t e) s)
   same_beside (same_app (same_const (same_op t)) e) s (is_exch u) (is_exch u') wv ww = same_meet same_hole (same_app (same_app (same_const (same_op t)) e) s)
   same_beside (same_both t e f) s (is_both u u') (is_both x x') wv ww = same_meet same_hole (same_app (same_both t e f) s)
+  same_beside same_var s wf wg wv ww = elim wf [ ]
+  same_beside (same_app same_var e) s wf wg wv ww = elim wf [ ]
+  same_beside (same_app (same_name _) e) s wf wg wv ww = elim wf [ ]
+  same_beside (same_app (same_const same_unit) e) s wf wg wv ww = elim wf [ ]
+  same_beside (same_app (same_const same_num) e) s wf wg wv ww = elim wf [ ]
+  same_beside (same_app (same_lam _ _) e) s wf wg wv ww = elim wf [ ]
+  same_beside (same_app (same_app _ _) e) s wf wg wv ww = elim wf [ ]
+  same_beside (same_app (same_both _ _ _) e) s wf wg wv ww = elim wf [ ]
+  same_beside (same_app (same_case _ _) e) s wf wg wv ww = elim wf [ ]
+  same_beside (same_case _ _) s wf wg wv ww = elim wf [ ]
 
   -- a part of an expression, by its place
   same_within : {frame frame' : Context → Context} {p p' : Place} {right right' : (v : Exp) → Value v → Place} →

@@ -231,6 +231,11 @@ module _ (p : Profile) (I : Owned) (x : ℕ) where
     where
       there : (a : Answer) → step_of I.config x ≡ a → Told (room_test p I) (grown I x) a (Refused room_cause) → LacksRoom p x I
       there (rule r C') q (told_room l) = (r, C', (rule_iff I.config C' x r).0 q, λ w. clash (let h = (has_room_iff p I (grown I x C')).1 w in cc))
+      there (waiting _) q x4 = elim x4 [ ]
+      there done q x4 = elim x4 [ ]
+      there no_thread q x5 = elim x5 [ ]
+      there used_handle q x6 = elim x6 [ ]
+      there wrong_kind q x7 = elim x7 [ ]
 
       above : (r : RuleName) (C' : Config) (t : Bool) → room_test p I (grown I x C') ≡ t → ¬ HasRoom p I (grown I x C') →
           outcome_of_reply (cond t (moved (number r) (grown I x C')) (refuses room_cause)) ≡ Refused room_cause

@@ -13,7 +13,7 @@ pub names_of-requires : goal.names_of-requires
 names_of-requires c = has_names c.requires.0.movable
 
 pub length_at-requires : goal.length_at-requires
-length_at-requires c = let w = c.requires.0 in has_head _ w.stands _ w.movable.thread-below
+length_at-requires c = let w = c.requires.0 in has_head _ w.stands _ w.movable.thread_below
 
 pub returns : goal.returns
 unfolding names_after nodes_after

@@ -1,0 +1,16 @@
+use mathlib.Core.Path.{ap, sym}
+use borrow.Author.Rules.{rules}
+use Rattle.step_look.specs.Looked.{stays}
+use Rattle.step_look.proofs.answer_of.Goals as goal
+
+pub returns-in-Goes : goal.returns-in-Goes
+unfolding stays
+returns-in-Goes c = sym (ap stays c.in-Goes.is)
+
+pub returns-in-Waits : goal.returns-in-Waits
+unfolding stays
+returns-in-Waits c = sym (ap stays c.in-Waits.is)
+
+pub returns-in-Refuses : goal.returns-in-Refuses
+unfolding stays
+returns-in-Refuses c = sym (ap stays c.in-Refuses.is)
