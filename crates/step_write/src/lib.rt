@@ -82,7 +82,7 @@ fn change_of(image: &[u8], step: Step, k: usize) -> Change
 // Writes the new thread of rule 2: the argument applied to the thread's own name.
 fn put_started(out: &mut [u8], at: usize, image: &[u8], step: Step) -> usize
     requires can_write { CanWrite image.now step × (names image.now < byte_values) }
-    requires meeting_in_bounds { at + length (started_bytes image.now step.meeting) ≤ length out.old }
+    requires room { at + length (started_bytes image.now step.meeting) ≤ length out.old }
     ensures { Wrote out.old at (started_bytes image.now step.meeting) out.new result }
 {
     let function = put_byte(out, at, Node::APPLICATION);
@@ -101,7 +101,7 @@ fn started_size(meeting: Meeting) -> usize
 // Writes the expression of name k; futures and handles have none.
 fn put_expression_after(out: &mut [u8], at: usize, image: &[u8], step: Step, k: usize) -> usize
     requires can_write { CanWrite image.now step × (k < names_after image.now step) }
-    requires k_in_bounds { at + length (component_after image.now step k).expression ≤ length out.old }
+    requires room { at + length (component_after image.now step k).expression ≤ length out.old }
     ensures { Wrote out.old at (component_after image.now step k).expression out.new result }
 {
     let change = change_of(image, step, k);
@@ -205,7 +205,7 @@ fn put_expressions(out: &mut [u8], at: usize, image: &[u8], step: Step, names: u
 // Writes the image after a step. What was counted before is handed on: its names, and the bytes of the expression of the thread that goes.
 pub fn put_image_after(image: &[u8], step: Step, after: Size, out: &mut [u8]) -> usize
     requires can_write { CanWrite image.now step × Handed image.now step after }
-    requires step_in_bounds { (length (image_after image.now step) ≤ length out.old) × (length (image_after image.now step) < two_byte_values) }
+    requires room { (length (image_after image.now step) ≤ length out.old) × (length (image_after image.now step) < two_byte_values) }
     ensures { Wrote out.old 0 (image_after image.now step) out.new result }
 {
     let after_names = put_u16(out, 0, after.names);

@@ -1,0 +1,35 @@
+use mathlib.Core.Path.{◌∙◌, sym}
+use native.Mathlib.Omega.{arith}
+use borrow.Author.Rules.{rules}
+use Rattle.calculus.specs.Profile.{common}
+use Rattle.image_check.proofs.Theory.Answers.{answered, refused}
+use Rattle.step_look.proofs.Theory.Answers.{broken, checked, too_short}
+use Rattle.step_thread.proofs.step.Goals as goal
+
+pub returns-then-out-lt-MAX_LENGTH : goal.returns-then-out-lt-MAX_LENGTH
+returns-then-out-lt-MAX_LENGTH c =
+    let a = c.args in
+    let (value, out_after) = too_short common a.image.now a.thread a.out.now c.if-out-lt-MAX_LENGTH.true in
+    record { value = value; out_after = out_after }
+
+pub returns-in_default : goal.returns-in_default
+returns-in_default c =
+    let a = c.args in
+    let (value, out_after) = broken common a.image.now a.thread a.out.now (omega (arith, c.if-out-lt-MAX_LENGTH.false)) (refused a.image.now (sym c.in_default.is ∙ c.check_image.ensures)) in
+    record { value = value; out_after = out_after }
+
+pub step_checked-answer-requires : goal.step_checked-answer-requires
+step_checked-answer-requires c =
+    let a = c.args in
+    let (stands, counted) = answered a.image.now _ (sym c.in-Nodes.is ∙ c.check_image.ensures) in
+    (record { stands = stands; counted = counted }, omega (arith, c.if-out-lt-MAX_LENGTH.false))
+
+pub returns : goal.returns
+returns c =
+    let a = c.args in
+    let (stands, counted) = answered a.image.now _ (sym c.in-Nodes.is ∙ c.check_image.ensures) in
+    let answer = c.step_checked-answer.ensures.outcome_value in
+    let left = c.step_checked-answer.ensures.out_after in
+    let nodes = c.step_checked-answer.ensures.nodes_value in
+    let (value, out_after) = checked common a.image.now a.thread a.out.now (omega (arith, c.if-out-lt-MAX_LENGTH.false)) stands (answer, left) in
+    record { value = value; out_after = out_after }
