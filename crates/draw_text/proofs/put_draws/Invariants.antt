@@ -1,0 +1,19 @@
+-- `draw_text::put_draws` meets its contract. The loop's invariant: the lines of the draws made are put, those of the draws to come are the rest of the text
+-- (proofs/Underway.antt). The measure is how many draws are still to come.
+use mathlib.Core.Path.{◌≡◌, refl}
+use Prim.Native.Nat.{◌-◌}
+use native.Mathlib.Omega.{arith}
+use borrow.Author.Rules.{rules}
+use lib.ListN.{length}
+use Rattle.buffer.proofs.Theory.Writes.{same}
+use Rattle.draw_spec.specs.Draws.{draws}
+use Rattle.draw_spec.specs.Lines.{lines}
+use Rattle.draw_text.specs.Lines.{present}
+use Rattle.draw_text.proofs.Underway.{Underway, underway_end, underway_on, underway_room, underway_start}
+use Rattle.draw_text.proofs.put_draws.Given as goal
+
+abbrev pub invariant-loop-drawn : goal.invariant-loop-drawn
+invariant-loop-drawn l = Underway (lines (draws l.count l.initial.at.state (present l.initial.at l.initial.first l.initial.second))) l.count l.initial.text l.first l.second l.text l.at l.drawn × ((length l.first ≡ length l.initial.first) × (length l.second ≡ length l.initial.second))
+
+abbrev pub decreases-loop-drawn : goal.decreases-loop-drawn
+decreases-loop-drawn l = l.count - l.drawn
