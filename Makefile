@@ -18,18 +18,20 @@ SHARED = $(LIB)/libfikarehu.so.$(VERSION)
 # a folder of its own, so that a build of model/ without the library does not come here
 TOOL = target/tool/release/recipe
 
-# rt with the words $(1): a line for each crate as it is proved, and all that rt said if it fails; target/$(2).log has everything.
-prove = mkdir -p target && { rt $(1) 2>&1; echo "rt: status $$?"; } | { \
+# What rt's command $(1) makes of the crate $(2), the file $(3), kept in the folder $(4): a line for each crate as it is proved, and all that rt said if it fails; target/$(2).log has
+# everything. A program runs once, on nothing.
+make_of = mkdir -p target $(4) && { (cd crates/$(2) && rt $(1)) </dev/null 2>&1; printf '\nrt: status %s\n' $$?; } | { \
 	: >target/$(2).log; \
 	while IFS= read -r line; do \
 		case $$line in \
 		'rt: status 0') exit 0 ;; \
 		'rt: status '*) cat target/$(2).log >&2; exit 1 ;; \
-		'rt: '*' proved ('[0-9]*' s)') printf '%s\n' "$$line" >&2 ;; \
+		'crate '*': modules '*) crate=$${line%%:*} ;; \
+		'logic=proved '*) printf '%s is proved\n' "$$crate" >&2 ;; \
 		esac; \
 		printf '%s\n' "$$line" >>target/$(2).log; \
 	done; \
-	exit 1; }
+	exit 1; } && { cmp -s crates/$(2)/out/$(3) $(4)/$(3) || cp crates/$(2)/out/$(3) $(4)/$(3); }
 
 recipe_is_file = [ -f "$$RECIPE_FILE" ] || { printf 'make %s: %s is no file\n' $@ "$$RECIPE_FILE" >&2; exit 1; }
 
@@ -39,7 +41,7 @@ first_time = [ -e $(1) ] || echo "proving what $(1) needs: some minutes the firs
 run:
 	@$(recipe_is_file)
 	@$(call first_time,target/bin/recipe_image)
-	@$(call prove,check recipe_image,run)
+	@$(call make_of,run,recipe_image,recipe_image,target/bin)
 	@lines=$$(target/bin/recipe_image <"$$RECIPE_FILE") && printf '%s\n' "$$lines" && \
 	case $$lines in 'verdict 0'*) ;; *) exit 1 ;; esac
 
@@ -51,7 +53,7 @@ DRAWS = 20
 draws:
 	@$(recipe_is_file)
 	@$(call first_time,target/bin/test_load)
-	@$(call prove,check test_load,draws)
+	@$(call make_of,run,test_load,test_load,target/bin)
 	@byte() { printf "$$(printf '\\%03o' $$(($$1 & 255)))"; }; \
 	lines=$$({ for n in 0 8 16 24; do byte $$(($(SEED) >> n)); done; for n in 0 8; do byte $$(($(DRAWS) >> n)); done; cat "$$RECIPE_FILE"; } | target/bin/test_load) && \
 	{ [ -z "$$lines" ] || printf '%s\n' "$$lines"; } && case $$lines in verdict*) exit 1 ;; esac
@@ -59,7 +61,7 @@ draws:
 # Proves what the static library needs, and builds it.
 library:
 	@$(call first_time,$(STATIC))
-	@$(call prove,staticlib fikarehu,library)
+	@$(call make_of,lib,fikarehu,libfikarehu.a,target/staticlib)
 
 # The same as a shared library.
 shared: library
@@ -103,6 +105,6 @@ uninstall:
 rows:
 	@cargo run --release --offline --quiet --manifest-path model/Cargo.toml --bin write_rows crates/drawn_cases/specs
 
-# The gate, from nothing.
+# The gate.
 test:
 	.ci/run

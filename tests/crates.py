@@ -5,13 +5,20 @@ import os
 import re
 import sys
 
-KIT = {'io', 'libc', 'os', 'bytes', 'check'}
+# libraries of the kit that lines may list; std is there anyhow
+KIT = set()
+USE = re.compile(r'^(?:pub )?use (\w+)::(?:(\w+)|\{([^}]*)\});', re.M)
 
 
 def listed():
     """Each crate with what it depends on, in the order of the file."""
     lines = (line.split('#')[0].strip() for line in open('crates.txt', encoding='utf-8'))
-    return [(name, edges.split()) for name, edges in (line.split(':') for line in lines if line)]
+    return [(name.split()[0], edges.split()) for name, edges in (line.split(':') for line in lines if line)]
+
+
+def imported(text):
+    """What a file of code brings in, each name with its crate."""
+    return [(crate, name) for crate, one, group in USE.findall(text) for name in [one, *re.findall(r'\w+', group)] if name]
 
 
 def made_of(crate, name):
@@ -19,19 +26,19 @@ def made_of(crate, name):
     text = open(f'crates/{crate}/src/lib.rt', encoding='utf-8').read()
     struct = re.search(rf'pub struct {name} {{(.*?)}}', text, re.S)
     fields = set(re.findall(r': (\w+)', struct.group(1))) if struct else set()
-    return {other for other, kind in re.findall(r'^use (\w+)::(\w+);', text, re.M) if kind in fields}
+    return {other for other, kind in imported(text) if kind in fields}
 
 
 def needed(crate):
     """The crates that a crate's files name, and those that the types it uses are made of."""
     names = set()
     for path in glob.glob(f'crates/{crate}/**/*', recursive=True):
-        if path.endswith(('.antt', '.rt')):
+        if path.endswith(('.antt', '.rt')) and not path.startswith(f'crates/{crate}/out/'):
             text = open(path, encoding='utf-8').read()
-            names |= set(re.findall(r'Rattle·(\w+)', text))
+            names |= set(re.findall(r'\bRattle\.(\w+)', text))
             if path.endswith('.rt'):
                 names |= set(re.findall(r'\b(\w+)::', text))
-                for other, kind in re.findall(r'^use (\w+)::(\w+);', text, re.M):
+                for other, kind in imported(text):
                     names |= made_of(other, kind) if os.path.exists(f'crates/{other}') else set()
     return names - {crate}
 

@@ -89,17 +89,17 @@ class Sources:
     @staticmethod
     def parts(path):
         """The crate and the module that a path of a `use` line names; of a declared type, the type."""
-        match = re.match(r'Rattle·(\w+)(?:·specs)?\.specs\.(.*)$', path) or re.match(r'Rattle·(\w+)·specs\.specs\.(.*)$', path)
-        return match.groups() if match else None
+        match = re.match(r'Rattle\.(\w+)\.specs\.(.*)$', path)
+        return match.groups() if match and os.path.isdir(f'crates/{match.group(1)}') else None
 
 
 def declared(crate, name):
     """The lines of a type that the code declares."""
     for path in glob.glob(f'crates/{crate}/src/*.rt'):
         text = open(path, encoding='utf-8').read()
-        match = re.search(r'^(?:#\[repr\(C\)\]\n)?pub (?:struct|enum) %s \{.*?^\}' % name, text, re.M | re.S)
+        match = re.search(r'^(?:#\[[^\n]*\]\n)*pub (?:struct|enum) %s \{.*?^\}' % name, text, re.M | re.S)
         if match:
-            return match.group(0).split('\n')
+            return [line for line in match.group(0).split('\n') if not line.startswith('#[derive(')]
     sys.exit(f'{crate} declares no {name}')
 
 
@@ -160,7 +160,7 @@ class Closure:
     def follow(self, home, line):
         if line.strip().startswith('--'):
             return
-        for qualifier, name in re.findall(r"(?<![\w.])(\w+)\.([\w′-]+)", line):
+        for qualifier, name in re.findall(r"(?<![\w.])(\w+)\.([\w'-]+)", line):
             if qualifier in home.under:
                 self.bring((home.under[qualifier], name))
         for token in WORD.findall(line):
@@ -172,12 +172,12 @@ class Closure:
                 self.operator(home, token)
 
     def operator(self, home, token):
-        """A token that is a part of an operator's name, as ⊢ of _∣_∣_⊢_∶_."""
+        """A token that is a part of an operator's name, as ⊢ of ◌∣◌∣◌⊢◌∶◌."""
         for name in home.items:
-            if '_' in name and token in name.split('_'):
+            if '◌' in name and token in name.split('◌'):
                 self.reach(home.crate, home.name, name)
         for name, source in home.brings.items():
-            if '_' in name and token in name.split('_'):
+            if '◌' in name and token in name.split('◌'):
                 self.bring(source)
 
     def bring(self, source):
@@ -193,7 +193,7 @@ class Closure:
 
     def table(self):
         """Lines of the page: a row for each file, in the order of the crates, with the lines counted and the names."""
-        crates = [line.split(':')[0] for line in open('crates.txt', encoding='utf-8') if re.match(r'\w+:', line)]
+        crates = [line.split(':')[0].split()[0] for line in open('crates.txt', encoding='utf-8') if re.match(r'\w+[^:#]*:', line)]
         rows, total = [], 0
         for crate in crates:
             files = {}
@@ -228,7 +228,7 @@ class Closure:
 def known_names():
     """Every name that a file of the repository declares: items, constructors, fields, functions, types, crates, modules."""
     names = set()
-    for path in glob.glob('crates/**/*.antt', recursive=True):
+    for path in glob.glob('crates/*/specs/**/*.antt', recursive=True) + glob.glob('crates/*/proofs/**/*.antt', recursive=True):
         names.add(os.path.basename(path)[:-5])
         for line in open(path, encoding='utf-8'):
             match = re.match(r'\s*(?:abbrev |unfoldable )?(?:pub )?(?:data |record |mod )?([^=:]+?)(?: :|$)', line)
@@ -245,10 +245,10 @@ def check_names(page):
     names, bad = known_names(), []
     for quoted in re.findall(r'`([^`]+)`', page):
         if '/' in quoted or '*' in quoted or quoted.endswith(('.py', '.md', '.txt', '.h')):
-            if not glob.glob(quoted) and not glob.glob('crates/' + quoted) and not re.match(r'src/|specs/', quoted):
+            if not glob.glob(quoted) and not glob.glob('crates/' + quoted) and not re.match(r'src/|specs/|proofs/', quoted):
                 bad.append(quoted)
             continue
-        for word in re.findall(r"[A-Za-z][\w′-]*(?:-[\w′]+)*", quoted):
+        for word in re.findall(r"[A-Za-z][\w'-]*(?:-[\w']+)*", quoted):
             if word not in names and len(word) > 2:
                 bad.append(f'{quoted} ({word})')
                 break

@@ -186,8 +186,6 @@ impl Cause {
     pub const OTHER_SETTING: u8 = 20;
 
     pub const SHARE: u8 = 21;
-
-    pub const SIZE: u8 = 22;
 }
 
 pub fn byte_values() -> usize
@@ -292,7 +290,7 @@ pub fn rules() -> [u8; 9]
     ]
 }
 
-pub fn causes() -> [u8; 22]
+pub fn causes() -> [u8; 21]
     ensures { result ≡ causes }
 {
     [
@@ -317,6 +315,5 @@ pub fn causes() -> [u8; 22]
         Cause::STARTING,
         Cause::OTHER_SETTING,
         Cause::SHARE,
-        Cause::SIZE,
     ]
 }

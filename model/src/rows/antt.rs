@@ -59,14 +59,14 @@ fn argument(bytes: &[u8]) -> String {
 pub fn check_row(row: &CheckRow) -> String {
     let types = &row.answer.types[..row.answer.bays as usize];
     let (file, types) = (argument(&row.file), argument(types));
-    format!("check-row {file} {} {types}", row.answer.refusal)
+    format!("check_row {file} {} {types}", row.answer.refusal)
 }
 
 pub fn load_row(row: &LoadRow) -> String {
     let types = argument(&row.answer.types[..row.answer.bays as usize]);
     let (file, image) = (argument(&row.file), argument(&row.image));
     let (room, refusal) = (row.room, row.answer.refusal);
-    format!("load-row {file} {room} {refusal} {types} {image}")
+    format!("load_row {file} {room} {refusal} {types} {image}")
 }
 
 pub fn step_row(row: &StepRow) -> String {
@@ -78,7 +78,7 @@ pub fn step_row(row: &StepRow) -> String {
     };
     let (image, new) = (argument(&row.image), argument(&row.new));
     let (thread, room) = (row.thread, row.room);
-    format!("step-row {image} {thread} {room} {outcome} {new}")
+    format!("step_row {image} {thread} {room} {outcome} {new}")
 }
 
 /// The file with the shapes of rows.

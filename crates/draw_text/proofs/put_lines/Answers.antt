@@ -22,31 +22,31 @@ returns-then-text-lt-MAX_LENGTH c = let a = c.args in too_short max_text_length 
 
 pub overflow_cast-refusal : goal.overflow_cast-refusal
 overflow_cast-refusal c =
-    let loads : Loads c.args.input.now c.seed_of-seed.result (replicate max_image_length 0) c.load-loaded.result c.load-loaded.new.1.0 = let p = c.recipe_of.ensures in
+    let loads : Loads c.args.input.now c.seed_of-seed.result (replicate max_image_length 0) c.load-loaded.result c.load-loaded.new.out = let p = c.recipe_of.ensures in
     let is = c.load-loaded.ensures.value in
     let left = c.load-loaded.ensures.out_after in
     record {
       bytes = λ i. (c.shared_slice_known-1.given i).fits;
-      seed-is = c.seed_of-seed.ensures;
+      seed_is = c.seed_of-seed.ensures;
       answer = is ∙ ap (λ s. loaded_of common s (length {A = ℕ} (replicate max_image_length 0))) p;
       left = left ∙ ap (λ s. out_after_load common s (replicate max_image_length 0)) p;
       long = omega arith;
-      kept = c.load-loaded.auto.FIXME;
+      kept = c.load-loaded.auto.out;
     } in
     record { fits = omega (arith, c.refusal_of-refusal.ensures, refusal_small loads) }
 
 pub returns-then-refusal-ne0 : goal.returns-then-refusal-ne0
 returns-then-refusal-ne0 c =
-    let loads : Loads c.args.input.now c.seed_of-seed.result (replicate max_image_length 0) c.load-loaded.result c.load-loaded.new.1.0 = let p = c.recipe_of.ensures in
+    let loads : Loads c.args.input.now c.seed_of-seed.result (replicate max_image_length 0) c.load-loaded.result c.load-loaded.new.out = let p = c.recipe_of.ensures in
     let is = c.load-loaded.ensures.value in
     let left = c.load-loaded.ensures.out_after in
     record {
       bytes = λ i. (c.shared_slice_known-1.given i).fits;
-      seed-is = c.seed_of-seed.ensures;
+      seed_is = c.seed_of-seed.ensures;
       answer = is ∙ ap (λ s. loaded_of common s (length {A = ℕ} (replicate max_image_length 0))) p;
       left = left ∙ ap (λ s. out_after_load common s (replicate max_image_length 0)) p;
       long = omega arith;
-      kept = c.load-loaded.auto.FIXME;
+      kept = c.load-loaded.auto.out;
     } in
     let a = c.args in
     let is = c.refusal_of-refusal.ensures ∙ refusal_is loads in
@@ -55,64 +55,64 @@ returns-then-refusal-ne0 c =
 
 pub slice_bounds-first-end : goal.slice_bounds-first-end
 slice_bounds-first-end c =
-    let loads : Loads c.args.input.now c.seed_of-seed.result (replicate max_image_length 0) c.load-loaded.result c.load-loaded.new.1.0 = let p = c.recipe_of.ensures in
+    let loads : Loads c.args.input.now c.seed_of-seed.result (replicate max_image_length 0) c.load-loaded.result c.load-loaded.new.out = let p = c.recipe_of.ensures in
     let is = c.load-loaded.ensures.value in
     let left = c.load-loaded.ensures.out_after in
     record {
       bytes = λ i. (c.shared_slice_known-1.given i).fits;
-      seed-is = c.seed_of-seed.ensures;
+      seed_is = c.seed_of-seed.ensures;
       answer = is ∙ ap (λ s. loaded_of common s (length {A = ℕ} (replicate max_image_length 0))) p;
       left = left ∙ ap (λ s. out_after_load common s (replicate max_image_length 0)) p;
       long = omega arith;
-      kept = c.load-loaded.auto.FIXME;
+      kept = c.load-loaded.auto.out;
     } in
     let drawable : refusal_of c.load-loaded.result.refusal c.seed_of-seed.result ≡ 0 = omega (arith, c.refusal_of-refusal.ensures, c.if-refusal-ne0.false) in
     loaded_inside loads drawable
 
 pub slice_bounds-count_nodes-end : goal.slice_bounds-count_nodes-end
 slice_bounds-count_nodes-end c =
-    let loads : Loads c.args.input.now c.seed_of-seed.result (replicate max_image_length 0) c.load-loaded.result c.load-loaded.new.1.0 = let p = c.recipe_of.ensures in
+    let loads : Loads c.args.input.now c.seed_of-seed.result (replicate max_image_length 0) c.load-loaded.result c.load-loaded.new.out = let p = c.recipe_of.ensures in
     let is = c.load-loaded.ensures.value in
     let left = c.load-loaded.ensures.out_after in
     record {
       bytes = λ i. (c.shared_slice_known-1.given i).fits;
-      seed-is = c.seed_of-seed.ensures;
+      seed_is = c.seed_of-seed.ensures;
       answer = is ∙ ap (λ s. loaded_of common s (length {A = ℕ} (replicate max_image_length 0))) p;
       left = left ∙ ap (λ s. out_after_load common s (replicate max_image_length 0)) p;
       long = omega arith;
-      kept = c.load-loaded.auto.FIXME;
+      kept = c.load-loaded.auto.out;
     } in
     let drawable : refusal_of c.load-loaded.result.refusal c.seed_of-seed.result ≡ 0 = omega (arith, c.refusal_of-refusal.ensures, c.if-refusal-ne0.false) in
-    sym (length-take-le c.load-loaded.result.length c.load-loaded.last.1.0 (loaded_inside loads drawable))
+    sym (length-take-le c.load-loaded.result.length c.load-loaded.new.out (loaded_inside loads drawable))
 
 pub count_nodes-nodes-requires : goal.count_nodes-nodes-requires
 count_nodes-nodes-requires c =
-    let loads : Loads c.args.input.now c.seed_of-seed.result (replicate max_image_length 0) c.load-loaded.result c.load-loaded.new.1.0 = let p = c.recipe_of.ensures in
+    let loads : Loads c.args.input.now c.seed_of-seed.result (replicate max_image_length 0) c.load-loaded.result c.load-loaded.new.out = let p = c.recipe_of.ensures in
     let is = c.load-loaded.ensures.value in
     let left = c.load-loaded.ensures.out_after in
     record {
       bytes = λ i. (c.shared_slice_known-1.given i).fits;
-      seed-is = c.seed_of-seed.ensures;
+      seed_is = c.seed_of-seed.ensures;
       answer = is ∙ ap (λ s. loaded_of common s (length {A = ℕ} (replicate max_image_length 0))) p;
       left = left ∙ ap (λ s. out_after_load common s (replicate max_image_length 0)) p;
       long = omega arith;
-      kept = c.load-loaded.auto.FIXME;
+      kept = c.load-loaded.auto.out;
     } in
     let drawable : refusal_of c.load-loaded.result.refusal c.seed_of-seed.result ≡ 0 = omega (arith, c.refusal_of-refusal.ensures, c.if-refusal-ne0.false) in
     loaded_stands loads drawable
 
 pub put_draws-requires : goal.put_draws-requires
 put_draws-requires c =
-    let loads : Loads c.args.input.now c.seed_of-seed.result (replicate max_image_length 0) c.load-loaded.result c.load-loaded.new.1.0 = let p = c.recipe_of.ensures in
+    let loads : Loads c.args.input.now c.seed_of-seed.result (replicate max_image_length 0) c.load-loaded.result c.load-loaded.new.out = let p = c.recipe_of.ensures in
     let is = c.load-loaded.ensures.value in
     let left = c.load-loaded.ensures.out_after in
     record {
       bytes = λ i. (c.shared_slice_known-1.given i).fits;
-      seed-is = c.seed_of-seed.ensures;
+      seed_is = c.seed_of-seed.ensures;
       answer = is ∙ ap (λ s. loaded_of common s (length {A = ℕ} (replicate max_image_length 0))) p;
       left = left ∙ ap (λ s. out_after_load common s (replicate max_image_length 0)) p;
       long = omega arith;
-      kept = c.load-loaded.auto.FIXME;
+      kept = c.load-loaded.auto.out;
     } in
     let drawable : refusal_of c.load-loaded.result.refusal c.seed_of-seed.result ≡ 0 = omega (arith, c.refusal_of-refusal.ensures, c.if-refusal-ne0.false) in (
       loaded_starts loads drawable c.count_nodes-nodes.ensures (omega arith),
@@ -121,16 +121,16 @@ put_draws-requires c =
 
 pub returns : goal.returns
 returns c =
-    let loads : Loads c.args.input.now c.seed_of-seed.result (replicate max_image_length 0) c.load-loaded.result c.load-loaded.new.1.0 = let p = c.recipe_of.ensures in
+    let loads : Loads c.args.input.now c.seed_of-seed.result (replicate max_image_length 0) c.load-loaded.result c.load-loaded.new.out = let p = c.recipe_of.ensures in
     let is = c.load-loaded.ensures.value in
     let left = c.load-loaded.ensures.out_after in
     record {
       bytes = λ i. (c.shared_slice_known-1.given i).fits;
-      seed-is = c.seed_of-seed.ensures;
+      seed_is = c.seed_of-seed.ensures;
       answer = is ∙ ap (λ s. loaded_of common s (length {A = ℕ} (replicate max_image_length 0))) p;
       left = left ∙ ap (λ s. out_after_load common s (replicate max_image_length 0)) p;
       long = omega arith;
-      kept = c.load-loaded.auto.FIXME;
+      kept = c.load-loaded.auto.out;
     } in
     let drawable : refusal_of c.load-loaded.result.refusal c.seed_of-seed.result ≡ 0 = omega (arith, c.refusal_of-refusal.ensures, c.if-refusal-ne0.false) in
     let a = c.args in

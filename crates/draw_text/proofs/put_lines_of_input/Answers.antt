@@ -13,8 +13,8 @@ slice_bounds-put_lines-end c = sym (length-take-le c.args.read c.args.buffer.now
 
 pub returns : goal.returns
 returns c =
-    let (puts_input, upper_bound) = let a = c.args in (
-      λ input read. put_as (ap text_of read ∙ text_of_longer input (length a.buffer.now) c.requires.0) c.put_lines.ensures,
-      inside max_text_length (text_of (take a.read a.buffer.now)) a.text.now c.put_lines.ensures,
-    ) in
-    record { puts_input = puts_input; upper_bound = upper_bound }
+    let a = c.args in
+    record {
+      puts_input = λ input read. put_as (ap text_of read ∙ text_of_longer input (length a.buffer.now) c.requires.0) c.put_lines.ensures;
+      upper_bound = inside max_text_length (text_of (take a.read a.buffer.now)) a.text.now c.put_lines.ensures;
+    }

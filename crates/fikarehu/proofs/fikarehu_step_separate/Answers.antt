@@ -1,0 +1,20 @@
+use mathlib.Core.Path.{◌∙◌, ap, subst⁻¹}
+use borrow.Author.Rules.{rules}
+use Rattle.calculus.specs.Profile.{separate}
+use Rattle.step_spec.specs.Waiting.{NameSmall}
+use Rattle.step_spec.proofs.Theory.Waiting.{waiting_small}
+use Rattle.fikarehu.specs.Numbers.{step_numbers}
+use Rattle.fikarehu.proofs.fikarehu_step_separate.Goals as goal
+
+pub step_numbers-requires : goal.step_numbers-requires
+step_numbers-requires c =
+    let a = c.args in
+    subst⁻¹ NameSmall c.step.ensures.value (waiting_small separate a.image.now a.thread a.out.now)
+
+pub returns : goal.returns
+returns c =
+    let s = c.step.ensures in
+    record {
+      value = c.step_numbers.ensures ∙ ap step_numbers s.value;
+      out_after = s.out_after;
+    }
