@@ -411,6 +411,7 @@ module _ {τ : TypeNumbers} {S : List LinType} {C : Config} (s : Sound τ S C) w
 
   list_ends : {v : Exp} {κ : Multiplicity} {α : LinType} → Value v → Derivation τ S [] v (list_type κ α) → EndsInFuture C v
   list_ends (is_name {k = k}) (d_name n t) = is_future (future_of k t)
+  list_ends is_lam d = elim d [ ]
   list_ends is_const (d_const n (of_op p f)) = elim f [ ]
   list_ends (is_exch w) (d_app split_nil (d_const n (of_op p f)) d) = elim f [ ]
   list_ends (is_both w w') (d_both p (fig10_list h) split_nil d d') = is_front (list_ends w' d')
