@@ -8,7 +8,8 @@ use Rattle.calculus.specs.Image.{nodes, size}
 use Rattle.calculus.specs.Names.{uses}
 use Rattle.calculus.specs.Reduction.{substitute, substitute_both}
 use Rattle.calculus.specs.Syntax.{Exp}
-use Rattle.calculus.proofs.Theory.Weights.{closed_unused, nodes_weight, size_weight, weigh_both, weigh_substitute}
+use Rattle.calculus.proofs.Theory.Weights.{closed_unused, nodes_weight, size_weight, weigh_substitute}
+use Rattle.calculus.proofs.Theory.WeightsOfTwo.{weigh_both}
 use Rattle.term.specs.Expressions.{term_at}
 use Rattle.term.proofs.Sizes.{length_bytes}
 use Rattle.term_redex.specs.declared.Meeting.{Meeting}

@@ -8,9 +8,9 @@ use Rattle.calculus.specs.Profile.{Profile}
 use Rattle.calculus.proofs.Theory.ConfigRuns.{ConfigCall, state_after, ConfigStep, config_steps, ConfigDemand}
 use Rattle.calculus.specs.Table.{Table, TableRule, type_at}
 use Rattle.calculus.specs.Verdict.{type_number, verdict}
-use Rattle.calculus.specs.Recipe.{with_type, bay_types, start, Admitted}
+use Rattle.calculus.specs.Recipe.{with_type, bay_types, start, Bays, no_bay, bay, BaysTyped, Admitted}
 use Rattle.calculus.proofs.Theory.Images.{Kept}
-use Rattle.calculus.proofs.Theory.Recipes.{Bays, no_bay, bay, BaysTyped, recipe_loaded, recipe_images, recipe_demand}
+use Rattle.calculus.proofs.Theory.Recipes.{recipe_loaded, recipe_images, recipe_demand}
 use Rattle.calculus.proofs.Theory.Verdict.{accepted_iff, verdict_iff}
 
 -- terms whose numbers have types with derivations have the types computed

@@ -13,7 +13,7 @@ use Rattle.calculus.specs.Names.{OnceName}
 use Rattle.calculus.specs.Owners.{OwnersRule}
 use Rattle.calculus.specs.Profile.{Profile}
 use Rattle.calculus.proofs.Theory.ConfigRuns.{ConfigCall, state_after, ConfigStep, config_steps, ConfigDemand}
-use Rattle.calculus.specs.Recipe.{setting_types, setting_with, loaded, Starts}
+use Rattle.calculus.specs.Recipe.{setting_types, setting_with, loaded, Starts, Bays, no_bay, bay, BaysTyped}
 use Rattle.calculus.specs.Limits.{max_bays, max_recipe_nodes}
 use Rattle.calculus.specs.Image.{nodes, nodes_all, WithinLimits, Writable}
 use Rattle.calculus.proofs.Theory.Tests.{clash}
@@ -25,15 +25,6 @@ use Rattle.calculus.proofs.Theory.Runs.{SoundState, run_demand}
 use Rattle.calculus.proofs.Theory.Each.{each_append}
 use Rattle.calculus.proofs.Theory.Owners.{first_owners_rule}
 use Rattle.calculus.proofs.Theory.Images.{Good, Kept, good_image, run_images}
-
--- the terms es have the types αs, each of multiplicity many, names being typed by Σ
-pub data Bays (τ : TypeNumbers) (Σ : NameTypes) : List Exp → List LinType → Type 0 where
-  no_bay : Bays τ Σ [] []
-  bay : {e : Exp} {α : LinType} {es : List Exp} {αs : List LinType} → Derivation τ Σ [] e α → multiplicity α ≡ many → Bays τ Σ es αs → Bays τ Σ (e ∷ es) (α ∷ αs)
-
--- what Fig. 9 asks of a recipe: the terms have types where the names are the settings
-abbrev pub BaysTyped : TypeNumbers → List Exp → List LinType → Type 0
-BaysTyped τ es αs = Bays τ (setting_types (length es)) es αs
 
 bays_length : {τ : TypeNumbers} {Σ : NameTypes} {es : List Exp} {αs : List LinType} → Bays τ Σ es αs → length αs ≡ length es
 bays_length no_bay = refl

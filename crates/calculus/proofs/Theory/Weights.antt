@@ -5,7 +5,7 @@ use Prim.Native.Nat.{◌*◌, ◌+◌, ◌≤◌, suc, ℕ}
 use Rattle.std.proofs.Common.{mul-le-mul}
 use native.Mathlib.Omega.{arith}
 use Rattle.calculus.specs.Syntax.{Exp, Shape, var, name, const, lam, app, both, case_of}
-use Rattle.calculus.specs.Reduction.{substitute, substitute_both}
+use Rattle.calculus.specs.Reduction.{substitute}
 use Rattle.calculus.specs.Names.{uses}
 use Rattle.calculus.specs.Image.{Closed, closed_var, closed_name, closed_const, closed_lam, closed_app, closed_both, closed_case, nodes, size}
 use Rattle.calculus.proofs.Theory.Tests.{eqb_sound, eqb_differ}
@@ -119,14 +119,6 @@ module _ {w : Exp → ℕ} {variable : ℕ} (W : Weight w variable) where
       let p = weigh_substitute depth v e₁ in
       let q = weigh_substitute d v e₂ in
       omega (arith, W.in_case s e₁ e₂, W.in_case s (substitute depth v e₁) (substitute d v e₂), p, q)
-
-  -- the two of a case
-  pub weigh_both : {v₁ : Exp} → Closed 0 v₁ → (v₂ e : Exp) →
-      w (substitute_both v₁ v₂ e) + (uses 0 e + uses 1 e) * variable ≡ w e + (uses 0 e * w v₂ + uses 1 e * w v₁)
-  weigh_both {v₁} c v₂ e =
-      let u : uses 0 (substitute 1 v₁ e) ≡ uses 0 e = uses_substitute 0 1 (λ q. omega arith) c e in
-      let p : w (substitute_both v₁ v₂ e) + uses 0 e * variable ≡ w (substitute 1 v₁ e) + uses 0 e * w v₂ = rw u at (weigh_substitute 0 v₂ (substitute 1 v₁ e)) in
-      omega (arith, p, weigh_substitute 1 v₁ e)
 
   -- the places of two variables weigh no more than the whole
   pub places_weigh : (d : ℕ) (e : Exp) → (uses d e + uses (suc d) e) * variable ≤ w e

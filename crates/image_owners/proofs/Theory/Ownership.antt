@@ -9,7 +9,7 @@ use Rattle.calculus.specs.Bytes.{Bytes}
 use Rattle.calculus.specs.Causes.{buffer_cause, image_cause}
 use Rattle.calculus.specs.Kinds.{open_handle_kind}
 use Rattle.calculus.specs.Limits.{max_bays, max_image_length}
-use Rattle.calculus.specs.Syntax.{Component, open_for, Config, at, EachAll}
+use Rattle.calculus.specs.Syntax.{open_for, Config, at, EachAll}
 use Rattle.calculus.specs.Owners.{Owned, owner, grown, OwnersRule}
 use Rattle.calculus.specs.Reduction.{Rule as RuleName, Reduces}
 use Rattle.calculus.specs.Image.{ImageRule, Writable}
@@ -28,8 +28,8 @@ use Rattle.check_spec.specs.Verdict.{refusal}
 use Rattle.check_spec.proofs.Theory.Accepted.{admitted}
 use Rattle.image_layout.specs.Slice.{names, kind_at, companion_at, owner_at}
 use Rattle.image_layout.proofs.Theory.Slice.{owner_of_other}
-use Rattle.image.specs.Configuration.{encode, image_of}
-use Rattle.image.proofs.Theory.Exactly.{companion_written, names_are, one_image, owner_again, read_again}
+use Rattle.image.specs.Configuration.{image_of}
+use Rattle.image.proofs.Theory.Exactly.{names_are, one_image, owner_again, read_again}
 use Rattle.load_spec.specs.Starting.{starting_image, starting_state}
 use Rattle.load_spec.specs.Loading.{load_refusal, loaded_of}
 use Rattle.load_spec.proofs.Theory.Answers.{load_refusal_is}
@@ -41,29 +41,11 @@ use Rattle.step_spec.proofs.Theory.Replies.{Told, tells}
 use Rattle.runs.specs.Run.{Call, Step, left, image_loaded, steps_of}
 use Rattle.runs.proofs.Theory.Steps.{call_of, leaves_image}
 use Rattle.runs.proofs.Theory.Simulates.{Simulates, same, simulates}
-use Rattle.demands.specs.Demands.{ImageOf}
 use Rattle.demands.proofs.Theory.First.{first_demand}
 use Rattle.demands.proofs.Theory.Second.{kept_image, second_demand}
 use Rattle.demands.proofs.Theory.Third.{all_kept, loaded_accepted, loaded_image_is, third_demand}
 use Rattle.image_owners.specs.Ownership.{KeepsOwners, OwnedBy, Ownership, SaysOwners}
-
--- ---- an image
-
--- the component of a name
-there : (I : Owned) (k : ℕ) → k < names (image_of I) → (c : Component) × (at I.config k ≡ some c)
-there I k l = at_below I.config k (omega (arith, names_are I))
-
-says_owners : (I : Owned) → Kept max_bays I → SaysOwners (image_of I) I
-unfolding encode
-says_owners I k = record {
-  own_byte = λ x l n. sym (owner_of_other (image_of I) x n) ∙ told x l;
-  future_byte = λ z y h. (companion_written I z h, companion_written I y (k.keeps.companions z y h) ∙ sym (k.owns.handles z y h));
-  told = told;
-  each_has = names_are I ∙ sym k.owns.sizes;
-}
-  where
-    told : (x : ℕ) → x < names (image_of I) → owner_at (image_of I) x ≡ owner I.owners x
-    told x l = let (c, h) = there I x l in owner_again I k.owns k.keeps.companions x c h
+use Rattle.image_owners.proofs.Theory.Sixteen.{says_owners, sixteen}
 
 -- ---- a step by a rule
 
@@ -113,17 +95,6 @@ steps p s b x out rule size e =
     subst (KeepsOwners s x) (sym is) (subst (λ (t : List ℕ). KeepsOwners t x (image_of J)) (sym io.bytes) (keeps_owners I (kept_image io) x C' d))
 
 -- ---- 13
-
-sixteen : (p : Profile) (s : List ℕ) → Bytes s → (x : ℕ) (out : List ℕ) → max_image_length ≤ length out → (k : ℕ) → k < names s → ¬ (kind_at s k ≡ open_handle_kind) →
-    max_bays ≤ companion_at s k → outcome_of p s x out ≡ Refused image_cause
-sixteen p s b x out long k l n m = ((second_demand p).step s b x out).thirteen.1 (long, λ I io. no I io)
-  where
-    no : (I : Owned) → ¬ ImageOf s I
-    no I io =
-        let l' : k < names (image_of I) = rw io.bytes at l in
-        let n' : ¬ (kind_at (image_of I) k ≡ open_handle_kind) = rw io.bytes at n in
-        let m' : max_bays ≤ companion_at (image_of I) k = rw io.bytes at m in
-        omega (arith, m', (says_owners I (kept_image io)).own_byte k l' n', io.owners.below k (omega (arith, l', names_are I)))
 
 any_owners : (p : Profile) (I : Owned) → ImageRule I.config → EachAll Writable I.config → OwnersRule max_bays I → (x : ℕ) (out : List ℕ) → ¬ (outcome_of p (image_of I) x out ≡ Refused image_cause)
 unfolding outcome_of

@@ -12,7 +12,8 @@ use Rattle.calculus.specs.Reduction.{Context, plug, Has, put, Rule, number, Redu
 use Rattle.calculus.specs.Names.{uses}
 use Rattle.calculus.specs.Image.{Closed, nodes, nodes_all, WithinLimits}
 use Rattle.calculus.proofs.Theory.Tests.{clash}
-use Rattle.calculus.proofs.Theory.Weights.{Weight, nodes_weight, size_weight, weigh_both, weigh_substitute}
+use Rattle.calculus.proofs.Theory.Weights.{Weight, nodes_weight, size_weight, weigh_substitute}
+use Rattle.calculus.proofs.Theory.WeightsOfTwo.{weigh_both}
 use Rattle.term.specs.Expressions.{bytes}
 use Rattle.term.proofs.Sizes.{length_bytes}
 use Rattle.term_redex.proofs.Contexts.{closed_components, closed_subject, plug_closed, put_nodes}
