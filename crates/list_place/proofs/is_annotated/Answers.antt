@@ -1,5 +1,4 @@
 -- `list_place::is_annotated` meets its contract (proofs/Asking.antt).
-use borrow.Author.Rules.{rules}
 use Rattle.list_place.proofs.Asking.{annotated_constant, annotated_high, annotated_low}
 use Rattle.list_place.proofs.is_annotated.Goals as goal
 

@@ -1,10 +1,6 @@
 -- `list_place::is_met` meets its contract: one application after the other (proofs/Meeting.antt).
-use mathlib.Core.Path.{◌≡◌, sym, ◌∙◌}
-use native.Mathlib.Omega.{arith}
-use borrow.Author.Rules.{rules}
-use borrow.Author.Tests.{not-false, not-true}
 use Rattle.recipe_table.specs.Entries.{table_of}
-use Rattle.list_place.proofs.Meeting.{Asked, asked_any, asked_first, asked_is, asked_next, asked_none}
+use Rattle.list_place.proofs.Meeting.{Asked}
 use Rattle.list_place.proofs.is_met.Given as goal
 
 abbrev pub invariant-loop-open : goal.invariant-loop-open

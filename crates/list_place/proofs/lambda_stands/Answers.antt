@@ -1,7 +1,5 @@
 -- `list_place::lambda_stands` meets its contract (proofs/Asking.antt).
-use borrow.Author.Rules.{rules}
 use mathlib.Core.Path.{sym, ◌∙◌}
-use borrow.Author.Tests.{not-false, not-true}
 use Rattle.list_place.proofs.Asking.{lambda_fails, lambda_unmet, lambda_used}
 use Rattle.list_place.proofs.lambda_stands.Goals as goal
 

@@ -1,7 +1,6 @@
 -- `list_place::leaf_stands` meets its contract (proofs/Asking.antt).
 use borrow.Author.Rules.{rules}
 use mathlib.Core.Path.{sym, ◌∙◌}
-use borrow.Author.Tests.{not-false, not-true}
 use Rattle.list_place.proofs.Asking.{bound_variable, stands_met, stands_out, stands_plain}
 use Rattle.list_place.proofs.leaf_stands.Goals as goal
 

@@ -1,7 +1,6 @@
 -- `list_place::leaf_type` meets its contract: a law for the tags of each return.
 use Prim.Native.Nat.{◌<◌}
 use native.Mathlib.Omega.{arith}
-use borrow.Author.Rules.{rules}
 use Rattle.check_types.proofs.Leaves.{low_number, name_number, num_number, op_number, variable_number}
 use Rattle.list_place.proofs.leaf_type.Goals as goal
 

@@ -1,8 +1,6 @@
 -- `list_place::may_stand` meets its contract: a law for each tag (proofs/Asking.antt).
-use borrow.Author.Rules.{rules}
 use mathlib.Core.Path.{sym, ◌∙◌}
 use native.Mathlib.Omega.{arith}
-use borrow.Author.Tests.{not-false, not-true}
 use Rattle.term.specs.Tree.{HasForm}
 use Rattle.list_place.specs.Candidates.{tag_in}
 use Rattle.list_place.proofs.Asking.{leaf_form, may_apply, may_lambda, may_leaf, may_no_lambda, may_no_leaf, may_not_apply}

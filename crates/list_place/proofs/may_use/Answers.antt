@@ -1,7 +1,5 @@
 -- `list_place::may_use` meets its contract (proofs/Asking.antt).
-use borrow.Author.Rules.{rules}
 use mathlib.Core.Path.{sym, ◌∙◌}
-use borrow.Author.Tests.{not-false, not-true}
 use Rattle.list_place.proofs.Asking.{uses_function, uses_long, uses_many, uses_no_function, uses_same, uses_short}
 use Rattle.list_place.proofs.may_use.Goals as goal
 
