@@ -4,6 +4,7 @@ use Rattle.std.proofs.Common.{arith}
 use Rattle.calculus.proofs.Theory.Tests.{ltb_sound, ltb_false}
 use Rattle.list_spec.specs.Order.{Before, shorter, lower, same, Bound, free, above, After, Passed, behind, on, pass, passed}
 
+-- what comes before another is not the other
 not_equal : {l m : List ℕ} → Before l m → l ≡ m → ⊥
 not_equal shorter e = cc
 not_equal (lower {x = x} {y = y} h) e = let z : x ≡ y = cc in omega arith
@@ -59,6 +60,7 @@ pub lower_before : {p q : List ℕ} (u v : List ℕ) → Lower p q → Before (p
 lower_before u v (lower_here h) = lower h
 lower_before u v (lower_behind b) = same (lower_before u v b)
 
+-- what is left behind a byte that both begin with
 behind_equal : {x y : ℕ} {l m : List ℕ} → Before (x ∷ l) (y ∷ m) → x ≡ y → Before l m
 behind_equal (lower h) e = absurd (omega arith)
 behind_equal (same b) e = b
