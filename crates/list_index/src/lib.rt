@@ -1,4 +1,6 @@
 // What is found out once of a table, so that a search passes over what cannot stand.
+#![tactic(auto)]
+
 use numbers::Byte;
 
 // How many constants there are with a type: four tags, and behind each a number.

@@ -1,5 +1,5 @@
 -- What stands so far of a term, in 18 bytes with zeros behind it, and what it still has to come after.
-use Rattle.std.specs.Prelude.{◌≡◌, Bool, cond, false, true, List, ◌++◌, ◌+◌, ◌≤◌, ℕ, drop, length, take}
+use Rattle.std.specs.Prelude.{◌≡◌, Bool, cond, List, ◌++◌, ◌+◌, ◌≤◌, ℕ, drop, take}
 use Rattle.calculus.specs.Limits.{max_term_length}
 use Rattle.term.specs.Forms.{operand_of}
 use Rattle.list_spec.specs.Order.{above, behind, Bound, free, on, Passed}

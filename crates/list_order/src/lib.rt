@@ -1,4 +1,6 @@
 // The order of terms in bytes: whether what stands so far comes after the bytes given, and the bytes of a node put behind it.
+#![tactic(auto)]
+
 ghost use Rattle.std.specs.Prelude.{◌≡◌, [], ◌∷◌, ◌+◌, ◌<◌, ◌≤◌};
 ghost use Rattle.calculus.specs.Limits.{max_term_length};
 ghost use Rattle.list_spec.specs.Order.{passed};

@@ -1,19 +1,19 @@
 -- Whether the node of a code may stand, test by test, as the code asks.
-use mathlib.Core.Path.{◌≡◌, ap, refl, sym, subst, ◌∙◌}
+use mathlib.Core.Path.{◌≡◌, refl, sym, subst, ◌∙◌}
 use mathlib.Core.Bool.{Bool, ◌&&◌, ◌||◌, cond, false, true, false≢true}
 use mathlib.Core.Option.{Option, none, some}
-use mathlib.Core.List.{List, [], ◌∷◌}
-use Prim.Native.Nat.{◌*◌, ◌+◌, ◌-◌, ◌<◌, ◌≤◌, suc, zero, ℕ}
+use mathlib.Core.List.{List}
+use Prim.Native.Nat.{◌*◌, ◌+◌, ◌-◌, ◌<◌, ◌≤◌, suc, ℕ}
 use native.Mathlib.Omega.{arith}
 use lib.Dec.{eqb, leb, ltb}
 use lib.ListN.{get_or, length}
 use Rattle.calculus.specs.Limits.{byte_values}
-use Rattle.calculus.specs.Syntax.{at, cell, const, exch, handle, op, Op, thread}
+use Rattle.calculus.specs.Syntax.{cell, exch, handle, op, Op, thread}
 use Rattle.calculus.specs.Table.{is_many, Table}
 use Rattle.calculus.specs.Verdict.{annotated, annotated_const, is_function_kind, on_function}
 use Rattle.calculus.proofs.Theory.Lists.{at_bound}
 use Rattle.calculus.proofs.Theory.Tests.{and_true, eqb_complete, eqb_differ, eqb_sound, leb_complete, leb_sound, ltb_complete, ltb_false, ltb_not, ltb_sound}
-use Rattle.term.specs.Forms.{application_tag, cell_tag, form_of, forms, handle_tag, lambda_tag, name_tag, num_tag, subterms_of, tags, unit_tag, variable_tag}
+use Rattle.term.specs.Forms.{application_tag, cell_tag, form_of, forms, handle_tag, lambda_tag, name_tag, subterms_of, variable_tag}
 use Rattle.term.specs.Tree.{HasForm}
 use Rattle.term.specs.Expressions.{leaf_exp, leaf_forms}
 use Rattle.term.proofs.Shapes.{leaf_tag}
@@ -23,10 +23,10 @@ use Rattle.recipe_table.specs.Filled.{as_entry}
 use Rattle.check_types.specs.Entries.{entry_of}
 use Rattle.check_types.specs.Walk.{environment, HasNumber}
 use Rattle.check_types.proofs.Entries.{on_function_is}
-use Rattle.list_spec.specs.Goals.{bounds, Goal, goal, may_use, meets, state, State}
+use Rattle.list_spec.specs.Goals.{bounds, Goal, goal, may_use, meets, State}
 use Rattle.check_linearity.proofs.Theory.Lambdas.{on_function_parts}
 use Rattle.list_place.specs.Places.{want_of}
-use Rattle.list_place.specs.Candidates.{Annotated, arg_in, candidate, codes, has, lambda_stands, leaf_bound, leaf_room, LeafStands, MayStand, tag_in}
+use Rattle.list_place.specs.Candidates.{Annotated, arg_in, candidate, has, lambda_stands, leaf_bound, leaf_room, LeafStands, MayStand, tag_in}
 use Rattle.list_place.proofs.Standing.{application_once, application_there, lambda_met, lambda_no_function, lambda_not_met, leaf_met, leaf_no_room, leaf_not_annotated, leaf_not_met, length_environment, not_tried}
 
 pub leb_not : (m n : ℕ) → n < m → leb m n ≡ false

@@ -1,8 +1,8 @@
 -- The terms to come in arrays: a store behind them, and the arguments of a function put behind them.
-use mathlib.Core.Path.{◌≡◌, ap, ap₂, refl, sym, subst, ◌∙◌}
-use mathlib.Core.Bool.{Bool, ◌&&◌, cond, false, true}
-use mathlib.Core.Option.{Option, none, some}
-use mathlib.Core.List.{List, [], ◌∷◌}
+use mathlib.Core.Path.{◌≡◌, ap₂, refl, sym, ◌∙◌}
+use mathlib.Core.Bool.{Bool, false, true}
+use mathlib.Core.Option.{Option, some}
+use mathlib.Core.List.{List, ◌∷◌}
 use Prim.Native.Nat.{◌+◌, ◌-◌, ◌<◌, ◌≤◌, suc, zero, ℕ}
 use native.Mathlib.Omega.{arith}
 use lib.Dec.{ltb}
@@ -10,7 +10,6 @@ use lib.ListN.{get_or, length, length-set, set}
 use lib.Seq.{get_or-set_other, get_or-set_same}
 use Rattle.calculus.specs.Limits.{byte_values}
 use Rattle.calculus.specs.Syntax.{at}
-use Rattle.calculus.specs.Table as calculus
 use Rattle.calculus.specs.Table.{Table}
 use Rattle.calculus.specs.Verdict.{is_function_kind}
 use Rattle.calculus.proofs.Theory.Tests.{and_parts, eqb_differ, ltb_false, ltb_sound}

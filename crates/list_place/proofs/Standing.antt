@@ -1,21 +1,19 @@
 -- The node of a code: whether it may stand, and what is to come behind it, by its tag.
-use mathlib.Core.Path.{◌≡◌, ap, refl, sym, subst, ◌∙◌}
-use mathlib.Core.Bool.{Bool, ◌&&◌, ◌||◌, cond, false, true}
+use mathlib.Core.Path.{◌≡◌, ap, refl, ◌∙◌}
+use mathlib.Core.Bool.{Bool, ◌&&◌, cond, false, true}
 use mathlib.Core.Option.{Option, none, some}
-use mathlib.Core.List.{List, [], ◌∷◌}
+use mathlib.Core.List.{List, ◌∷◌}
 use Prim.Native.Nat.{◌+◌, ◌-◌, ◌<◌, ◌≤◌, suc, zero, ℕ}
 use native.Mathlib.Omega.{arith}
-use lib.Dec.{eqb, leb, ltb}
+use lib.Dec.{ltb}
 use lib.ListN.{get_or, length}
-use Rattle.calculus.specs.Kinds.{unit_entry}
-use Rattle.calculus.specs.Limits.{byte_values}
 use Rattle.calculus.specs.Options.{on_some}
-use Rattle.calculus.specs.Syntax.{at, const, num, op, unit, var, name}
+use Rattle.calculus.specs.Syntax.{at}
 use Rattle.calculus.specs.Table.{Entry, Table}
 use Rattle.calculus.specs.Verdict.{annotated, is_function_kind, on_function, scoped, scoped_const}
 use Rattle.calculus.proofs.Theory.Lists.{at_bound}
-use Rattle.calculus.proofs.Theory.Tests.{and_true, eqb_complete, eqb_differ, leb_complete, ltb_complete, ltb_false, ltb_not, ltb_sound}
-use Rattle.term.specs.Forms.{application_tag, cell_tag, exch_tag, form_of, forms, handle_tag, lambda_tag, name_tag, num_tag, subterms_of, tags, thread_tag, unit_tag, variable_tag}
+use Rattle.calculus.proofs.Theory.Tests.{ltb_complete, ltb_not}
+use Rattle.term.specs.Forms.{application_tag, form_of, forms, lambda_tag}
 use Rattle.term.specs.Tree.{HasForm}
 use Rattle.term.specs.Expressions.{leaf_exp, leaf_forms}
 use Rattle.term.proofs.Shapes.{leaf_tag}
@@ -24,7 +22,7 @@ use Rattle.check_types.specs.Walk.{environment, HasNumber}
 use Rattle.check_types.proofs.Entries.{on_function_is}
 use Rattle.list_spec.specs.Goals.{arguments, behind_lambda, behind_leaf, bounds, enter, enter_by, Goal, goal, head, leaf_type, may_use, meets, room, state, State, useful, useful_by}
 use Rattle.list_spec.proofs.Theory.Complete.{arguments_length}
-use Rattle.list_place.specs.Candidates.{arg_in, behind, candidate, has, leaf_room, tag_in}
+use Rattle.list_place.specs.Candidates.{arg_in, behind, candidate, leaf_room, tag_in}
 use Rattle.list_place.proofs.Pushing.{there}
 
 pub length_environment : (n : ℕ) (a : List ℕ) → length (environment n a) ≡ n

@@ -5,7 +5,7 @@ use Rattle.calculus.specs.Limits.{byte_values, max_term_nodes}
 use Rattle.calculus.specs.Options.{on_some}
 use Rattle.calculus.specs.Table.{Table}
 use Rattle.calculus.specs.Verdict.{annotated, is_function_kind}
-use Rattle.term.specs.Forms.{cell_tag, handle_tag, name_tag, num_tag, unit_tag, variable_tag}
+use Rattle.term.specs.Forms.{name_tag, num_tag, unit_tag, variable_tag}
 use Rattle.term.specs.Tree.{HasForm}
 use Rattle.term.specs.Expressions.{leaf_exp}
 use Rattle.check_types.specs.Entries.{entry_of}

@@ -2,9 +2,8 @@
 use Rattle.std.specs.Prelude.{◌≡◌, cond, true, List, [], ◌∷◌, ◌+◌, ◌<◌, ◌≤◌, suc, zero, ℕ, eqb, get_or, length}
 use Rattle.std.proofs.Math.Option.{Option, none, some}
 use Rattle.calculus.specs.Limits.{byte_values, max_term_nodes}
-use Rattle.calculus.specs.Syntax.{at}
 use Rattle.calculus.specs.Table.{Table}
-use Rattle.term.specs.Forms.{variable_tag, cell_tag, handle_tag, name_tag}
+use Rattle.term.specs.Forms.{variable_tag, name_tag}
 use Rattle.check_types.specs.Walk.{environment}
 use Rattle.list_spec.specs.Goals.{arguments, Goal, goal, meets, State, state}
 use Rattle.list_place.specs.declared.Place.{Place}

@@ -1,4 +1,6 @@
 // Where a search for a term stands: the terms that are still to come, in arrays by value; which nodes may stand next, and what is to come behind one.
+#![tactic(auto)]
+
 ghost use Rattle.std.specs.Prelude.{◌≡◌, ◌+◌, ◌-◌, ◌<◌, ◌≤◌, length};
 ghost use Rattle.calculus.specs.Limits.{byte_values, max_term_nodes};
 ghost use Rattle.recipe_table.specs.Entries.{table_of};

@@ -1,11 +1,10 @@
 -- Codes that are passed over: their nodes cannot stand.
-use mathlib.Core.Path.{◌≡◌, ap, refl, sym, ◌∙◌}
+use mathlib.Core.Path.{◌≡◌, refl, sym, ◌∙◌}
 use mathlib.Core.Bool.{Bool, ◌&&◌, cond, false, false≢true, true}
 use mathlib.Core.List.{List}
-use Prim.Native.Nat.{◌%◌, ◌*◌, ◌+◌, ◌-◌, ◌/◌, ◌<◌, ◌≤◌, suc, zero, ℕ}
+use Prim.Native.Nat.{◌*◌, ◌+◌, ◌-◌, ◌<◌, ◌≤◌, suc, ℕ}
 use native.Mathlib.Omega.{arith}
 use lib.Dec.{leb, ltb}
-use lib.ListN.{length}
 use Rattle.calculus.specs.Limits.{byte_values}
 use Rattle.calculus.specs.Table.{Table}
 use Rattle.calculus.specs.Verdict.{annotated, is_function_kind}
@@ -16,7 +15,7 @@ use Rattle.term.specs.Expressions.{leaf_exp}
 use Rattle.check_types.specs.Entries.{entry_of}
 use Rattle.check_types.specs.Walk.{environment}
 use Rattle.check_types.proofs.Leaves.{op_number}
-use Rattle.list_spec.specs.Goals.{may_use, meets}
+use Rattle.list_spec.specs.Goals.{meets}
 use Rattle.list_index.specs.Index.{in_band}
 use Rattle.list_place.specs.Places.{want_of}
 use Rattle.list_place.specs.Candidates.{arg_in, codes, lambda_stands, leaf_bound, leaf_room, LeafStands, MayStand, tag_in}

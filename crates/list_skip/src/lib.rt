@@ -1,4 +1,6 @@
 // From one node that is tried to the next, past those that cannot stand.
+#![tactic(auto)]
+
 ghost use Rattle.std.specs.Prelude.{◌≡◌, ◌<◌, ◌≤◌};
 ghost use Rattle.calculus.specs.Limits.{byte_values};
 ghost use Rattle.recipe_table.specs.Entries.{table_of};

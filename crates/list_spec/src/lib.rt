@@ -1,4 +1,5 @@
 // What a call for the next term answers. The definitions stand in specs/.
+#![tactic(auto)]
 
 use numbers::Term;
 

@@ -60,6 +60,7 @@ in_joined : {S : Type 0} (f : Branch S → List (List ℕ)) (bs : List (Branch S
 unfolding joined
 in_joined f (b ∷ bs) first m = member_left _ (member_map (λ w. b.piece ++ w) m)
 in_joined f (b ∷ bs) (among d) m = member_right (map (λ w. b.piece ++ w) (f b)) (in_joined f bs d m)
+in_joined f [] d m = elim d [ ]
 
 word_in_words : {S : Type 0} (branches : ℕ → S → List (Branch S)) (r : ℕ) (x : S) (w : List ℕ) → Word branches r x w → Member w (words branches r x)
 unfolding words
@@ -70,11 +71,13 @@ word_in_words branches (suc r) x _ (piece_and {b = b} {w = w} m d) = in_joined (
 without : {A : Type 0} {a : A} (l : List A) → Member a l → List A
 without (b ∷ l) first = l
 without (b ∷ l) (among d) = b ∷ without l d
+without [] d = elim d [ ]
 
 length_without : {A : Type 0} {a : A} (l : List A) (d : Member a l) → suc (length (without l d)) ≡ length l
 unfolding without
 length_without (b ∷ l) first = refl
 length_without (b ∷ l) (among d) = ap suc (length_without l d)
+length_without [] d = elim d [ ]
 
 still_in : {A : Type 0} {a c : A} (l : List A) (d : Member a l) → Member c l → (c ≡ a) ⊎ Member c (without l d)
 unfolding without
@@ -82,6 +85,7 @@ still_in (b ∷ l) first first = inl refl
 still_in (b ∷ l) first (among e) = inr e
 still_in (b ∷ l) (among d) first = inr first
 still_in (b ∷ l) (among d) (among e) = elim (still_in l d e) [ inl p ↦ inl p | inr m ↦ inr (among m) ]
+still_in [] d _ = elim d [ ]
 
 module _ (T : Table) (size : ℕ) where
   onward : (after : List ℕ) → ((s : List ℕ) → NextIn T size after s → (l : List (List ℕ)) × GoesOn (search T size) s l)

@@ -40,6 +40,7 @@ member_map f (among d) = among (member_map f d)
 from_map : {A B : Type 0} (f : A → B) (l : List A) {b : B} → Member b (map f l) → (a : A) × Member a l × (b ≡ f a)
 from_map f (a ∷ l) first = (a, first, refl)
 from_map f (a ∷ l) (among d) = let (c, m, e) = from_map f l d in (c, among m, e)
+from_map f [] d = elim d [ ]
 
 pub none_in : {A : Type 0} {a : A} → Member a [] → ⊥
 none_in d = elim d [ ]
@@ -49,6 +50,7 @@ from_upward : (i n : ℕ) {m : ℕ} → Member m (upward i n) → (i ≤ m) × (
 unfolding upward
 from_upward i (suc n) first = (omega arith, omega arith)
 from_upward i (suc n) (among d) = let (a, b) = from_upward (suc i) n d in (omega arith, omega arith)
+from_upward i zero d = elim d [ ]
 
 in_upward : (i n j : ℕ) → i ≤ j → j < i + n → Member j (upward i n)
 unfolding upward
@@ -180,6 +182,7 @@ module _ (T : Table) (r k : ℕ) (g : Goal) (goals : List Goal) where
     | inl e ↦ (h, first, e)
     | inr e ↦ let (h', m, z) = from_choose hs e in (h', among m, z)
   ]
+  from_choose [] d = elim d [ ]
 
   with_ascending : (test : State → Bool) (h : Head) (o : Option State) (bs : List (Branch State)) → ((c : Branch State) → Member c bs → Lower (piece_of h) c.piece) → Ascending bs
       → Ascending (with_branch test (piece_of h) o bs)

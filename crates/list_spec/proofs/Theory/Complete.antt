@@ -5,7 +5,7 @@ use Rattle.std.proofs.Math.Path.{ap, refl}
 use Rattle.std.proofs.Math.Bool.{cond, false, true}
 use Rattle.std.proofs.lemmas.Bool.{false≢true}
 use Rattle.std.proofs.Math.Option.{Option, none, some}
-use mathlib.Core.List.{List, ◌++◌, ◌∷◌, append_assoc}
+use mathlib.Core.List.{List, [], ◌++◌, ◌∷◌, append_assoc}
 use Prim.Native.Nat.{◌+◌, ◌-◌, ◌<◌, ◌≤◌, suc, zero, ℕ}
 use Rattle.std.proofs.Math.Decide.{dec_lt}
 use native.Mathlib.Omega.{arith}
@@ -90,6 +90,7 @@ module _ (T : Table) (r k : ℕ) (g : Goal) (goals : List Goal) where
               → Member c (cond b (record { piece = piece_of h'; next = s } ∷ choose T r k g goals hs) (choose T r k g goals hs))
           go true n = among n
           go false n = n
+  chosen [] h s m e o u = elim m [ ]
 
   branch_of : (h : Head) (s : State) → Member h (heads (length g.env) (length T)) → enter T k g goals h ≡ some s → Room r (pending s) → useful T r k goals h ≡ true
       → Member (record { piece = piece_of h; next = s }) (branches T r (state k (g ∷ goals)))

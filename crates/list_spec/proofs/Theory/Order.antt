@@ -4,9 +4,14 @@ use Rattle.std.proofs.Common.{arith}
 use Rattle.calculus.proofs.Theory.Tests.{ltb_sound, ltb_false}
 use Rattle.list_spec.specs.Order.{Before, shorter, lower, same, Bound, free, above, After, Passed, behind, on, pass, passed}
 
+-- what comes before another is not the other
+not_equal : {l m : List ℕ} → Before l m → l ≡ m → ⊥
+not_equal shorter e = cc
+not_equal (lower {x = x} {y = y} h) e = let z : x ≡ y = cc in omega arith
+not_equal (same b) e = not_equal b (cc)
+
 pub before_irreflexive : {l : List ℕ} → Before l l → ⊥
-before_irreflexive (lower h) = omega arith
-before_irreflexive (same b) = before_irreflexive b
+before_irreflexive b = not_equal b refl
 
 pub before_trans : {l m n : List ℕ} → Before l m → Before m n → Before l n
 before_trans shorter (lower h) = shorter
@@ -55,10 +60,17 @@ pub lower_before : {p q : List ℕ} (u v : List ℕ) → Lower p q → Before (p
 lower_before u v (lower_here h) = lower h
 lower_before u v (lower_behind b) = same (lower_before u v b)
 
+-- what is left behind a byte that both begin with
+behind_equal : {x y : ℕ} {l m : List ℕ} → Before (x ∷ l) (y ∷ m) → x ≡ y → Before l m
+behind_equal (lower h) e = absurd (omega arith)
+behind_equal (same b) e = b
+
+tail_before : {x : ℕ} {l m : List ℕ} → Before (x ∷ l) (x ∷ m) → Before l m
+tail_before b = behind_equal b refl
+
 pub before_drop : (p : List ℕ) {u v : List ℕ} → Before (p ++ u) (p ++ v) → Before u v
 before_drop [] b = b
-before_drop (x ∷ p) (lower h) = absurd (omega arith)
-before_drop (x ∷ p) (same b) = before_drop p b
+before_drop (x ∷ p) b = before_drop p (tail_before b)
 
 pub before_add : (p : List ℕ) {u v : List ℕ} → Before u v → Before (p ++ u) (p ++ v)
 before_add [] b = b
@@ -72,10 +84,6 @@ Says l p (on b) = (w : List ℕ) → (Before l (p ++ w) → After b w) × (After
 not_less : {x y : ℕ} {l m : List ℕ} → x < y → Before (y ∷ l) (x ∷ m) → ⊥
 not_less h (lower k) = omega arith
 not_less h (same b) = omega arith
-
-tail_before : {x : ℕ} {l m : List ℕ} → Before (x ∷ l) (x ∷ m) → Before l m
-tail_before (lower h) = absurd (omega arith)
-tail_before (same b) = b
 
 says_more : (x : ℕ) (l p : List ℕ) (o : Passed) → Says l p o → Says (x ∷ l) (x ∷ p) o
 says_more x l p behind h = λ w b. h w (tail_before b)

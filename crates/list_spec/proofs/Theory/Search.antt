@@ -53,10 +53,12 @@ module _ {S : Type 0} (branches : ℕ → S → List (Branch S)) where
           where
             false_word : (w : List ℕ) → Word zero x w → test (s ++ w) ≡ true → ⊥
             false_word [] no_more p = false≢true (sym e ∙ ap test (sym (append-nil s)) ∙ p)
+            false_word (_ ∷ _) d p = elim d [ ]
     at_end x s (above l) = nowhere (λ w d p a. bad w d a)
       where
         bad : (w : List ℕ) → Word zero x w → Before l w → ⊥
         bad [] no_more b = nothing_before l b
+        bad (_ ∷ _) d b = elim d [ ]
 
     -- one branch
     module _ (r : ℕ) (s : List ℕ) where
@@ -72,11 +74,13 @@ module _ {S : Type 0} (branches : ℕ → S → List (Branch S)) where
         where
           no : (w : List ℕ) → WordIn r (b ∷ []) w → test (s ++ w) ≡ true → After low w → ⊥
           no _ (word_in {w = w} first d) e a = n w d (shift b.piece w e) ((h w).0 a)
+          no _ (word_in (among m) d) e a = elim m [ ]
       entered b low low' h (least w d e a m) = subst (λ t. Least (WordIn r (b ∷ [])) s low (some t)) (sym (append_assoc s b.piece w))
           (least (b.piece ++ w) (word_in first d) (back b.piece w e) ((h w).1 a) λ v c f g k. no v c f g k)
         where
           no : (v : List ℕ) → WordIn r (b ∷ []) v → test (s ++ v) ≡ true → After low v → Before v (b.piece ++ w) → ⊥
           no _ (word_in {w = v} first c) f g k = m v c (shift b.piece v f) ((h v).0 g) (before_drop b.piece k)
+          no _ (word_in {w = v} (among i) c) f g k = elim i [ ]
 
       one_branch : (b : Branch S) (low : Bound) (f : Bound → Option (List ℕ)) (o : Passed) → SaysOf low b.piece o
           → ((low' : Bound) → Least (Word r b.next) (s ++ b.piece) low' (f low')) → Least (WordIn r (b ∷ [])) s low (when_on o f)
@@ -84,6 +88,7 @@ module _ {S : Type 0} (branches : ℕ → S → List (Branch S)) where
         where
           no : (w : List ℕ) → WordIn r (b ∷ []) w → After low w → ⊥
           no _ (word_in {w = w} first d) a = h w a
+          no _ (word_in (among m) d) a = elim m [ ]
       one_branch b low f (on low') h k = entered b low low' h (k low')
 
       -- the first of several, or else the others
@@ -93,6 +98,7 @@ module _ {S : Type 0} (branches : ℕ → S → List (Branch S)) where
 
       to_first : {b : Branch S} {bs : List (Branch S)} {w : List ℕ} → WordIn r (b ∷ []) w → WordIn r (b ∷ bs) w
       to_first (word_in first d) = word_in first d
+      to_first (word_in (among m) d) = elim m [ ]
 
       to_rest : {b : Branch S} {bs : List (Branch S)} {w : List ℕ} → WordIn r bs w → WordIn r (b ∷ bs) w
       to_rest (word_in m d) = word_in (among m) d
@@ -100,6 +106,7 @@ module _ {S : Type 0} (branches : ℕ → S → List (Branch S)) where
       above_first : {b : Branch S} {bs : List (Branch S)} {v w : List ℕ} → ((c : Branch S) → Member c bs → Lower b.piece c.piece)
           → WordIn r (b ∷ []) w → WordIn r bs v → Before v w → ⊥
       above_first h (word_in {w = w} first d) (word_in {b = c} {w = v} m e) k = before_asymmetric k (lower_before w v (h c m))
+      above_first h (word_in (among i) d) _ k = elim i [ ]
 
       joined : {b : Branch S} {bs : List (Branch S)} {low : Bound} {o o' : Option (List ℕ)} → ((c : Branch S) → Member c bs → Lower b.piece c.piece)
           → Least (WordIn r (b ∷ [])) s low o → Least (WordIn r bs) s low o' → Least (WordIn r (b ∷ bs)) s low (or_else o o')

@@ -287,6 +287,7 @@ module _ (T : Table) where
 
   at_end : (s : List ℕ) {x : State} → Word (branches T) 0 x s → s ≡ []
   at_end [] no_more = refl
+  at_end (_ ∷ _) d = elim d [ ]
 
   pub word_typed : (size : ℕ) (s : List ℕ) → 1 ≤ size → Word (branches T) size beginning s → Made size s
   unfolding arguments meets
