@@ -1,3 +1,3 @@
 #![tactic(auto)]
 
-// Cause 10 in one pass over a term: definitions and theorems stand in specs/.
+// Cause 10 in one pass over a term: definitions stand in specs/, theorems in proofs/.

@@ -1,4 +1,4 @@
-// The verdict on a recipe file: what is answered. The definitions and theorems stand in specs/.
+// The verdict on a recipe file: what is answered. The definitions stand in specs/, the theorems in proofs/.
 #![tactic(auto)]
 
 use numbers::Recipe;

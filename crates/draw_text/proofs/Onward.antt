@@ -70,13 +70,6 @@ long_one : (b : Bool) (x y : List ℕ) → max_image_length ≤ length x → max
 long_one true x y l m = l
 long_one false x y l m = m
 
--- an outcome with another tag is no rule
-pub no_rule : {o : Outcome} → OneOf (1 ∷ 2 ∷ 3 ∷ []) (tag_of the_type o) → (rule size : ℕ) → ¬ (o ≡ Rule rule size)
-no_rule k rule size e = elim (subst (λ (o : Outcome). OneOf (1 ∷ 2 ∷ 3 ∷ []) (tag_of the_type o)) e k) [
-  | inl p ↦ omega arith
-  | inr q ↦ elim q [ inl p ↦ omega arith | inr r ↦ omega arith ]
-]
-
 -- a draw from `at` on, and its line
 module _ (at : At) {first second : List ℕ} (first' second' : List ℕ) (r : Ready at.odd at.length at.nodes first second) {state : ℕ} (s : state ≡ drawn at.state) {d : Drawn}
     (w : Drew (take at.length (cond at.odd second first)) state (cond at.odd first second) d (cond at.odd first' second'))

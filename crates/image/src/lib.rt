@@ -1,3 +1,3 @@
 #![tactic(auto)]
 
-// Images: configurations and the owners of their names in bytes. The definitions and theorems stand in specs/.
+// Images: configurations and the owners of their names in bytes. The definitions stand in specs/, the theorems in proofs/.

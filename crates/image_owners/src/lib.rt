@@ -1,1 +1,1 @@
-// What document 02 says of owners. The statements and their proofs stand in specs/.
+// What document 02 says of owners. The statements stand in specs/, their proofs in proofs/.

@@ -1,1 +1,1 @@
-// What document 02 says of starting nums. There is no code; the statement and its proof stand in specs/.
+// What document 02 says of starting nums. There is no code; the statement stands in specs/, its proof in proofs/.

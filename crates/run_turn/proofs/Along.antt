@@ -75,7 +75,3 @@ module _ (s : List ℕ) (next : ℕ) where
   pub round_on : {l : Bool} {r : Found} → Finds s (look_along s false (upward next (names s - next))) (Nobody l) → Finds s (look_along s l (upward 0 next)) r → Finds s (search_from s next) r
   unfolding going_on
   round_on {l} {r} (finds_nobody e) f = subst⁻¹ (λ (q : Search). Finds s q r) (round_is e) f
-
--- a search that found a thread or a number has not found nobody
-pub not_nobody : {r : Found} → OneOf (0 ∷ 2 ∷ []) (tag_of the_type r) → (l : Bool) → ¬ (r ≡ Nobody l)
-not_nobody k l e = elim (subst (λ (r : Found). OneOf (0 ∷ 2 ∷ []) (tag_of the_type r)) e k) [ inl p ↦ omega arith | inr q ↦ omega arith ]

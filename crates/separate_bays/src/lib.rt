@@ -1,1 +1,1 @@
-// What document 02 says of separate bays. The sentences and their proof stand in specs/.
+// What document 02 says of separate bays. The sentences stand in specs/, their proof in proofs/.

@@ -112,6 +112,3 @@ few_before s b stands = (rules s b stands).limits.few_nodes
 -- a decision by which a thread goes, and others
 pub stepped : {s : List ℕ} {x : ℕ} {step : Step} → Decided s x (Goes step) → Stepped s x step
 stepped (decided_goes S) = S
-
-pub not_goes : {d : Decision} (step : Step) → d ≡ Goes step → OneOf (1 ∷ 2 ∷ []) (tag_of the_type d) → ⊥
-not_goes step e k = elim (subst (λ (d : Decision). OneOf (1 ∷ 2 ∷ []) (tag_of the_type d)) e k) [ inl p ↦ omega arith | inr q ↦ omega arith ]

@@ -79,10 +79,10 @@ module _ {s : List ℕ} {n : ℕ} {step : Step} {after : Size} (st : Stands s n)
       come ≡ nodes_all C' + (carried s step).lost → gone ≡ nodes_all (config_of s) + (carried s step).gained →
       Changed (owned_of s) (grown (owned_of s) x C') (record { own = own; new = new; come = come; gone = gone; other = other; gained = (carried s step).gained; lost = (carried s step).lost })
   unfolding names_to nodes_to nodes_from
-  changed_to o o' New_is come_is gone_is =
+  changed_to o o' new_is come_is gone_is =
       let long : length (config_of s) ≡ length (owners_of s) = length_config s ∙ sym (length_owners s) in
       record {
-        names = λ k. rw (o, New_is) (bay_names k (owners_of s) x (config_of s) C' long (omega (arith, names_then, no_fewer, length_config s)));
+        names = λ k. rw (o, new_is) (bay_names k (owners_of s) x (config_of s) C' long (omega (arith, names_then, no_fewer, length_config s)));
         nodes = λ k. rw (o, o', come_is, gone_is) (g.stepped.carries.bays k);
       }
 
