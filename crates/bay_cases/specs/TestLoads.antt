@@ -41,7 +41,7 @@ use Rattle.bay_cases.specs.Cases.{T5, num_to_num, thread_many_many, identities, 
 use Rattle.bay_cases.specs.Pairs.{reading_with_hour, own_rest}
 use Rattle.bay_cases.specs.HouseRuns.{awaiting, copies, copying, own_name, repeated, waits_for_ever, waits_until_bound}
 
--- "the seed in four bytes and the number of draws in two, little_endian, then the recipe"
+-- "the seed in four bytes and the number of draws in two, little-endian, then the recipe"
 unfoldable pub input : ℕ → ℕ → List ℕ → List ℕ
 input seed number recipe = two_bytes (seed % two_byte_values) ++ two_bytes (seed / two_byte_values) ++ two_bytes number ++ recipe
 
@@ -253,7 +253,7 @@ test_texts = record { texts_table = refl; wide_text = refl }
 pub record FrontsProved : Type 0 where
   -- "itself xor its left shift by 13, then xor its right shift by 17, then xor its left shift by 5, bits beyond 32 dropped; from 1 the first draw is 270,369"
   states : map drawn (1 ∷ 270369 ∷ 7 ∷ 4294967295 ∷ 0x80000000 ∷ 0x10000 ∷ 0x12345678 ∷ 0 ∷ []) ≡ 270369 ∷ 67634689 ∷ 1892583 ∷ 253983 ∷ 2148024320 ∷ 539168768 ∷ 2274908837 ∷ 0 ∷ []
-  -- "the seed in four bytes and the number of draws in two, little_endian, then the recipe"
+  -- "the seed in four bytes and the number of draws in two, little-endian, then the recipe"
   written : input 0x04030201 0x0605 (0x4C ∷ []) ≡ 0x01 ∷ 0x02 ∷ 0x03 ∷ 0x04 ∷ 0x05 ∷ 0x06 ∷ 0x4C ∷ []
   -- "absent bytes of these six count as 0"; later bytes are no part of the seed
   seeds : map seed_in ((0x01 ∷ 0x02 ∷ 0x03 ∷ 0x04 ∷ 0x05 ∷ 0x06 ∷ 0x4C ∷ []) ∷ (0x01 ∷ 0x02 ∷ 0x03 ∷ 0x04 ∷ []) ∷ (0x01 ∷ 0x02 ∷ 0x03 ∷ []) ∷ (0x01 ∷ 0x02 ∷ []) ∷ (0x01 ∷ []) ∷ [] ∷ (0xFF ∷ 0xFF ∷ 0xFF ∷ 0xFF ∷ []) ∷ []) ≡ 0x04030201 ∷ 0x04030201 ∷ 0x030201 ∷ 0x0201 ∷ 0x01 ∷ 0 ∷ 4294967295 ∷ []

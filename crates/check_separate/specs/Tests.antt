@@ -1,4 +1,4 @@
--- Document 02, T-09: causes 20 and 21 bay by bay (proofs/Each, `fails_is`), and cause 20 node by node (proofs/Owning, `own_of_lem`).
+-- Document 02, T-09: causes 20 and 21 bay by bay (proofs/Each, `fails_is`), and cause 20 node by node (proofs/Owning, `own_of`).
 use Rattle.std.specs.Prelude.{Bool, cond, true, List, ◌+◌, ℕ, eqb, leb}
 use Rattle.calculus.specs.Image.{nodes}
 use Rattle.calculus.specs.Profile.{names_only}

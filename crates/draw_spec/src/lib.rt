@@ -1,1 +1,3 @@
+#![tactic(auto)]
+
 // What a test load draws and prints. The definitions stand in specs/.

@@ -1,12 +1,9 @@
 -- One draw more: what is known of it, and what is left, by its outcome.
 use mathlib.Core.Path.{◌∙◌, ◌≡◌, ap, refl, subst, subst⁻¹, sym}
-use mathlib.Core.Logic.{inl, inr}
 use mathlib.Core.Bool.{Bool, cond, false, not, true}
-use mathlib.Core.List.{List, [], ◌∷◌}
+use mathlib.Core.List.{List}
 use Prim.Native.Nat.{ℕ, ◌<◌, ◌≤◌}
 use native.Mathlib.Omega.{arith}
-use denote.Enum.Declared.{tag_of}
-use types.Run.{OneOf}
 use lib.ListN.{length, take}
 use Rattle.calculus.specs.Profile.{common}
 use Rattle.calculus.specs.Image.{nodes_all}
@@ -14,9 +11,7 @@ use Rattle.calculus.specs.Limits.{max_image_length, max_names}
 use Rattle.buffer.specs.Written.{Wrote}
 use Rattle.buffer.proofs.Theory.Writes.{known_as}
 use Rattle.image.specs.Configuration.{config_of}
-use Rattle.step_spec.specs.declared.Outcome.{Outcome}
 use Rattle.step_spec.specs.declared.Outcome.TheVariants.{Rule}
-use Rattle.step_spec.specs.contracts.Outcome.{the_type}
 use Rattle.step_spec.proofs.Theory.Replies.{long_outcome}
 use Rattle.step_spec.specs.Waiting.{NameSmall}
 use Rattle.step_spec.proofs.Theory.Waiting.{waiting_small}

@@ -1,4 +1,6 @@
 // Document 02, T-06: the lines of a test load, put into a lent buffer.
+#![tactic(auto)]
+
 ghost use Rattle.std.specs.Prelude.{◌≡◌, ◌+◌, ◌*◌, ◌<◌, ◌≤◌, get_or, length};
 ghost use Rattle.calculus.specs.Bytes.{two_byte_values, word};
 ghost use Rattle.calculus.specs.Limits.{front_length, max_file_length, max_names};

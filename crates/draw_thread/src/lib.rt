@@ -1,4 +1,6 @@
 // Document 02, T-06: a draw. The image is known to stand, and its nodes are counted once, at the start.
+#![tactic(auto)]
+
 ghost use Rattle.std.specs.Prelude.{◌≡◌, cond, true, ◌<◌, ◌≤◌, get_or, length, take};
 ghost use Rattle.calculus.specs.Limits.{max_image_length};
 ghost use Rattle.image_layout.specs.Layout.{heads_stand};

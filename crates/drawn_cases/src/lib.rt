@@ -1,1 +1,3 @@
+#![tactic(auto)]
+
 // Drawn cases: rows that the model answered. They stand in specs/.

@@ -1,4 +1,6 @@
 // The supplier's host: the functions of include/fikarehu.h, thin over the proved library. Numbers pass as themselves, a slice as a pointer and a length.
+#![tactic(auto)]
+
 ghost use Rattle.std.specs.Prelude.{◌≡◌, length};
 ghost use Rattle.calculus.specs.Profile.{common, separate};
 ghost use Rattle.check_spec.specs.Verdict.{verdict_of};

@@ -1,4 +1,6 @@
 // Document 01, "The supplier's host": the two lines that the program writes, put into a lent buffer.
+#![tactic(auto)]
+
 ghost use Rattle.std.specs.Prelude.{◌+◌, ◌*◌, ◌<◌, ◌≤◌, length};
 ghost use Rattle.calculus.specs.Limits.{max_file_length};
 ghost use Rattle.buffer.specs.Written.{Wrote};

@@ -1,13 +1,9 @@
 -- Looking along names: what the loop keeps, and a law for each way through it.
-use mathlib.Core.Path.{◌∙◌, ◌≡◌, ap, refl, subst, subst⁻¹}
-use mathlib.Core.Logic.{inl, inr}
+use mathlib.Core.Path.{◌∙◌, ◌≡◌, ap, refl, subst⁻¹}
 use mathlib.Core.Bool.{Bool, false, true}
-use mathlib.Core.List.{List, [], ◌∷◌}
+use mathlib.Core.List.{List, ◌∷◌}
 use Prim.Native.Nat.{ℕ, suc, ◌+◌, ◌-◌, ◌<◌, ◌≤◌}
 use native.Mathlib.Omega.{arith}
-use denote.Enum.Declared.{tag_of}
-use types.Run.{OneOf}
-use Rattle.run_turn.specs.contracts.Found.{the_type}
 use Rattle.image_layout.specs.Slice.{names}
 use Rattle.step_rules.specs.declared.Step.{Step}
 use Rattle.step_room.specs.declared.Size.{Size}

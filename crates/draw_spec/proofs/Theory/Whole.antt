@@ -23,7 +23,7 @@ use Rattle.runs.specs.Run.{types_loaded}
 use Rattle.runs.proofs.Theory.Steps.{answered_goes, follows_into}
 use Rattle.demands.proofs.Theory.Reached.{reached_reads}
 use Rattle.demands.proofs.Theory.Third.{loaded_is, accepted_demand}
-use Rattle.draw_spec.specs.Draws.{Draw, draws, picked, reply, thread, threads, threads_below}
+use Rattle.draw_spec.specs.Draws.{Draw, picked, reply, thread, threads, threads_below}
 use Rattle.draw_spec.specs.Lines.{draw_refusal, draws_in, max_text_length, number_in, recipe_in, seed_in, text_of}
 use Rattle.draw_spec.specs.TestLoad.{DrawsDemand, TestLoad}
 use Rattle.draw_spec.proofs.Theory.States.{drawn_not_zero, drawn_within, first_draw}

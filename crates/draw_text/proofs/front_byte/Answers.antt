@@ -1,7 +1,6 @@
 -- `draw_text::front_byte` meets its contract.
 use mathlib.Core.Path.{sym}
 use native.Mathlib.Omega.{arith}
-use borrow.Author.Rules.{rules}
 use lib.ListN.{get_or-eq_default}
 use Rattle.draw_text.proofs.front_byte.Goals as goal
 

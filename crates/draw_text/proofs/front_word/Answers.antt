@@ -1,6 +1,5 @@
 -- `draw_text::front_word` meets its contract.
 use native.Mathlib.Omega.{arith}
-use borrow.Author.Rules.{rules}
 use Rattle.calculus.specs.Bytes.{word}
 use Rattle.draw_text.proofs.front_word.Goals as goal
 

@@ -1,6 +1,5 @@
 -- `draw_text::number_of` meets its contract.
 use native.Mathlib.Omega.{arith}
-use borrow.Author.Rules.{rules}
 use Rattle.draw_spec.specs.Lines.{number_in}
 use Rattle.draw_text.proofs.number_of.Goals as goal
 

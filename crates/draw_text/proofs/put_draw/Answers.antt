@@ -1,5 +1,4 @@
 -- `draw_text::put_draw` meets its contract: one draw more, by its outcome.
-use borrow.Author.Rules.{rules}
 use Rattle.draw_text.proofs.Onward.{onward_rule, onward_same, ready_line}
 use Rattle.draw_text.proofs.put_draw.Goals as goal
 

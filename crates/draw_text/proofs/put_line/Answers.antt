@@ -1,6 +1,5 @@
 -- `draw_text::put_line` meets its contract: the name, the outcome, the end of the line.
 use native.Mathlib.Omega.{arith}
-use borrow.Author.Rules.{rules}
 use Rattle.buffer.proofs.Theory.Writes.{same, then}
 use Rattle.text.proofs.Theory.Digits.{length_decimal}
 use Rattle.draw_spec.specs.Lines.{line}

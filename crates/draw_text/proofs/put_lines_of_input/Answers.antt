@@ -1,6 +1,5 @@
 -- `draw_text::put_lines_of_input` meets its contract.
 use mathlib.Core.Path.{◌∙◌, ap, sym}
-use borrow.Author.Rules.{rules}
 use lib.ListN.{length, take}
 use lib.Seq.{length-take-le}
 use Rattle.text.proofs.Theory.Put.{inside, put_as}

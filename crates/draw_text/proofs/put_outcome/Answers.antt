@@ -1,7 +1,6 @@
 -- `draw_text::put_outcome` meets its contract: a word and a number for each outcome.
 use mathlib.Core.Path.{ap, sym}
 use native.Mathlib.Omega.{arith}
-use borrow.Author.Rules.{rules}
 use Rattle.buffer.proofs.Theory.Writes.{known_as, then}
 use Rattle.text.specs.Ascii.{decimal}
 use Rattle.draw_spec.specs.Lines.{number_of, outcome_text, word_of}

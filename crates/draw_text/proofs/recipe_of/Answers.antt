@@ -2,7 +2,6 @@
 use mathlib.Core.Path.{sym}
 use Prim.Native.Nat.{ℕ, ◌-◌}
 use native.Mathlib.Omega.{arith}
-use borrow.Author.Rules.{rules}
 use lib.ListN.{drop_of_length-le, length, length-drop}
 use lib.Seq.{drop-length, take_all, take-nil}
 use Rattle.calculus.specs.Limits.{front_length}

@@ -1,7 +1,6 @@
 -- `draw_text::refusal_of` meets its contract: the recipe's refusal first.
 use mathlib.Core.Path.{refl}
 use native.Mathlib.Omega.{arith}
-use borrow.Author.Rules.{rules}
 use Rattle.calculus.proofs.Theory.Tests.{eqb_complete, eqb_differ}
 use Rattle.draw_text.specs.Lines.{refusal_of}
 use Rattle.draw_text.proofs.refusal_of.Goals as goal

@@ -1,6 +1,5 @@
 -- `draw_text::seed_of` meets its contract.
 use native.Mathlib.Omega.{arith}
-use borrow.Author.Rules.{rules}
 use Rattle.draw_spec.specs.Lines.{seed_in}
 use Rattle.draw_text.proofs.seed_of.Goals as goal
 

@@ -3,7 +3,6 @@ use mathlib.Core.Path.{◌≡◌, refl, subst, subst⁻¹, sym}
 use mathlib.Core.Bool.{Bool, cond, false, true}
 use lib.ListN.{take}
 use lib.Seq.{length-take-le}
-use borrow.Author.Rules.{rules}
 use Rattle.draw_thread.specs.Drawing.{Drew, Ready}
 use Rattle.draw_thread.proofs.alternate.Goals as goal
 

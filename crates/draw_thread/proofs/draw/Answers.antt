@@ -1,6 +1,5 @@
 -- `draw_thread::draw` meets its contract.
 use native.Mathlib.Omega.{arith}
-use borrow.Author.Rules.{rules}
 use Rattle.draw_spec.proofs.Theory.Alive.{alive_heads, alive_some}
 use Rattle.draw_thread.proofs.Stepped.{present_stands, stepped_answers, stepped_counts, stepped_leaves}
 use Rattle.draw_thread.proofs.draw.Goals as goal

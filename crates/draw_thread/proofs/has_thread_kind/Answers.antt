@@ -1,7 +1,6 @@
 -- `draw_thread::has_thread_kind` meets its contract.
 use mathlib.Core.Path.{ap}
 use Prim.Native.Nat.{ℕ}
-use borrow.Author.Rules.{rules}
 use lib.Dec.{eqb}
 use Rattle.calculus.specs.Kinds.{thread_kind}
 use Rattle.draw_spec.specs.Draws.{has_thread_kind}

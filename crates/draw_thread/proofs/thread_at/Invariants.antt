@@ -1,11 +1,8 @@
 -- `draw_thread::thread_at` meets its contract. The loop's invariant: the threads among the names passed are counted, and the last one counted is the one looked for once
 -- there are more than its index. The measure is how many names are still to come.
-use mathlib.Core.Path.{◌∙◌, sym}
-use Prim.Native.Nat.{◌-◌, ◌<◌}
-use native.Mathlib.Omega.{arith}
-use borrow.Author.Tests.{not-false, not-true}
+use Prim.Native.Nat.{◌-◌}
 use Rattle.image_layout.specs.Slice.{names}
-use Rattle.draw_thread.proofs.Counted.{Passed, counted_few, next_head, passed_found, passed_inside, passed_none, passed_one, passed_skip, passed_some}
+use Rattle.draw_thread.proofs.Counted.{Passed}
 use Rattle.draw_thread.proofs.thread_at.Given as goal
 
 abbrev pub invariant-loop-passed : goal.invariant-loop-passed

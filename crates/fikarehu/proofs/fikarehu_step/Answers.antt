@@ -1,5 +1,4 @@
 use mathlib.Core.Path.{◌∙◌, ap, subst⁻¹}
-use borrow.Author.Rules.{rules}
 use Rattle.calculus.specs.Profile.{common}
 use Rattle.step_spec.specs.Waiting.{NameSmall}
 use Rattle.step_spec.proofs.Theory.Waiting.{waiting_small}

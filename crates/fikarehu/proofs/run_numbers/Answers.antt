@@ -1,5 +1,4 @@
 use mathlib.Core.Path.{◌∙◌, ap, sym}
-use borrow.Author.Rules.{rules}
 use Rattle.fikarehu.specs.Numbers.{run_numbers}
 use Rattle.fikarehu.proofs.run_numbers.Goals as goal
 

@@ -1,6 +1,5 @@
 use mathlib.Core.Path.{ap, sym}
 use native.Mathlib.Omega.{arith}
-use borrow.Author.Rules.{rules}
 use Rattle.fikarehu.specs.Numbers.{step_numbers}
 use Rattle.fikarehu.proofs.step_numbers.Goals as goal
 

@@ -31,11 +31,11 @@ is_value-requires c = part_good _ _ _ _ (sym c.in-Nodes.is ∙ c.expression_node
 pub returns-then-not-is_value : goal.returns-then-not-is_value
 returns-then-not-is_value c =
     part_valueless _ _ _ _ c.requires.0 c.kind_at-kind.ensures c.if-kind-gt-CELL.false c.expression_at-expression.ensures
-    _ (sym c.in-Nodes.is ∙ c.expression_nodes.ensures) c.if-kind-eq-THREAD.false
-    (sym c.is_value.ensures ∙ c.if-not-is_value.true)
+    _ (sym c.in-Nodes.is ∙ c.expression_nodes.ensures)
+    c.if-kind-eq-THREAD.false (sym c.is_value.ensures ∙ c.if-not-is_value.true)
 
 pub returns : goal.returns
 returns c =
     part_cell _ _ _ _ c.requires.0 c.kind_at-kind.ensures c.if-kind-gt-CELL.false c.expression_at-expression.ensures
-    _ (sym c.in-Nodes.is ∙ c.expression_nodes.ensures) c.if-kind-eq-THREAD.false
-    (sym c.is_value.ensures ∙ c.if-not-is_value.false)
+    _ (sym c.in-Nodes.is ∙ c.expression_nodes.ensures)
+    c.if-kind-eq-THREAD.false (sym c.is_value.ensures ∙ c.if-not-is_value.false)

@@ -25,8 +25,8 @@ put_loaded-requires c =
 
 pub returns : goal.returns
 returns c =
-    let accepted : refusal c.args.recipe.now ≡ 0 = sym (number_is _ c.check-verdict.result c.check-verdict.ensures) ∙ c.if-refusal-ne0.false in
     let a = c.args in
     let w = c.put_loaded.ensures in
-    let (value, out_after) = loads common a.recipe.now a.out.now (omega (arith, c.if-out-lt-MAX_LENGTH.false)) accepted refl w.value w.out_after in
+    let (value, out_after) = loads common a.recipe.now a.out.now (omega (arith, c.if-out-lt-MAX_LENGTH.false))
+    (sym (number_is _ c.check-verdict.result c.check-verdict.ensures) ∙ c.if-refusal-ne0.false) refl w.value w.out_after in
     record { value = value; out_after = out_after }

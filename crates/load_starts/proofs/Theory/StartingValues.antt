@@ -13,7 +13,7 @@ use Rattle.calculus.specs.Bytes.{word}
 use Rattle.calculus.specs.Limits.{max_file_length, max_image_length}
 use Rattle.calculus.specs.Causes.{opening_cause, starting_cause}
 use Rattle.calculus.specs.Lowest.{first_cause}
-use Rattle.calculus.specs.Syntax.{at, thread_of}
+use Rattle.calculus.specs.Syntax.{thread_of}
 use Rattle.calculus.specs.Recipe.{loaded, setting_with, Starts}
 use Rattle.calculus.proofs.Theory.Lists.{append_left, at_replicate}
 use Rattle.calculus.proofs.Theory.Lowest.{first_cause_front, first_cause_rest, none_fits, not_answered}

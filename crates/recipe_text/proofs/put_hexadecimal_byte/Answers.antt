@@ -1,6 +1,5 @@
 -- `recipe_text::put_hexadecimal_byte` meets its contract: two digits in a row.
 use mathlib.Core.Path.{refl}
-use borrow.Author.Rules.{rules}
 use Rattle.buffer.proofs.Theory.Writes.{known_as, then}
 use Rattle.recipe_text.specs.Text.{hexadecimal_byte}
 use Rattle.recipe_text.proofs.put_hexadecimal_byte.Goals as goal

@@ -1,6 +1,5 @@
 -- `recipe_text::put_image_line` meets its contract: the word, the image, the end of the line.
 use native.Mathlib.Omega.{arith}
-use borrow.Author.Rules.{rules}
 use Rattle.buffer.proofs.Theory.Writes.{same, then}
 use Rattle.recipe_text.specs.Text.{image_line}
 use Rattle.recipe_text.proofs.Theory.Digits.{length_hexadecimal}

@@ -3,7 +3,6 @@ use mathlib.Core.Path.{◌≡◌, ap, sym}
 use mathlib.Core.List.{List}
 use Prim.Native.Nat.{◌≤◌, ℕ}
 use native.Mathlib.Omega.{arith}
-use borrow.Author.Rules.{rules}
 use lib.ListN.{length, take}
 use lib.Seq.{length-take-le}
 use Rattle.calculus.specs.Limits.{max_image_length}
@@ -63,9 +62,9 @@ put_image_line-requires c =
 pub returns : goal.returns
 returns c =
     let a = c.args in
-    let z : c.load-loaded.result.refusal ≡ 0 = omega (arith, c.if-loaded-ne0.false) in
-    let (inside, fits, image) = told c.args.recipe.now _ c.load-loaded.ensures.out_after c.load-loaded.ensures.value (omega arith) c.load-loaded.auto.out z in
-    let is-0 = accepted_told a.recipe.now c.load-loaded.ensures.value (omega arith) z in
+    let accepted : c.load-loaded.result.refusal ≡ 0 = omega (arith, c.if-loaded-ne0.false) in
+    let (inside, fits, image) = told c.args.recipe.now _ c.load-loaded.ensures.out_after c.load-loaded.ensures.value (omega arith) c.load-loaded.auto.out accepted in
+    let is-0 = accepted_told a.recipe.now c.load-loaded.ensures.value (omega arith) accepted in
     puts_image a.recipe.now a.text.now (omega (arith, c.if-text-lt-MAX_LENGTH.false)) is-0 fits
-    (known_as c.put_verdict_line-after_verdict.ensures (ap verdict_line z))
+    (known_as c.put_verdict_line-after_verdict.ensures (ap verdict_line accepted))
     (known_as c.put_image_line.ensures (ap image_line image))

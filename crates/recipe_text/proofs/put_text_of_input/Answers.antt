@@ -1,7 +1,6 @@
 -- `recipe_text::put_text_of_input` meets its contract.
 use mathlib.Core.Path.{sym}
 use native.Mathlib.Omega.{arith}
-use borrow.Author.Rules.{rules}
 use lib.ListN.{take}
 use lib.Seq.{length-take-le}
 use Rattle.text.proofs.Theory.Put.{inside, put_as}
