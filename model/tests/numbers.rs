@@ -118,7 +118,8 @@ fn value(text: &str, known: &Numbers) -> Option<u64> {
         .checked_sub(less)
 }
 
-/// The constants of the Rattle sources that are numbers, as `Type::NAME` or `crate::NAME`.
+/// The constants of the Rattle sources that are numbers, as `Type::NAME` or `crate::NAME`, and the
+/// variants of their enums that have numbers, as `Type::NAME` too.
 fn in_rattle() -> Numbers {
     let mut found = Numbers::new();
     for (package, source) in rattle_sources() {
@@ -127,6 +128,7 @@ fn in_rattle() -> Numbers {
             let (owner, body) = inside.split_once(" {").unwrap_or(("", ""));
             note_constants(&mut found, &package, outside);
             note_constants(&mut found, owner, body);
+            note_variants(&mut found, item);
         }
     }
     found
@@ -140,6 +142,29 @@ fn note_constants(found: &mut Numbers, owner: &str, text: &str) {
             assert_eq!(before, None, "{whole} has two places");
         }
     }
+}
+
+fn note_variants(found: &mut Numbers, item: &str) {
+    let (_, inside) = item.split_once("\npub enum ").unwrap_or((item, ""));
+    let (owner, body) = inside.split_once(" {").unwrap_or(("", ""));
+    for (name, value) in body.lines().filter_map(variant) {
+        let whole = format!("{owner}::{name}");
+        let before = found.insert(whole.clone(), value);
+        assert_eq!(before, None, "{whole} has two places");
+    }
+}
+
+/// `Name = value,`: the name as the header spells it, and the value.
+fn variant(line: &str) -> Option<(String, u64)> {
+    let (name, value) = line.trim().trim_end_matches(',').split_once(" = ")?;
+    let mut spelled = String::new();
+    for letter in name.chars() {
+        if letter.is_uppercase() && !spelled.is_empty() {
+            spelled.push('_');
+        }
+        spelled.push(letter.to_ascii_uppercase());
+    }
+    Some((spelled, value.parse().ok()?))
 }
 
 /// `pub const NAME: T = value` at the end of a statement: the name, and the text of the value.

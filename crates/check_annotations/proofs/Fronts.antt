@@ -1,7 +1,5 @@
 -- A pair or list front by the entry of its type.
-use mathlib.Core.Path.{◌≡◌, ap, refl, sym, ◌∙◌}
-use mathlib.Core.Bool.{Bool, cond, false, true}
-use Prim.Native.Nat.{ℕ}
+use Rattle.std.proofs.Common.{◌≡◌, ap, refl, sym, ◌∙◌, Bool, cond, false, true, ℕ}
 use Rattle.calculus.specs.Syntax.{Shape, at}
 use Rattle.calculus.specs.Table as calculus
 use Rattle.calculus.specs.Verdict.{is_kind_of, with_components}

@@ -1,7 +1,5 @@
 -- A leaf by its tag.
-use mathlib.Core.Path.{◌≡◌, refl}
-use mathlib.Core.Bool.{false, true}
-use Prim.Native.Nat.{◌≤◌, ℕ}
+use Rattle.std.proofs.Common.{◌≡◌, refl, false, true, ◌≤◌, ℕ}
 use Rattle.calculus.specs.Syntax.{const, Op, op, cell, exch, thread, handle}
 use Rattle.calculus.specs.Table.{Table}
 use Rattle.calculus.specs.Verdict.{annotated, annotated_const, cell_parts, exch_parts, handle_parts, is_function_kind, thread_parts}
@@ -43,3 +41,5 @@ module _ (T : Table) (tag arg : ℕ) (w : Entry) (whole : as_entry w ≡ entry_o
     pub handle_leaf : tag ≡ handle_tag → handle_parts T w.p w.q ≡ annotated T (leaf_exp tag arg)
     unfolding leaf_exp leaf_forms annotated annotated_const
     handle_leaf e = rw (e, on_function_is T arg (handle_parts T), ← whole, f) refl
+
+pub ruleset constants = (no_function, cell_leaf, exch_leaf, thread_leaf, handle_leaf)

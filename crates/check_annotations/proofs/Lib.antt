@@ -1,7 +1,5 @@
 -- Laws of cause 8.
 
--- tests one after the other
-mod Tests
 -- the types of constants, on the entries
 mod Instances
 -- a leaf by its tag

@@ -16,29 +16,19 @@ use recipe_table::Entry;
 use term::Node;
 
 // An entry is a function from p to q.
+#[tactic(auto, unfolding(crate::specs::Nodes::maps))]
 fn is_from_to(entry: Entry, p: u8, q: u8) -> bool
     ensures { result ≡ maps entry p q }
 {
-    if !check_types::is_function(entry.kind) {
-        return false;
-    }
-    if entry.p != p {
-        return false;
-    }
-    entry.q == q
+    check_types::is_function(entry.kind) && entry.p == p && entry.q == q
 }
 
 // An entry is a function from a to unit, usable once.
+#[tactic(auto, unfolding(crate::specs::Nodes::handle_of))]
 fn is_handle_of(entry: Entry, a: u8) -> bool
     ensures { result ≡ handle_of entry a }
 {
-    if entry.kind != Type::ONCE {
-        return false;
-    }
-    if entry.p != a {
-        return false;
-    }
-    entry.q == Type::UNIT_ENTRY
+    entry.kind == Type::ONCE && entry.p == a && entry.q == Type::UNIT_ENTRY
 }
 
 // Fig. 8: a to a ref. The type of the constant is a function with this entry, here and below.
@@ -46,10 +36,7 @@ fn is_cell_type(table: &[u8], whole: Entry) -> bool
     ensures { result ≡ cell_parts (table_of table.now) whole.p whole.q }
 {
     let result = check_types::entry_at(table, whole.q as usize);
-    if result.kind != Type::CELL {
-        return false;
-    }
-    result.p == whole.p
+    result.kind == Type::CELL && result.p == whole.p
 }
 
 // Fig. 8: a ref to (a to a).
@@ -58,10 +45,7 @@ fn is_exch_type(table: &[u8], whole: Entry) -> bool
 {
     let parameter = check_types::entry_at(table, whole.p as usize);
     let result = check_types::entry_at(table, whole.q as usize);
-    if parameter.kind != Type::CELL {
-        return false;
-    }
-    is_from_to(result, parameter.p, parameter.p)
+    parameter.kind == Type::CELL && is_from_to(result, parameter.p, parameter.p)
 }
 
 // Fig. 8: (a to a) to a, a of multiplicity many.
@@ -69,10 +53,7 @@ fn is_thread_type(table: &[u8], whole: Entry) -> bool
     ensures { result ≡ thread_parts (table_of table.now) whole.p whole.q }
 {
     let parameter = check_types::entry_at(table, whole.p as usize);
-    if !is_from_to(parameter, whole.q, whole.q) {
-        return false;
-    }
-    check_types::many_at(table, whole.q as usize)
+    is_from_to(parameter, whole.q, whole.q) && check_types::many_at(table, whole.q as usize)
 }
 
 // Document 01: "(a to ((a once to unit) to r)) to r, .. a of multiplicity many".
@@ -82,22 +63,15 @@ fn is_handle_type(table: &[u8], whole: Entry) -> bool
     let outer = check_types::entry_at(table, whole.p as usize);
     let inner = check_types::entry_at(table, outer.q as usize);
     let handle = check_types::entry_at(table, inner.p as usize);
-    if !check_types::is_function(outer.kind) {
-        return false;
-    }
-    if !check_types::is_function(inner.kind) {
-        return false;
-    }
-    if !is_handle_of(handle, outer.p) {
-        return false;
-    }
-    if inner.q != whole.q {
-        return false;
-    }
-    check_types::many_at(table, outer.p as usize)
+    check_types::is_function(outer.kind)
+        && check_types::is_function(inner.kind)
+        && is_handle_of(handle, outer.p)
+        && inner.q == whole.q
+        && check_types::many_at(table, outer.p as usize)
 }
 
 // The test of a constant that has a type: one from cell to handle.
+#[tactic(auto, using(crate::proofs::Leaves::constants))]
 pub fn constant_annotated(table: &[u8], tag: u8, arg: usize) -> bool
     requires { (arg < byte_values) × ((cell_tag ≤ tag) × (tag ≤ handle_tag)) }
     ensures { result ≡ annotated (table_of table.now) (leaf_exp tag arg) }
@@ -106,16 +80,12 @@ pub fn constant_annotated(table: &[u8], tag: u8, arg: usize) -> bool
     if !check_types::is_function(whole.kind) {
         return false;
     }
-    if tag == Node::CELL {
-        return is_cell_type(table, whole);
+    match tag {
+        Node::CELL => is_cell_type(table, whole),
+        Node::EXCH => is_exch_type(table, whole),
+        Node::THREAD => is_thread_type(table, whole),
+        _ => is_handle_type(table, whole),
     }
-    if tag == Node::EXCH {
-        return is_exch_type(table, whole);
-    }
-    if tag == Node::THREAD {
-        return is_thread_type(table, whole);
-    }
-    is_handle_type(table, whole)
 }
 
 // T-03: the type of node 10 is a pair, that of node 11 a list.

@@ -14,9 +14,10 @@ use Rattle.term.specs.Reader.{first_tree, Got, got, none, of_edition, one_term, 
 use Rattle.term.specs.Expressions.{term_of}
 use Rattle.term.proofs.Sizes.{nodes_exp}
 use Rattle.term.proofs.Views.{end_inside, nodes_inside}
+use Rattle.recipe_file.specs.declared.Edition.{Edition}
 use Rattle.recipe_file.specs.File.{bays, edition_of, part, term_bytes}
 use Rattle.recipe_file.specs.FileRule.{FileRule}
-use Rattle.term_scan.specs.declared.Part.TheVariants.{Nodes, NoTerm}
+use Rattle.std.proofs.Common.{None, Some}
 use Rattle.term_scan.specs.Extents.{exactly, part_of}
 use Rattle.term_scan.proofs.Answers.{part_single, Single}
 use Rattle.check_spec.specs.Bays.{bay_reading, bay_term}
@@ -48,12 +49,12 @@ one_part : (s : List ℕ) (bay n : ℕ) → Single (term_bytes s bay) n → form
 unfolding bay_single one_term of_edition
 one_part s bay n h f = rw (h.reads, f) refl
 
-module _ {s : List ℕ} {bay : ℕ} (l : FileRule s) (b : bay < bays s) {p : List ℕ} (is : p ≡ term_bytes s bay) {forms : ℕ} (has : forms ≡ (edition_of s).forms) where
+module _ {s : List ℕ} {bay : ℕ} (l : FileRule s) (b : bay < bays s) {p : List ℕ} (is : p ≡ term_bytes s bay) {edition : Edition} (has : edition ≡ edition_of s) where
   -- what is read of the part is what is read of the bay
-  same : part_of forms p ≡ part_of (edition_of s).forms (term_bytes s bay)
+  same : part_of edition.forms p ≡ part_of (edition_of s).forms (term_bytes s bay)
   same = rw (has, is) refl
 
-  pub counted_next : {total : ℕ} (n : ℕ) → NodesCounted s bay total → Nodes n ≡ part_of forms p → NodesCounted s (bay + 1) (total + n)
+  pub counted_next : {total : ℕ} (n : ℕ) → NodesCounted s bay total → Some n ≡ part_of edition.forms p → NodesCounted s (bay + 1) (total + n)
   unfolding sum_below bay_nodes bay_term
   counted_next {total} n c e =
       let (h, f) = part_single (edition_of s).forms (term_bytes s bay) n (e ∙ same) in
@@ -63,17 +64,17 @@ module _ {s : List ℕ} {bay : ℕ} (l : FileRule s) (b : bay < bays s) {p : Lis
         bound = omega (arith, c.bound, part_nodes s bay n l h);
       }
 
-  pub counted_not : NoTerm ≡ part_of forms p → NoTerm ≡ nodes_in s
+  pub counted_not : None ≡ part_of edition.forms p → None ≡ nodes_in s
   unfolding nodes_in part_of bay_single one_term
   counted_not e =
       rw (failed (bays s) (bay_single s) bay b (bay_single s bay) refl (over (bay_reading s bay) refl (e ∙ same))) refl
     where
-      over : (g : Got) → bay_reading s bay ≡ g → NoTerm ≡ exactly (bay_reading s bay) → one_term (bay_reading s bay) ≡ false
+      over : (g : Got) → bay_reading s bay ≡ g → None ≡ exactly (bay_reading s bay) → one_term (bay_reading s bay) ≡ false
       over none r q = rw r refl
-      over (got t []) r q = absurd (clash (let z : NoTerm ≡ exactly (got t []) = q ∙ ap exactly r in cc))
+      over (got t []) r q = absurd (clash (let z : None ≡ exactly (got t []) = q ∙ ap exactly r in cc))
       over (got t (x ∷ rest)) r q = rw r refl
 
-pub counted_all : {s : List ℕ} {bay total : ℕ} → NodesCounted s bay total → bays s ≤ bay → Nodes total ≡ nodes_in s
+pub counted_all : {s : List ℕ} {bay total : ℕ} → NodesCounted s bay total → bays s ≤ bay → Some total ≡ nodes_in s
 unfolding nodes_in
 counted_all {s} {bay} {total} c h =
     let z : bays s ≡ bay = omega (arith, c.passed.inside) in

@@ -17,9 +17,8 @@ use Rattle.term.proofs.Expressions.{edition_got}
 use Rattle.recipe_file.specs.File.{bays, edition_of, term_bytes}
 use Rattle.recipe_table.specs.Entries.{type_table}
 use Rattle.check_spec.specs.Bays.{bay_reading, bay_term}
-use Rattle.check_bays.specs.declared.Test.TheVariants.{Nesting, Scope}
 use Rattle.check_bays.specs.Terms.{bay_single, bay_nodes}
-use Rattle.check_bays.specs.Tests.{passes, bay_passes, each_passes}
+use Rattle.check_bays.specs.Tests.{all_scoped, all_shallow, bay_scoped, bay_shallow}
 use Rattle.check_bays.specs.Stages.{ScopedTerms, Terms}
 use Rattle.check_bays.proofs.Each.{part_below}
 
@@ -44,9 +43,9 @@ module _ {s : List ℕ} (t : Terms s) {bay : ℕ} (b : bay < bays s) where
 
 module _ {s : List ℕ} (c : ScopedTerms s) {bay : ℕ} (b : bay < bays s) {l : List ℕ} (e : l ≡ term_bytes s bay) where
   pub shallow_part : nesting (term_at l 0) ≤ max_nesting
-  unfolding each_passes bay_passes passes bay_term
-  shallow_part = rw e (leb_sound _ _ (each_below_sound (bays s) (bay_passes s Nesting) c.shallow bay b))
+  unfolding all_shallow bay_shallow bay_term
+  shallow_part = rw e (leb_sound _ _ (each_below_sound (bays s) (bay_shallow s) c.shallow bay b))
 
   pub scoped_part : scoped (length (type_table s)) (bays s) 0 (term_at l 0) ≡ true
-  unfolding each_passes bay_passes passes bay_term
-  scoped_part = rw e (each_below_sound (bays s) (bay_passes s Scope) c.scope bay b)
+  unfolding all_scoped bay_scoped bay_term
+  scoped_part = rw e (each_below_sound (bays s) (bay_scoped s) c.scope bay b)

@@ -1,14 +1,14 @@
 -- Document 01, causes 9 to 11: the types of all bays.
-use Rattle.std.specs.Prelude.{◌≡◌, Bool, true, List, [], ℕ}
+use Rattle.std.specs.Prelude.{Bool, not, true, List, [], ◌∷◌, ℕ}
 use Rattle.std.proofs.Math.Option.{Option}
+use Rattle.calculus.specs.Causes.{type_cause, linearity_cause, bay_once_cause}
+use Rattle.calculus.specs.Lowest.{Cause, cause, first_cause}
 use Rattle.calculus.specs.Lists.{each_below}
 use Rattle.calculus.specs.Table.{is_many}
 use Rattle.calculus.specs.Verdict.{linear, on_number, type_number}
 use Rattle.recipe_file.specs.File.{bays}
 use Rattle.recipe_table.specs.Entries.{type_table}
 use Rattle.check_spec.specs.Bays.{bay_term}
-use Rattle.check_spec.specs.Verdict.{bay_type_numbers}
-use Rattle.check_bays.specs.declared.BayTypes.{BayTypes}
 
 -- the number of the type of a bay's term
 unfoldable pub bay_number : List ℕ → ℕ → Option ℕ
@@ -26,9 +26,14 @@ has_many s bay = on_number (bay_number s bay) (is_many (type_table s))
 unfoldable pub bay_linear : List ℕ → ℕ → Bool
 bay_linear s bay = linear (type_table s) [] (bay_term s bay)
 
--- the answer about all bays; where one has no type, nothing is said of the rest
-pub record Numbered (s : List ℕ) (r : BayTypes) : Type 0 where
-  pub each : r.each ≡ each_below (bays s) (has_type s)
-  pub linear : r.each ≡ true → r.linear ≡ each_below (bays s) (bay_linear s)
-  pub many : r.each ≡ true → r.many ≡ each_below (bays s) (has_many s)
-  pub numbers : r.each ≡ true → r.numbers ≡ bay_type_numbers s
+-- causes 9 to 11 with their numbers, by the tests of all bays
+abbrev pub walk_causes : List ℕ → List Cause
+walk_causes s =
+    cause type_cause (not (each_below (bays s) (has_type s)))
+    ∷ cause linearity_cause (not (each_below (bays s) (bay_linear s)))
+    ∷ cause bay_once_cause (not (each_below (bays s) (has_many s)))
+    ∷ []
+
+-- the number of the first of them that fits, 0 where none does
+unfoldable pub types_refusal : List ℕ → ℕ
+types_refusal s = first_cause (walk_causes s)

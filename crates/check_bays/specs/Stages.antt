@@ -6,9 +6,8 @@ use Rattle.calculus.specs.Table.{TableRule}
 use Rattle.recipe_file.specs.File.{bays}
 use Rattle.recipe_file.specs.FileRule.{FileRule}
 use Rattle.recipe_table.specs.Entries.{type_table}
-use Rattle.check_bays.specs.declared.Test.TheVariants.{Nesting, Scope}
 use Rattle.check_bays.specs.Terms.{bay_single, bay_nodes}
-use Rattle.check_bays.specs.Tests.{each_passes}
+use Rattle.check_bays.specs.Tests.{all_scoped, all_shallow}
 
 -- no cause up to 5 fits, and the nodes are not above the limit
 pub record Terms (s : List ℕ) : Type 0 where
@@ -20,5 +19,5 @@ pub record Terms (s : List ℕ) : Type 0 where
 -- no cause up to 7 fits
 pub record ScopedTerms (s : List ℕ) : Type 0 where
   pub terms : Terms s
-  pub shallow : each_passes s Nesting ≡ true
-  pub scope : each_passes s Scope ≡ true
+  pub shallow : all_shallow s ≡ true
+  pub scope : all_scoped s ≡ true

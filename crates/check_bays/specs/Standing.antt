@@ -1,11 +1,9 @@
 -- None of document 01's causes 5 to 8 fits, over all bays.
-use Rattle.std.specs.Prelude.{Bool, ◌&&◌, false, true, List, ℕ, leb}
+use Rattle.std.specs.Prelude.{Bool, ◌&&◌, false, true, List, ℕ, leb, Option, None, Some}
 use Rattle.calculus.specs.Lists.{each_below, sum_below}
 use Rattle.calculus.specs.Limits.{max_recipe_nodes}
 use Rattle.calculus.specs.Verdict.{annotated}
 use Rattle.recipe_file.specs.File.{bays, edition_of, term_bytes}
-use Rattle.term_scan.specs.declared.Part.{Part}
-use Rattle.term_scan.specs.declared.Part.TheVariants.{Nodes, NoTerm}
 use Rattle.recipe_table.specs.Entries.{type_table}
 use Rattle.check_prescan.specs.Stands.{glance}
 use Rattle.check_spec.specs.Bays.{bay_term}
@@ -16,9 +14,9 @@ unfoldable pub bay_annotated : List ℕ → ℕ → Bool
 bay_annotated s bay = annotated (type_table s) (bay_term s bay)
 
 -- a part is a term
-abbrev pub is_term : Part → Bool
-is_term NoTerm = false
-is_term (Nodes n) = true
+abbrev pub is_term : Option ℕ → Bool
+is_term None = false
+is_term (Some n) = true
 
 -- none of causes 5 to 8 fits a bay's part, the nodes of the others apart
 unfoldable pub bay_stands : List ℕ → ℕ → Bool

@@ -1,11 +1,9 @@
 -- Document 01, cause 5, "a part is not exactly one term", with the nodes of all terms.
-use Rattle.std.specs.Prelude.{Bool, cond, List, ℕ}
+use Rattle.std.specs.Prelude.{Bool, cond, List, ℕ, Option, None, Some}
 use Rattle.calculus.specs.Lists.{each_below, sum_below}
 use Rattle.calculus.specs.Image.{nodes}
 use Rattle.term.specs.Reader.{one_term}
 use Rattle.recipe_file.specs.File.{bays}
-use Rattle.term_scan.specs.declared.Part.{Part}
-use Rattle.term_scan.specs.declared.Part.TheVariants.{Nodes, NoTerm}
 use Rattle.check_spec.specs.Bays.{bay_reading, bay_term}
 
 -- the part of a bay is one term
@@ -17,5 +15,5 @@ unfoldable pub bay_nodes : List ℕ → ℕ → ℕ
 bay_nodes s bay = nodes (bay_term s bay)
 
 -- the nodes of all terms, or that a part is no term
-unfoldable pub nodes_in : List ℕ → Part
-nodes_in s = cond (each_below (bays s) (bay_single s)) (Nodes (sum_below (bays s) (bay_nodes s))) NoTerm
+unfoldable pub nodes_in : List ℕ → Option ℕ
+nodes_in s = cond (each_below (bays s) (bay_single s)) (Some (sum_below (bays s) (bay_nodes s))) None

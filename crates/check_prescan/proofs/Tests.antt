@@ -12,8 +12,7 @@ use Rattle.calculus.specs.Table as calculus
 use Rattle.calculus.specs.Table.{Table}
 use Rattle.calculus.specs.Verdict.{annotated, annotated_const, is_function_kind, with_components}
 use Rattle.calculus.proofs.Theory.Tests.{and_parts, leb_sound, ltb_sound, true_of}
-use Rattle.term.specs.declared.Front.{Front}
-use Rattle.term.specs.declared.Front.TheVariants.{Bad, Is}
+use Rattle.std.proofs.Common.{Option, None, Some}
 use Rattle.term.specs.declared.Node.{Node}
 use Rattle.term.specs.Forms.{application_tag, cell_tag, exch_tag, form_of, forms, handle_tag, lambda_tag, list_tag, num_tag, pair_tag, refers_of, tags, to_name, to_nothing, thread_tag, to_type, to_variable, unit_tag, variable_tag}
 use Rattle.term.specs.Expressions.{leaf_exp, leaf_forms}
@@ -124,11 +123,11 @@ module _ (forms : ℕ) (T : Table) (names frame : ℕ) (h : Node) where
             record { known = k.known; typed = k.refers ∙ t; small = omega (arith, few, ltb_sound h.arg (length T) (rw t at there)) }
 
 -- the next node
-module _ (forms : ℕ) (T : Table) (names frame : ℕ) {front : Front} where
-  pub next_bad : front ≡ Bad → Bad ≡ next_node forms T names frame front
+module _ (forms : ℕ) (T : Table) (names frame : ℕ) {front : Option Node} where
+  pub next_bad : front ≡ None → None ≡ next_node forms T names frame front
   unfolding next_node
   next_bad e = rw e refl
 
-  pub next_picked : {h : Node} {b : Bool} → front ≡ Is h → node_stands forms T names frame h ≡ b → cond b (Is h) Bad ≡ next_node forms T names frame front
+  pub next_picked : {h : Node} {b : Bool} → front ≡ Some h → node_stands forms T names frame h ≡ b → cond b (Some h) None ≡ next_node forms T names frame front
   unfolding next_node
   next_picked e f = rw (e, f) refl

@@ -1,18 +1,14 @@
 -- A part to which none of causes 5 to 8 fits, apart from the number of nodes in all.
-use Rattle.std.specs.Prelude.{Bool, ◌&&◌, cond, false, true, List, [], ◌∷◌, ◌%◌, ◌/◌, ℕ, eqb, leb, ltb, length}
+use Rattle.std.specs.Prelude.{Bool, ◌&&◌, cond, false, true, List, [], ◌∷◌, ◌%◌, ◌/◌, ℕ, eqb, leb, ltb, length, Option, None, Some}
 use Rattle.calculus.specs.Limits.{byte_values, max_nesting}
 use Rattle.calculus.specs.Syntax.{at, Exp}
 use Rattle.calculus.specs.Table.{Table}
 use Rattle.calculus.specs.Verdict.{annotated, on_function, scoped, with_components}
-use Rattle.term.specs.declared.Front.{Front}
-use Rattle.term.specs.declared.Front.TheVariants.{Bad, Is}
 use Rattle.term.specs.declared.Node.{Node}
 use Rattle.term.specs.Forms.{lambda_tag}
 use Rattle.term.specs.Tree.{tree_nodes}
 use Rattle.term.specs.Reader.{Got, got, none, of_edition, read_term}
 use Rattle.term.specs.Expressions.{exp_of, leaf_exp, nesting}
-use Rattle.term_scan.specs.declared.Part.{Part}
-use Rattle.term_scan.specs.declared.Part.TheVariants.{Nodes, NoTerm}
 use Rattle.term_scan.specs.Scopes.{operand_scoped}
 use Rattle.check_types.specs.Two.{is_both_tag, shape_of}
 
@@ -21,13 +17,13 @@ unfoldable pub stands : Table → ℕ → Exp → Bool
 stands T names e = leb (nesting e) max_nesting && (scoped (length T) names 0 e && annotated T e)
 
 -- a part that is one such term has so many nodes
-abbrev pub exactly : Table → ℕ → Got → Part
-exactly T names none = NoTerm
-exactly T names (got t []) = cond (stands T names (exp_of t)) (Nodes (tree_nodes t)) NoTerm
-exactly T names (got t (x ∷ rest)) = NoTerm
+abbrev pub exactly : Table → ℕ → Got → Option ℕ
+exactly T names none = None
+exactly T names (got t []) = cond (stands T names (exp_of t)) (Some (tree_nodes t)) None
+exactly T names (got t (x ∷ rest)) = None
 
 -- the same of the bytes of a part, in an edition with so many node forms
-unfoldable pub glance : ℕ → Table → ℕ → List ℕ → Part
+unfoldable pub glance : ℕ → Table → ℕ → List ℕ → Option ℕ
 glance forms T names l = exactly T names (of_edition forms (read_term l))
 
 -- The walk
@@ -52,10 +48,10 @@ node_stands forms T names frame h =
     && (ltb (level_of frame) max_nesting && (operand_scoped (length T) names (around_of frame) h.refers h.arg && node_annotated T h.tag h.arg))
 
 -- a node that is there and stands
-unfoldable pub next_node : ℕ → Table → ℕ → ℕ → Front → Front
-next_node forms T names frame Bad = Bad
-next_node forms T names frame (Is h) = cond (node_stands forms T names frame h) (Is h) Bad
+unfoldable pub next_node : ℕ → Table → ℕ → ℕ → Option Node → Option Node
+next_node forms T names frame None = None
+next_node forms T names frame (Some h) = cond (node_stands forms T names frame h) (Some h) None
 
 -- behind the last node
-unfoldable pub ended : List ℕ → ℕ → ℕ → Part
-ended l here nodes = cond (ltb here (length l)) NoTerm (Nodes nodes)
+unfoldable pub ended : List ℕ → ℕ → ℕ → Option ℕ
+ended l here nodes = cond (ltb here (length l)) None (Some nodes)

@@ -12,15 +12,11 @@ ghost use Rattle.check_prescan.specs.Stands.{ended, glance, next_node, node_anno
 
 use numbers::{Byte, Recipe};
 use recipe_file::ENTRY_LENGTH;
-use term::{Form, Front, Node};
-use term_scan::Part;
-use term_walk::pass;
+use term::{Form, Node};
+use term_walk::{Frames, MAX_NESTED};
 
 // What a node above a term adds to its frame; a variable around it adds 1.
 const LEVEL: u16 = Byte::VALUES as u16;
-
-// The terms still to come: no more than there are nodes above the next one, and that one.
-const MAX_WAITS: usize = Recipe::MAX_NESTING + 1;
 
 // Cause 8 of a node whose number is that of a type, its subterms apart.
 fn type_stands(table: &[u8], tag: u8, arg: usize) -> bool
@@ -61,55 +57,51 @@ fn node_stands(forms: u8, table: &[u8], names: usize, node: Node, frame: u16) ->
 }
 
 // The next node, where none of causes 5 to 8 fits it.
-fn next_node(forms: u8, table: &[u8], names: usize, s: &[u8], here: usize, frame: u16) -> Front
+fn next_node(
+    forms: u8,
+    table: &[u8],
+    names: usize,
+    s: &[u8],
+    here: usize,
+    frame: u16,
+) -> Option<Node>
     requires { (length (table_of table.now) ≤ max_entries) × (here ≤ length s.now) }
     ensures { result ≡ next_node forms (table_of table.now) names frame (node_at s.now here) }
 {
-    let Front::Is(node) = term::node_at(s, here) else {
-        return Front::Bad;
-    };
+    let node = term::node_at(s, here)?;
     if !node_stands(forms, table, names, node, frame) {
-        return Front::Bad;
+        return None;
     }
-    Front::Is(node)
+    Some(node)
 }
 
 // The answer behind the last node.
-fn ended(s: &[u8], here: usize, nodes: usize) -> Part
+fn ended(s: &[u8], here: usize, nodes: usize) -> Option<usize>
     ensures { result ≡ ended s.now here nodes }
 {
     if here < s.len() {
-        return Part::NoTerm;
+        return None;
     }
-    Part::Nodes(nodes)
+    Some(nodes)
 }
 
 // The nodes of a part to which none of causes 5 to 8 fits in an edition with so many node forms, apart from the number of nodes in all; otherwise that there is
 // no such term.
-pub fn glance(forms: u8, table: &[u8], names: usize, s: &[u8]) -> Part
+pub fn glance(forms: u8, table: &[u8], names: usize, s: &[u8]) -> Option<usize>
     requires { length (table_of table.now) ≤ max_entries }
     ensures { result ≡ glance forms (table_of table.now) names s.now }
 {
-    let mut frames = [0u16; MAX_WAITS];
-    let mut waits: usize = 1;
+    let mut frames = Frames::<MAX_NESTED>::new();
     let mut here: usize = 0;
     let mut nodes: usize = 0;
-    while 0 < waits {
-        let frame = frames[waits - 1];
-        let Front::Is(node) = next_node(forms, table, names, s, here, frame) else {
-            return Part::NoTerm;
-        };
+    while 0 < frames.waits() {
+        let frame = frames.top();
+        let node = next_node(forms, table, names, s, here, frame)?;
         let size = node.size;
         let subterms = node.subterms;
         let below = frame + LEVEL;
         let binders = node.binders;
-        waits = pass(
-            &mut frames,
-            waits,
-            subterms,
-            below,
-            below + (binders as u16),
-        );
+        frames.pass(subterms, below, below + (binders as u16));
         here += size;
         nodes += 1;
     }

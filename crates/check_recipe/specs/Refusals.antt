@@ -5,8 +5,7 @@ use Rattle.calculus.specs.Lowest.{Cause, cause, first_cause}
 use Rattle.calculus.specs.Lists.{each_below}
 use Rattle.recipe_file.specs.File.{bays}
 use Rattle.check_spec.specs.Bays.{term_causes}
-use Rattle.check_bays.specs.declared.Test.TheVariants.{Scope}
-use Rattle.check_bays.specs.Tests.{each_passes}
+use Rattle.check_bays.specs.Tests.{all_scoped}
 use Rattle.check_bays.specs.Standing.{bay_annotated}
 
 -- causes 5 and 6
@@ -15,7 +14,7 @@ terms_refusal s = first_cause (term_causes s)
 
 -- causes 7 and 8 with their numbers, by the tests of all bays
 abbrev pub scope_causes : List ℕ → List Cause
-scope_causes s = cause scope_cause (not (each_passes s Scope)) ∷ cause annotation_cause (not (each_below (bays s) (bay_annotated s))) ∷ []
+scope_causes s = cause scope_cause (not (all_scoped s)) ∷ cause annotation_cause (not (each_below (bays s) (bay_annotated s))) ∷ []
 
 -- causes 5 to 8
 unfoldable pub parts_refusal : List ℕ → ℕ

@@ -13,7 +13,7 @@ use Rattle.term.specs.Expressions.{term_at, term_of}
 use Rattle.term.proofs.Sizes.{nodes_exp}
 use Rattle.term.proofs.Views.{end_inside, nodes_inside}
 use Rattle.recipe_file.specs.File.{bays, edition_of, term_bytes}
-use Rattle.recipe_file.specs.FileRule.{FileRule, HasBay}
+use Rattle.recipe_file.specs.FileRule.{FileRule}
 use Rattle.check_spec.specs.Bays.{bay_reading, bay_term, cause_5}
 use Rattle.check_spec.specs.Verdict.{refusal}
 use Rattle.check_spec.proofs.Theory.Accepted.{laid_and_started, no_cause_iff}
@@ -31,9 +31,6 @@ module _ (s : List ℕ) (accepted : refusal s ≡ 0) where
   few_bays = laid.has_parts.high
 
   module _ {bay : ℕ} (below : bay < bays s) where
-    pub has_bay : HasBay s bay
-    has_bay = record { laid = laid; below = below }
-
     -- the part is a term, the bay's
     pub good_part : {l : List ℕ} → l ≡ term_bytes s bay → GoodAt l 0
     unfolding cause_5

@@ -8,5 +8,3 @@ pub mod Known
 pub mod Settings
 -- what each bay owns in the starting image; cause 21 bay by bay
 pub mod Shares
--- both as one test
-pub mod Each

@@ -1,4 +1,4 @@
--- Document 02, T-09: causes 20 and 21 bay by bay (proofs/Each, `fails_is`), and cause 20 node by node (proofs/Owning, `own_of`).
+-- Document 02, T-09: causes 20 and 21 bay by bay (proofs/Settings, `cause_20_is`; proofs/Shares, `cause_21_is`), and cause 20 node by node (proofs/Owning, `own_of`).
 use Rattle.std.specs.Prelude.{Bool, cond, true, List, ◌+◌, ℕ, eqb, leb}
 use Rattle.calculus.specs.Image.{nodes}
 use Rattle.calculus.specs.Profile.{names_only}
@@ -6,9 +6,6 @@ use Rattle.calculus.specs.Shares.{nodes_share}
 use Rattle.term.specs.Forms.{to_name}
 use Rattle.recipe_file.specs.File.{bays}
 use Rattle.check_spec.specs.Bays.{bay_term}
-use Rattle.load_spec.specs.Loading.{cause_20, cause_21}
-use Rattle.check_separate.specs.declared.Test.{Test}
-use Rattle.check_separate.specs.declared.Test.TheVariants.{OwnSetting, WithinShare}
 
 -- the operand of a node is `own`, where it is a name
 unfoldable pub own_operand : ℕ → ℕ → ℕ → Bool
@@ -25,13 +22,3 @@ starting_nodes s bay = 1 + nodes (bay_term s bay)
 -- these are within the bay's share of nodes
 unfoldable pub bay_fits : List ℕ → ℕ → Bool
 bay_fits s bay = leb (starting_nodes s bay) (nodes_share (bays s))
-
--- a bay passes a test
-unfoldable pub bay_passes : List ℕ → Test → ℕ → Bool
-bay_passes s OwnSetting bay = bay_owns s bay
-bay_passes s WithinShare bay = bay_fits s bay
-
--- some bay fails it
-unfoldable pub some_fails : List ℕ → Test → Bool
-some_fails s OwnSetting = cause_20 s
-some_fails s WithinShare = cause_21 s

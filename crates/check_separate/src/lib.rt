@@ -5,21 +5,14 @@ ghost use Rattle.std.specs.Prelude.{◌≡◌, ◌<◌};
 ghost use Rattle.calculus.specs.Profile.{names_only};
 ghost use Rattle.term.specs.Reader.{GoodAt};
 ghost use Rattle.term.specs.Expressions.{term_at};
-ghost use Rattle.recipe_file.specs.File.{edition_of, bays};
+ghost use Rattle.recipe_file.specs.File.{bays};
 ghost use Rattle.check_spec.specs.Verdict.{refusal};
-ghost use Rattle.check_separate.specs.Tests.{bay_fits, bay_owns, bay_passes, own_operand, some_fails};
+ghost use Rattle.load_spec.specs.Loading.{cause_20, cause_21};
+ghost use Rattle.check_separate.specs.Tests.{bay_fits, bay_owns, own_operand};
 
 use numbers::Image;
-use recipe_file::{Edition, bay_count, term_bytes};
-use term::{Form, Front};
-use term_scan::Extent;
-
-// What a bay is asked: that it names only its own setting, and that it starts within its share.
-#[derive(Clone, Copy)]
-pub enum Test {
-    OwnSetting,
-    WithinShare,
-}
+use recipe_file::RecipeFile;
+use term::Form;
 
 // How many nodes a setting has: a num.
 const SETTING_NODES: usize = 1;
@@ -42,9 +35,7 @@ fn names_only(s: &[u8], at: usize, own: usize) -> bool
     let mut here = at;
     let mut waits: usize = 1;
     while 0 < waits {
-        let Front::Is(node) = term::node_at(s, here) else {
-            return false;
-        };
+        let node = term::node_at(s, here).unwrap();
         let size = node.size;
         let subterms = node.subterms;
         if !is_own(node.refers, node.arg, own) {
@@ -57,50 +48,37 @@ fn names_only(s: &[u8], at: usize, own: usize) -> bool
 }
 
 // A bay's term names only the bay's own setting.
-fn bay_owns(recipe: &[u8], edition: Edition, bay: usize) -> bool
-    requires { (refusal recipe.now ≡ 0) × (bay < bays recipe.now) × (edition ≡ edition_of recipe.now) }
-    ensures { result ≡ bay_owns recipe.now bay }
+fn bay_owns(recipe: RecipeFile, bay: usize) -> bool
+    requires { (refusal recipe.bytes.now ≡ 0) × (bay < bays recipe.bytes.now) }
+    ensures { result ≡ bay_owns recipe.entry.bytes.now bay }
 {
-    let term = term_bytes(recipe, edition, bay);
+    let term = recipe.term(bay);
     names_only(term, 0, bay)
 }
 
 // A bay starts with no more nodes than its share: those of its setting and of its term. Its names are two, and no share is less.
-fn bay_fits(recipe: &[u8], edition: Edition, bay: usize) -> bool
-    requires { (refusal recipe.now ≡ 0) × (bay < bays recipe.now) × (edition ≡ edition_of recipe.now) }
-    ensures { result ≡ bay_fits recipe.now bay }
+fn bay_fits(recipe: RecipeFile, bay: usize) -> bool
+    requires { (refusal recipe.bytes.now ≡ 0) × (bay < bays recipe.bytes.now) }
+    ensures { result ≡ bay_fits recipe.entry.bytes.now bay }
 {
-    let share = Image::MAX_NODES / bay_count(recipe, edition);
-    let term = term_bytes(recipe, edition, bay);
-    let Extent::Ends(_, nodes) = term_scan::scan(term, 0) else {
-        return false;
-    };
-    SETTING_NODES + nodes <= share
+    let share = Image::MAX_NODES / recipe.bays();
+    let term = recipe.term(bay);
+    let found = term_scan::scan(term, 0).unwrap();
+    SETTING_NODES + found.nodes <= share
 }
 
-// A bay passes a test.
-fn bay_passes(recipe: &[u8], edition: Edition, bay: usize, test: Test) -> bool
-    requires { (refusal recipe.now ≡ 0) × (bay < bays recipe.now) × (edition ≡ edition_of recipe.now) }
-    ensures { result ≡ bay_passes recipe.now test bay }
+// Cause 20: some bay names another's setting.
+pub fn some_name_another(recipe: RecipeFile) -> bool
+    requires { refusal recipe.bytes.now ≡ 0 }
+    ensures { result ≡ cause_20 recipe.entry.bytes.now }
 {
-    match test {
-        Test::OwnSetting => bay_owns(recipe, edition, bay),
-        Test::WithinShare => bay_fits(recipe, edition, bay),
-    }
+    !(0..recipe.bays()).all(|bay| bay_owns(recipe, bay))
 }
 
-// Some bay fails a test: cause 20 or 21.
-pub fn some_fails(recipe: &[u8], edition: Edition, test: Test) -> bool
-    requires { (refusal recipe.now ≡ 0) × (edition ≡ edition_of recipe.now) }
-    ensures { result ≡ some_fails recipe.now test }
+// Cause 21: some bay starts above its share.
+pub fn some_start_above(recipe: RecipeFile) -> bool
+    requires { refusal recipe.bytes.now ≡ 0 }
+    ensures { result ≡ cause_21 recipe.entry.bytes.now }
 {
-    let bays = bay_count(recipe, edition);
-    let mut bay: usize = 0;
-    while bay < bays {
-        if !bay_passes(recipe, edition, bay, test) {
-            return true;
-        }
-        bay += 1;
-    }
-    false
+    !(0..recipe.bays()).all(|bay| bay_fits(recipe, bay))
 }

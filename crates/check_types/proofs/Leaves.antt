@@ -1,32 +1,13 @@
--- Terms with no subterm, by their tags: the number after the tag is in scope, and the type has its number.
-use mathlib.Core.Path.{◌≡◌, refl, subst, sym}
-use mathlib.Core.Bool.{true}
-use mathlib.Core.List.{List}
-use Prim.Native.Nat.{◌-◌, ◌<◌, ◌≤◌, ℕ}
-use native.Mathlib.Omega.{arith}
-use borrow.Author.Tests.{ltb-true}
-use lib.ListN.{get_or}
+-- Terms with no subterm, by their tags: the number of the type.
+use Rattle.std.proofs.Common.{◌≡◌, refl, subst, sym, List, ◌-◌, ◌<◌, ◌≤◌, ℕ, arith, get_or}
 use Rattle.term.proofs.Leaves.{leaf_variable, leaf_num, leaf_name, leaf_unit, leaf_op, leaf_unknown}
 use Rattle.term.specs.Forms.{variable_tag, num_tag, cell_tag, handle_tag, name_tag}
 use Rattle.calculus.specs.Kinds.{unit_entry, num_entry, setting_entry}
-use Rattle.calculus.specs.Limits.{byte_values}
-use Rattle.calculus.specs.Syntax.{const, Exp, op, unit, var}
-use Rattle.calculus.specs.Verdict.{const_number, scoped, scoped_const, type_number}
+use Rattle.calculus.specs.Syntax.{const, Exp, unit}
+use Rattle.calculus.specs.Verdict.{const_number, type_number}
 use Rattle.term.specs.Expressions.{leaf_exp}
-use Rattle.check_types.specs.Walk.{environment, HasNumber, ScopedExp}
+use Rattle.check_types.specs.Walk.{environment, HasNumber}
 use Rattle.check_types.proofs.Environments.{environment_at}
-
-module _ (tag arg count above : ℕ) (s : ScopedExp count above (leaf_exp tag arg)) where
-  scope : (e : Exp) → leaf_exp tag arg ≡ e → scoped count s.names above e ≡ true
-  scope e is = subst (λ x. scoped count s.names above x ≡ true) is s.scope
-
-  pub variable_below : tag ≡ variable_tag → arg < above
-  unfolding scoped
-  variable_below e = ltb-true arg above (scope (var arg) (leaf_variable tag arg e))
-
-  pub op_below : cell_tag ≤ tag → tag ≤ handle_tag → arg < byte_values
-  unfolding scoped scoped_const
-  op_below l h = let (o, is) = leaf_op tag arg l h in omega (arith, ltb-true arg count (scope (const (op o arg)) is), s.entries)
 
 has : {Δ : List ℕ} {e e' : Exp} {n : ℕ} → e ≡ e' → HasNumber Δ e' n → HasNumber Δ e n
 has {Δ} {e} {e'} {n} is h = subst (λ x. HasNumber Δ x n) (sym is) h
@@ -49,12 +30,15 @@ module _ (tag arg : ℕ) where
     unfolding type_number
     name_number e = has (leaf_name tag arg e) (record { number = λ T. refl })
 
-    pub low_number : (tag ≡ variable_tag → ⊥) → (tag ≡ num_tag → ⊥) → tag < cell_tag → HasNumber Δ (leaf_exp tag arg) unit_entry
-    low_number a b h = has (leaf_unit tag arg a b h) (unit_number Δ)
+    -- the tags of lambda, application and unit
+    pub low_number : variable_tag < tag → tag < num_tag → HasNumber Δ (leaf_exp tag arg) unit_entry
+    low_number l h = has (leaf_unit tag arg (λ e. omega (arith, e)) (λ e. omega (arith, e)) (omega arith)) (unit_number Δ)
 
-    pub high_number : (tag ≡ name_tag → ⊥) → handle_tag < tag → HasNumber Δ (leaf_exp tag arg) unit_entry
-    high_number a h = has (leaf_unknown tag arg (omega arith)) (unit_number Δ)
+    pub high_number : name_tag < tag → HasNumber Δ (leaf_exp tag arg) unit_entry
+    high_number h = has (leaf_unknown tag arg (omega arith)) (unit_number Δ)
 
     pub op_number : cell_tag ≤ tag → tag ≤ handle_tag → HasNumber Δ (leaf_exp tag arg) arg
     unfolding type_number const_number
     op_number l h = let (o, is) = leaf_op tag arg l h in has is (record { number = λ T. refl })
+
+pub ruleset leaves = (variable_number, num_number, name_number, low_number, high_number, op_number)

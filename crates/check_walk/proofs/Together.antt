@@ -18,17 +18,15 @@ use Rattle.recipe_table.specs.Filled.{as_entry}
 use Rattle.check_linearity.specs.Spend.{due_mark, new_mark}
 use Rattle.check_linearity.specs.Levels.{floor_under}
 use Rattle.check_linearity.proofs.Theory.Walks.{walked_whole as walk_decides}
-use Rattle.check_types.specs.declared.Typed.TheVariants as typing
+use Rattle.std.proofs.Common.{None, Some}
 use Rattle.check_types.specs.Entries.{entry_of}
 use Rattle.check_types.specs.Two.{can_open, deciding, opened, scope_inside, second_component, two_number}
-use Rattle.check_types.specs.Walk.{environment, HasNumber, typed_at, typed}
+use Rattle.check_types.specs.Walk.{environment, has, HasNumber, typed_at, typed}
 use Rattle.check_types.proofs.Entries.{entry_there}
 use Rattle.check_types.proofs.Environments.{environment_more}
 use Rattle.check_types.proofs.TwoNodes.{environment_inside, environment_outside, length_opened, TwoNode}
 use Rattle.check_types.proofs.Walks.{first_number_is, leaf_type, one_nothing, one_type, second_at, two_closed, two_nothing, two_nothing_second, two_type}
-use Rattle.check_walk.specs.declared.Walked.{Walked as Answer}
-use Rattle.check_walk.specs.declared.Walked.TheVariants.{Has, Nothing}
-use Rattle.check_walk.specs.Walk.{all_used, Decides, lambda_answer, Left, LeafSpent, Opened, two_answer, types_in, WalkedAt, with_uses}
+use Rattle.check_walk.specs.Walk.{all_used, Answer, Decides, lambda_answer, Left, LeafSpent, Opened, two_answer, types_in, walked, WalkedAt, with_uses}
 use Rattle.check_walk.proofs.Walks.{lambda_spent, two_spent}
 
 -- a lambda that has a type has a function's entry
@@ -40,15 +38,24 @@ is_function x t body n e = go (is_function_kind x.kind) e
     go true e = refl
     go false e = absurd (clash (cc))
 
+-- answers are equal with their parts
+kept_in : Answer → Bool
+kept_in None = false
+kept_in (Some x) = x.kept
+
+same_kept : {n m end end' : ℕ} {j k : Bool} → walked n end j ≡ walked m end' k → j ≡ k
+unfolding kept_in
+same_kept e = ap kept_in e
+
 module _ {T : calculus.Table} {s : List ℕ} {at above floor : ℕ} {env marks : List ℕ} where
-  nothing_at : {env' marks' : List ℕ} → typing.Nothing ≡ typed_at T (environment above env) s at → WalkedAt T s at above floor env env' marks marks' Nothing
+  nothing_at : {env' marks' : List ℕ} → None ≡ typed_at T (environment above env) s at → WalkedAt T s at above floor env env' marks marks' None
   unfolding types_in
   nothing_at e = record { types = e; left = λ n end kept q. absurd (clash (cc)) }
 
-  has_at : {env' marks' : List ℕ} {n end : ℕ} {k : Bool} → typing.Has n end ≡ typed_at T (environment above env) s at →
-      Left T s at above floor env env' marks marks' k → WalkedAt T s at above floor env env' marks marks' (Has n end k)
+  has_at : {env' marks' : List ℕ} {n end : ℕ} {k : Bool} → has n end ≡ typed_at T (environment above env) s at →
+      Left T s at above floor env env' marks marks' k → WalkedAt T s at above floor env env' marks marks' (walked n end k)
   unfolding types_in
-  has_at {k = k} e l = record { types = e; left = λ m last kept q. let w : kept ≡ k = cc in rw w l }
+  has_at {k = k} e l = record { types = e; left = λ m last kept q. let w : kept ≡ k = sym (same_kept q) in rw w l }
 
   -- a type that was found, with its uses
   found_at : {env' marks' : List ℕ} (o : Option ℕ) (end : ℕ) (k : Bool) → typed o end ≡ typed_at T (environment above env) s at →
@@ -59,18 +66,18 @@ module _ {T : calculus.Table} {s : List ℕ} {at above floor : ℕ} {env marks :
 
 -- what a sub-walk answers
 type_of : {T : calculus.Table} {s : List ℕ} {at above floor : ℕ} {env env' marks marks' : List ℕ} {r : Answer} {n end : ℕ} {k : Bool} →
-    WalkedAt T s at above floor env env' marks marks' r → r ≡ Has n end k → typing.Has n end ≡ typed_at T (environment above env) s at
+    WalkedAt T s at above floor env env' marks marks' r → r ≡ walked n end k → has n end ≡ typed_at T (environment above env) s at
 unfolding types_in
 type_of w e = sym (ap types_in e) ∙ w.types
 
 none_of : {T : calculus.Table} {s : List ℕ} {at above floor : ℕ} {env env' marks marks' : List ℕ} {r : Answer} →
-    WalkedAt T s at above floor env env' marks marks' r → r ≡ Nothing → typing.Nothing ≡ typed_at T (environment above env) s at
+    WalkedAt T s at above floor env env' marks marks' r → r ≡ None → None ≡ typed_at T (environment above env) s at
 unfolding types_in
 none_of w e = sym (ap types_in e) ∙ w.types
 
 module _ (T : calculus.Table) (s : List ℕ) (at above floor : ℕ) (env marks : List ℕ) (h : Node) where
   pub walked_leaf : {marks' : List ℕ} {n : ℕ} {k : Bool} → LeafAt s at h → HasNumber (environment above env) (leaf_exp h.tag h.arg) n →
-      LeafSpent h.tag h.arg above floor marks marks' k → WalkedAt T s at above floor env env marks marks' (Has n (at + h.size) k)
+      LeafSpent h.tag h.arg above floor marks marks' k → WalkedAt T s at above floor env env marks marks' (walked n (at + h.size) k)
   walked_leaf {n = n} l t w = has_at (leaf_type T (environment above env) s at h l n t) (record { spent = rw l.term (w.walked T (environment above env)); same = w.same; around = refl; wide = refl })
 
   -- a lambda whose type has this entry
@@ -88,9 +95,10 @@ module _ (T : calculus.Table) (s : List ℕ) (at above floor : ℕ) (env marks :
     pub walked_lambda : (r : Answer) {answer : Answer} → WalkedAt T s (at + h.size) (above + 1) under (set env above x.p) env₁ (set marks above mark) marks₁ r →
         answer ≡ lambda_answer (as_entry x) h.arg r (get_or marks₁ above 0) → WalkedAt T s at above floor env env₁ marks marks₁ answer
     unfolding lambda_answer
-    walked_lambda Nothing w q =
+    walked_lambda None w q =
         rw q (nothing_at (one_nothing T (environment above env) s at h o (none_of w refl ∙ ap (λ (y : List ℕ). typed_at T y s (at + h.size)) inner)))
-    walked_lambda (Has b end k) w q =
+    walked_lambda (Some x₁) w q =
+        let (b, (end, k)) : ℕ × (ℕ × Bool) = (x₁.number, (x₁.end, x₁.kept)) in
         let l = w.left b end k refl in
         let t = ap (λ (y : calculus.Entry). typed (lambda_number h.arg (some y) (λ p. some b)) end) entry in
         rw q
@@ -111,17 +119,17 @@ module _ (T : calculus.Table) (s : List ℕ) (at above floor : ℕ) (env marks :
     abbrev Δ : List ℕ
     Δ = environment above env
 
-    pub walked_no_first : {env' marks' : List ℕ} → r ≡ Nothing → WalkedAt T s at above floor env env' marks marks' Nothing
+    pub walked_no_first : {env' marks' : List ℕ} → r ≡ None → WalkedAt T s at above floor env env' marks marks' None
     walked_no_first e = nothing_at (two_nothing T Δ s at h o k (none_of w e))
 
-    module _ (n second : ℕ) (kept : Bool) (e : r ≡ Has n second kept) where
+    module _ (n second : ℕ) (kept : Bool) (e : r ≡ walked n second kept) where
       pub second_is : past_first s at h ≡ second
       second_is = second_at T Δ s at h o k n second (type_of w e)
 
       -- the type with number t has entry x, which decides
       module _ (t : ℕ) (is_t : t ≡ deciding h.tag h.arg n) (x : Entry) (entry : as_entry x ≡ entry_of T t) where
         -- a case's subject is of another kind
-        pub walked_closed : {env' marks' : List ℕ} → can_open h.tag x.kind ≡ false → WalkedAt T s at above floor env env' marks marks' Nothing
+        pub walked_closed : {env' marks' : List ℕ} → can_open h.tag x.kind ≡ false → WalkedAt T s at above floor env env' marks marks' None
         walked_closed c = nothing_at (two_closed T Δ s at h o k n second (type_of w e) t is_t (as_entry x) entry c)
 
         -- the second subterm was walked in its scope
@@ -136,9 +144,10 @@ module _ (T : calculus.Table) (s : List ℕ) (at above floor : ℕ) (env marks :
               (opened h.binders env₁ above x.p q) env₂ (opened h.binders marks₁ above (new_mark T x.p) (new_mark T q)) marks₂ r₂ →
               WalkedAt T s at above floor env env₂ marks marks₂ (two_answer h.tag (as_entry x) t n (kept && all_used h.binders marks₂ above) r₂)
           unfolding two_answer
-          two_answered env₂ marks₂ Nothing v =
+          two_answered env₂ marks₂ None v =
               nothing_at (two_nothing_second T Δ s at h o k n second (type_of w e) t is_t (as_entry x) entry opens (none_of v refl ∙ ap (λ (y : List ℕ). typed_at T y s second) scope))
-          two_answered env₂ marks₂ (Has a end k₂) v =
+          two_answered env₂ marks₂ (Some x₂) v =
+              let (a, (end, k₂)) : ℕ × (ℕ × Bool) = (x₂.number, (x₂.end, x₂.kept)) in
               let c = v.left a end k₂ refl in
               let b = w.left _ _ _ e in
               found_at (two_number h.tag (as_entry x) t n a) end ((kept && all_used h.binders marks₂ above) && k₂)

@@ -7,10 +7,11 @@ use Prim.Native.Nat.{◌+◌, ◌<◌, ◌≤◌, suc, zero, ℕ}
 use native.Mathlib.Nat.{add-zero}
 use lib.Dec.{eqb, T}
 use lib.ListN.{drop, get_or, length, set}
+use Rattle.std.proofs.Math.ListN.{get_or-map}
 use Rattle.calculus.specs.Syntax.{app, at as entry_at, both, case_of, const, Exp, lam, list, name, pair, Shape, unit, var}
 use Rattle.calculus.specs.Table.{Entry, Table}
 use Rattle.calculus.specs.Verdict.{is_function_kind, is_kind_of, second_number, type_number}
-use Rattle.calculus.proofs.Theory.Tests.{eqb_complete, eqb_differ, eqb_sound}
+use Rattle.calculus.proofs.Theory.Tests.{eqb_complete, eqb_sound}
 use Rattle.term.specs.declared.Node.{Node}
 use Rattle.term.specs.Forms.{is_case_tag, variable_tag}
 use Rattle.term.specs.Expressions.{both_tag, case_tag, leaf_exp, leaf_forms, term_at, two_exp, two_forms}
@@ -25,6 +26,9 @@ use Rattle.check_types.specs.Entries.{entry_of}
 use Rattle.check_types.specs.Two.{can_open, deciding, is_both_tag, is_list_tag, opened, scope_inside, second_component, shape_of}
 use Rattle.check_types.proofs.Entries.{entry_there}
 use Rattle.check_types.proofs.TwoNodes.{a_both, a_case, an_application, TwoNode}
+use Rattle.check_walk.specs.declared.Mark.{Mark}
+use Rattle.check_walk.specs.declared.Mark.TheVariants.{Many}
+use Rattle.check_walk.specs.Marks.{number_of, numbers}
 use Rattle.check_walk.specs.Walk.{all_used, LeafSpent, Opened}
 
 not_due : {mark : ℕ} → eqb mark due_mark ≡ false → ¬ (mark ≡ due_mark)
@@ -99,16 +103,11 @@ opened_both zero n first second = absurd (n refl)
 opened_both (suc binders) n first second = record { types = refl; due = rw (first, second); level = refl }
 
 -- whether these are used
-pub first_due : (binders : ℕ) (marks : List ℕ) (above : ℕ) → ¬ (binders ≡ 0) → get_or marks above 0 ≡ due_mark → not (eqb (get_or marks above 0) due_mark) ≡ all_used binders marks above
+pub both_used : (binders : ℕ) (marks : List Mark) (above : ℕ) {x y : Bool} → ¬ (binders ≡ 0) → x ≡ not (eqb (number_of (get_or marks above Many)) due_mark) →
+    y ≡ not (eqb (number_of (get_or marks (above + 1) Many)) due_mark) → (x && y) ≡ all_used binders (numbers marks) above
 unfolding all_used
-first_due zero marks above n d = absurd (n refl)
-first_due (suc binders) marks above n d = rw (eqb_complete (get_or marks above 0) due_mark d)
-
-pub second_decides : (binders : ℕ) (marks : List ℕ) (above : ℕ) → ¬ (binders ≡ 0) → ¬ (get_or marks above 0 ≡ due_mark) →
-    not (eqb (get_or marks (above + 1) 0) due_mark) ≡ all_used binders marks above
-unfolding all_used
-second_decides zero marks above n d = absurd (n refl)
-second_decides (suc binders) marks above n d = rw (eqb_differ (get_or marks above 0) due_mark d)
+both_used zero marks above n first second = absurd (n refl)
+both_used (suc binders) marks above n first second = rw (first, second, get_or-map number_of marks above Many, get_or-map number_of marks (above + 1) Many)
 
 -- an unused entry is neither pair nor list
 unit_kind : (s : Shape) → is_kind_of s 0 ≡ false

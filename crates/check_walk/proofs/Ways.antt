@@ -11,16 +11,19 @@ use lib.ListN.{length}
 use Rattle.calculus.specs.Limits.{max_entries, max_variables}
 use Rattle.calculus.specs.Syntax.{Exp, list, pair}
 use Rattle.calculus.specs.Table.{Table}
-use Rattle.calculus.specs.Verdict.{scoped}
+use Rattle.calculus.specs.Verdict.{scoped, scoped_const}
 use Rattle.calculus.proofs.Theory.Tests.{and_parts, ltb_sound}
 use Rattle.term.specs.declared.Node.{Node}
-use Rattle.term.specs.Expressions.{both_tag, case_tag, leaf_exp, nesting, term_at, two_exp, two_forms}
-use Rattle.term.proofs.Leaves.{leaf_variable}
+use Rattle.term.specs.Expressions.{both_tag, case_tag, nesting, term_at, two_exp, two_forms}
+use Rattle.term.proofs.Leaves.{leaf_op, leaf_variable}
 use Rattle.term.proofs.Shapes.{nesting_two}
-use Rattle.term.proofs.Views.{LeafAt, OneAt, past_first, TwoAt}
+use Rattle.std.proofs.Common.{Some}
+use Rattle.term.specs.Forms.{lambda_tag}
+use Rattle.term.specs.Reader.{GoodAt, node_at}
+use Rattle.term.proofs.Views.{lambda_one, LeafAt, node_there, NodeAt, one_from, OneAt, past_first, rest_two, two_from, TwoAt}
 use Rattle.check_types.specs.Two.{Annotated, is_both_tag}
-use Rattle.check_types.specs.Walk.{LeafScoped}
-use Rattle.check_types.proofs.TwoNodes.{a_both, a_case, an_application, length_opened, TwoNode}
+use Rattle.check_types.specs.Walk.{LeafThere}
+use Rattle.check_types.proofs.TwoNodes.{a_both, a_case, an_application, length_opened, two_node, TwoNode}
 use Rattle.check_walk.specs.Walk.{InScope, Opened, Room, WalkReady, Whole}
 
 -- what cause 7 says of a node with two subterms e and f
@@ -55,6 +58,25 @@ scoped_two (a_both list) h = both_scoped h
 scoped_two (a_case pair) h = case_scoped refl h
 scoped_two (a_case list) h = case_scoped refl h
 
+-- what stands at a lambda, and at a node with two subterms
+pub record LambdaThere (s : List ℕ) (at : ℕ) (h : Node) : Type 0 where
+  pub here : NodeAt s at h
+  pub one : OneAt s at h
+
+pub lambda_there : {s : List ℕ} {at : ℕ} {h : Node} → GoodAt s at → node_at s at ≡ Some h → h.tag ≡ lambda_tag → LambdaThere s at h
+lambda_there good is tag = let here = node_there good.inside is in record { here = here; one = one_from is good (lambda_one here tag) }
+
+pub record TwoThere (s : List ℕ) (at : ℕ) (h : Node) : Type 0 where
+  pub here : NodeAt s at h
+  pub two : TwoAt s at h
+  pub form : TwoNode h.tag h.binders
+
+pub two_there : {s : List ℕ} {at : ℕ} {h : Node} → GoodAt s at → node_at s at ≡ Some h → (h.subterms ≡ 0 → ⊥) → (h.tag ≡ lambda_tag → ⊥) → TwoThere s at h
+two_there good is some no_lambda =
+    let here = node_there good.inside is in
+    let subterms = rest_two here some no_lambda in
+    record { here = here; two = two_from is good subterms; form = two_node here subterms }
+
 pub ready_whole : {s env marks : List ℕ} → Whole s → length env ≡ max_variables → length marks ≡ max_variables → WalkReady s 0 0 0 env marks
 ready_whole w wide long = record {
   good = w.good;
@@ -78,10 +100,12 @@ module _ {s : List ℕ} {at above floor : ℕ} {env marks : List ℕ} {h : Node}
     long = r.long;
   }
 
-  pub leaf_scoped : LeafAt s at h → LeafScoped above (leaf_exp h.tag h.arg)
-  leaf_scoped l = record {
-    count = r.types;
-    scoped = record { entries = r.few; nests = rw l.term at r.shallow; names = r.names; scope = rw l.term at r.scope };
+  pub leaf_there : LeafAt s at h → LeafThere (length env) above h.tag h.arg
+  unfolding scoped scoped_const
+  leaf_there l = record {
+    fits = omega (arith, r.shallow, r.wide);
+    bound = (leaf_scope l).bound;
+    entry = λ low high. let (o, is) = leaf_op h.tag h.arg low high in omega (arith, ltb_sound h.arg r.types (rw (l.term, is) at r.scope), r.few);
   }
 
   -- the body of a lambda

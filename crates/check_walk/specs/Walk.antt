@@ -1,5 +1,5 @@
 -- The walk over a term at a position, what it asks and what it answers: document 01's causes 9 and 10.
-use Rattle.std.specs.Prelude.{◌≡◌, Bool, ◌&&◌, not, true, List, [], ◌*◌, ◌+◌, ◌<◌, ◌≤◌, suc, zero, ℕ, eqb, get_or, length}
+use Rattle.std.specs.Prelude.{None, Option, Some, ◌≡◌, Bool, ◌&&◌, not, true, List, [], ◌*◌, ◌+◌, ◌<◌, ◌≤◌, suc, zero, ℕ, eqb, get_or, length}
 use Rattle.std.proofs.Math.Option.{some}
 use Rattle.calculus.specs.Limits.{max_entries, max_nesting, max_variables}
 use Rattle.calculus.specs.Table.{Entry, Table}
@@ -10,11 +10,9 @@ use Rattle.term.specs.Expressions.{leaf_exp, nesting, term_at}
 use Rattle.check_linearity.specs.Spend.{due_mark, new_mark}
 use Rattle.check_linearity.specs.Levels.{LinearWalk}
 use Rattle.check_types.specs.declared.Typed.{Typed}
-use Rattle.check_types.specs.declared.Typed.TheVariants as typing
 use Rattle.check_types.specs.Two.{opened, two_number}
-use Rattle.check_types.specs.Walk.{environment, typed, typed_at}
-use Rattle.check_walk.specs.declared.Walked.{Walked as Answer}
-use Rattle.check_walk.specs.declared.Walked.TheVariants.{Has, Nothing}
+use Rattle.check_types.specs.Walk.{environment, has, typed, typed_at}
+use Rattle.check_walk.specs.declared.Walked.{Walked}
 
 -- a term stands at a position, with `above` variables in scope whose marks are there; causes 6 and 7 do not fit it
 pub record WalkReady (s : List ℕ) (at above floor : ℕ) (env marks : List ℕ) : Type 0 where
@@ -48,20 +46,27 @@ pub record LeafSpent (tag arg above floor : ℕ) (marks marks' : List ℕ) (keep
   pub walked : (T : Table) (Δ : List ℕ) → LinearWalk T Δ floor above marks (leaf_exp tag arg) keeps marks'
   pub same : length marks' ≡ length marks
 
+-- the walk answers a type, where the term ends, and whether cause 10 does not fit; or nothing, where the term has no type
+abbrev pub Answer : Type 0
+Answer = Option Walked
+
+abbrev pub walked : ℕ → ℕ → Bool → Answer
+walked n end kept = Some (record { number = n; end = end; kept = kept })
+
 -- the type that the walk answers
-unfoldable pub types_in : Answer → Typed
-types_in (Has n end kept) = typing.Has n end
-types_in Nothing = typing.Nothing
+unfoldable pub types_in : Answer → Option Typed
+types_in (Some x) = has x.number x.end
+types_in None = None
 
 -- a type, with whether cause 10 does not fit
-unfoldable pub with_uses : Typed → Bool → Answer
-with_uses (typing.Has n end) kept = Has n end kept
-with_uses typing.Nothing kept = Nothing
+unfoldable pub with_uses : Option Typed → Bool → Answer
+with_uses (Some x) kept = walked x.number x.end kept
+with_uses None kept = None
 
 -- a lambda whose type is t, with entry x: from what is answered of its body, which leaves its variable this mark
 unfoldable pub lambda_answer : Entry → ℕ → Answer → ℕ → Answer
-lambda_answer x t (Has n end kept) mark = with_uses (typed (calculus.lambda_number t (some x) (λ p. some n)) end) (kept && not (eqb mark due_mark))
-lambda_answer x t Nothing mark = Nothing
+lambda_answer x t (Some b) mark = with_uses (typed (calculus.lambda_number t (some x) (λ p. some b.number)) b.end) (b.kept && not (eqb mark due_mark))
+lambda_answer x t None mark = None
 
 -- the arrays have room for the variables that the second subterm has more, at the levels `above` and the next
 pub record Room (binders above : ℕ) (env marks : List ℕ) : Type 0 where
@@ -83,8 +88,8 @@ all_used (suc binders) marks above = not (eqb (get_or marks above 0) due_mark) &
 
 -- a node with two subterms, where t has entry x, which decides, and the first has type `first` and its uses: from what is answered of the second
 unfoldable pub two_answer : ℕ → Entry → ℕ → ℕ → Bool → Answer → Answer
-two_answer tag x t first kept (Has n end k) = with_uses (typed (two_number tag x t first n) end) (kept && k)
-two_answer tag x t first kept Nothing = Nothing
+two_answer tag x t first kept (Some b) = with_uses (typed (two_number tag x t first b.number) b.end) (kept && b.kept)
+two_answer tag x t first kept None = None
 
 -- what the walk leaves of the lent arrays where it answers a type
 pub record Left (T : Table) (s : List ℕ) (at above floor : ℕ) (env env' marks marks' : List ℕ) (kept : Bool) : Type 0 where
@@ -96,9 +101,9 @@ pub record Left (T : Table) (s : List ℕ) (at above floor : ℕ) (env env' mark
 -- what the walk answers of the term at a position: its type, and whether cause 10 does not fit
 pub record WalkedAt (T : Table) (s : List ℕ) (at above floor : ℕ) (env env' marks marks' : List ℕ) (r : Answer) : Type 0 where
   pub types : types_in r ≡ typed_at T (environment above env) s at
-  pub left : (n end : ℕ) (kept : Bool) → r ≡ Has n end kept → Left T s at above floor env env' marks marks' kept
+  pub left : (n end : ℕ) (kept : Bool) → r ≡ walked n end kept → Left T s at above floor env env' marks marks' kept
 
 -- the same of the term that a part is
 pub record Decides (T : Table) (s : List ℕ) (r : Answer) : Type 0 where
   pub types : types_in r ≡ typed_at T [] s 0
-  pub uses : (n end : ℕ) (kept : Bool) → r ≡ Has n end kept → kept ≡ calculus.linear T [] (term_at s 0)
+  pub uses : (n end : ℕ) (kept : Bool) → r ≡ walked n end kept → kept ≡ calculus.linear T [] (term_at s 0)

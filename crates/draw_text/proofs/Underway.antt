@@ -5,7 +5,7 @@ use Prim.Native.Nat.{ℕ, suc, ◌+◌, ◌-◌, ◌*◌, ◌<◌, ◌≤◌}
 use native.Mathlib.Omega.{arith}
 use lib.ListN.{length, length-append}
 use Rattle.buffer.specs.Written.{Wrote}
-use Rattle.buffer.proofs.Theory.Writes.{known_as, same, still, then}
+use Rattle.buffer.proofs.Theory.Writes.{known_as, still, then}
 use Rattle.draw_spec.specs.State.{drawn}
 use Rattle.draw_spec.specs.Draws.{Draw, draws, image_after, outcome, reply, thread}
 use Rattle.draw_spec.specs.Lines.{line, lines, max_line_length}
@@ -36,9 +36,6 @@ unfolding draws lines
 turn n state image = refl
 
 module _ {whole text₀ first second text : List ℕ} {count done : ℕ} {at : At} (u : Underway whole count text₀ first second text at done) where
-  pub underway_room : max_line_length * count ≤ length text₀ → done < count → at.next + max_line_length ≤ length text
-  underway_room long l = omega (arith, u.put.ends, u.short, same u.put)
-
   pub underway_on : {at' : At} {first' second' text' : List ℕ} → done < count → Onward at first second text at' first' second' text' →
       Underway whole count text₀ first' second' text' at' (done + 1)
   underway_on {at'} {first'} {second'} l o =
@@ -58,7 +55,7 @@ module _ {whole text₀ first second text : List ℕ} {count done : ℕ} {at : A
         all = u.all ∙ ap (λ (t : List ℕ). u.before ++ t) next ∙ sym (append_assoc u.before (line (thread d) (outcome d)) rest);
       }
 
-  pub underway_end : ¬ (done < count) → Wrote text₀ 0 whole text at.next
+  pub underway_end : count ≤ done → Wrote text₀ 0 whole text at.next
   unfolding draws lines
   underway_end l =
       let n : count - done ≡ 0 = omega (arith, u.few) in

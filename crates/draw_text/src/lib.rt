@@ -14,6 +14,9 @@ ghost use Rattle.draw_thread.specs.Drawing.{Ready};
 ghost use Rattle.draw_text.specs.Lines.{Onward, Starts, present, refusal_of};
 
 use buffer::put_bytes;
+use buffer_pair::alternate;
+use draw_thread::Draws;
+use load_recipe::Common;
 use numbers::{Byte, Cause, Image, TestLoad};
 use step_spec::Outcome;
 use text::{put_decimal, put_verdict_line};
@@ -76,7 +79,11 @@ fn put_draw(at: At, first: &mut [u8], second: &mut [u8], text: &mut [u8]) -> At
 {
     let state = draw_thread::next_state(at.state);
     let odd = at.odd;
-    let drawn = draw_thread::alternate(odd, at.length, at.nodes, state, first, second);
+    let from = draw_thread::At {
+        nodes: at.nodes,
+        state,
+    };
+    let drawn = alternate::<Draws>(odd, at.length, from, first, second);
     let thread = drawn.thread;
     let outcome = drawn.outcome;
     let next = put_line(text, at.next, thread, outcome);
@@ -104,10 +111,8 @@ fn put_draws(count: usize, start: At, first: &mut [u8], second: &mut [u8], text:
     ensures { Wrote text.old 0 (lines (draws count start.state (present start first.old second.old))) text.new result }
 {
     let mut at = start;
-    let mut drawn = 0;
-    while drawn < count {
+    for _ in 0..count {
         at = put_draw(at, first, second, text);
-        drawn += 1;
     }
     at.next
 }
@@ -161,6 +166,7 @@ fn recipe_of(input: &[u8]) -> &[u8]
 }
 
 // "It refuses a seed of zero with 18, tried after the recipe is accepted"; 0 where neither is refused.
+// Numbers, and no Result: a load answers its cause by number, as the C interface has it.
 fn refusal_of(recipe: u32, seed: u32) -> u32
     ensures { result ≡ refusal_of recipe seed }
 {
@@ -168,7 +174,7 @@ fn refusal_of(recipe: u32, seed: u32) -> u32
         return recipe;
     }
     if seed == 0 {
-        return Cause::SEED as u32;
+        return Cause::Seed as u32;
     }
     0
 }
@@ -182,7 +188,7 @@ pub fn put_lines(input: &[u8], text: &mut [u8]) -> usize
     }
     let seed = seed_of(input);
     let mut first = [0u8; Image::MAX_LENGTH];
-    let loaded = load_recipe::load(recipe_of(input), &mut first);
+    let loaded = load_recipe::load::<Common>(recipe_of(input), &mut first);
     let refusal = refusal_of(loaded.refusal, seed);
     if refusal != 0 {
         return put_verdict_line(text, refusal as u8);

@@ -2,8 +2,7 @@
 use mathlib.Core.Path.{◌∙◌, ◌≡◌, ap, refl, sym}
 use mathlib.Core.Bool.{Bool, cond, false, true}
 use mathlib.Core.List.{List, [], ◌∷◌, ◌++◌}
-use Prim.Native.Nat.{ℕ, zero, suc, ◌+◌, ◌-◌, ◌<◌, ◌≤◌}
-use native.Mathlib.Decide.{dec_lt}
+use Prim.Native.Nat.{ℕ, zero, suc, ◌+◌, ◌<◌, ◌≤◌}
 use native.Mathlib.Omega.{arith}
 use lib.ListN.{get_or, length, length-append}
 use Rattle.image_layout.specs.Slice.{names}
@@ -47,41 +46,6 @@ module _ {image : List ℕ} where
     pub counted_skip : x < names image → has_thread_kind image x ≡ false → Counted image (x + 1) count
     counted_skip l t = record { below = omega arith; is = rw (none_more image x t) c.is }
 
-    pub counted_all : ¬ (x < names image) → count ≡ length (threads image)
-    counted_all l = c.is ∙ ap (λ (n : ℕ). length (threads_below image n)) (omega arith)
-
--- a search for the thread with this index: it goes on, or has just passed it
-pub record Passed (image : List ℕ) (index x passed : ℕ) : Type 0 where
-  pub counts : Counted image x passed
-  pub last : index < passed → (y : ℕ) × (x ≡ y + 1) × (y < names image) × (has_thread_kind image y ≡ true) × (length (threads_below image y) ≡ index)
-
-module _ {image : List ℕ} {index : ℕ} where
-  pub passed_none : Passed image index 0 0
-  passed_none = record { counts = counted_none; last = λ l. absurd (omega arith) }
-
-  module _ {x passed : ℕ} (p : Passed image index x passed) where
-    -- as long as it goes on there is another name
-    pub passed_inside : index < length (threads image) → passed ≤ index → x < names image
-    passed_inside few l = elim (dec_lt x (names image)) [
-      | yes h ↦ h
-      | no h ↦ absurd (omega (arith, counted_all p.counts h))
-    ]
-
-    pub passed_skip : passed ≤ index → x < names image → has_thread_kind image x ≡ false → Passed image index (x + 1) passed
-    passed_skip l h t = record { counts = counted_skip p.counts h t; last = λ m. absurd (omega arith) }
-
-    pub passed_one : passed ≤ index → x < names image → has_thread_kind image x ≡ true → Passed image index (x + 1) (passed + 1)
-    passed_one l h t = record {
-      counts = counted_one p.counts h t;
-      last = λ m. (x, refl, h, t, omega (arith, p.counts.is));
-    }
-
-    -- the name before the present one is the thread
-    pub passed_some : index < passed → 1 ≤ x
-    passed_some l = let (y, e, h, t, n) = p.last l in omega arith
-
-    pub passed_found : index < passed → x - 1 ≡ get_or (threads image) index 0
-    passed_found l =
-        let (y, e, h, t, n) = p.last l in
-        let found : get_or (threads image) index 0 ≡ y = ap (λ (i : ℕ). get_or (threads image) i 0) (sym n) ∙ (counted image (names image) y h t).0 in
-        omega (arith, found)
+    -- it is the thread that is looked for, where so many are before it
+    pub counted_found : {index : ℕ} → count ≡ index → x < names image → has_thread_kind image x ≡ true → x ≡ get_or (threads image) index 0
+    counted_found {index} e l t = sym (ap (λ (i : ℕ). get_or (threads image) i 0) (sym e ∙ c.is) ∙ (counted image (names image) x l t).0)

@@ -1,17 +1,21 @@
 // Document 02, T-06: a draw. The image is known to stand, and its nodes are counted once, at the start.
 #![tactic(auto)]
 
-ghost use Rattle.std.specs.Prelude.{◌≡◌, cond, true, ◌<◌, ◌≤◌, get_or, length, take};
+ghost use Rattle.std.specs.Prelude.{◌≡◌, true, ◌<◌, ◌≤◌, get_or, length};
 ghost use Rattle.calculus.specs.Limits.{max_image_length};
 ghost use Rattle.image_layout.specs.Layout.{heads_stand};
 ghost use Rattle.image_layout.specs.Readable.{HasHead};
 ghost use Rattle.draw_spec.specs.State.{drawn};
 ghost use Rattle.draw_spec.specs.Draws.{has_thread_kind, picked, threads};
-ghost use Rattle.draw_thread.specs.Drawing.{Drew, Present, Ready};
+ghost use Rattle.draw_spec.proofs.Theory.Alive.{Alive};
+ghost use Rattle.draw_thread.specs.Drawing.{Drew, Present};
 
+use buffer_pair::Passage;
+use image_check::Standing;
 use image_layout::kind_at;
 use numbers::Image;
 use step_spec::Outcome;
+use step_thread::Common;
 
 // A draw: the thread that was picked, what came of its step, and the nodes of the image that is left.
 #[derive(Clone, Copy)]
@@ -43,16 +47,11 @@ fn count_threads(image: &[u8]) -> usize
     requires { heads_stand image.now ≡ true }
     ensures { result ≡ length (threads image.now) }
 {
-    let names = image_layout::names_of(image);
     let mut count = 0;
-    let mut x = 0;
-    while x < names {
-        let thread = has_thread_kind(image, x);
-        x += 1;
-        if !thread {
-            continue;
+    for x in 0..image_layout::names_of(image) {
+        if has_thread_kind(image, x) {
+            count += 1;
         }
-        count += 1;
     }
     count
 }
@@ -63,16 +62,16 @@ fn thread_at(image: &[u8], index: usize) -> usize
     ensures { result ≡ get_or (threads image.now) index 0 }
 {
     let mut passed = 0;
-    let mut x = 0;
-    while passed <= index {
-        let thread = has_thread_kind(image, x);
-        x += 1;
-        if !thread {
-            continue;
+    for x in 0..image_layout::names_of(image) {
+        if has_thread_kind(image, x) {
+            if passed == index {
+                return x;
+            }
+            passed += 1;
         }
-        passed += 1;
     }
-    x - 1
+    // Not reached: there are more threads than the index.
+    0
 }
 
 // "Each draw modulo the present number of threads picks a thread".
@@ -85,35 +84,43 @@ fn pick(image: &[u8], state: u32) -> usize
 }
 
 // "picks a thread .., and that thread is stepped".
-fn draw(image: &[u8], nodes: usize, state: u32, out: &mut [u8]) -> Drawn
-    requires { Present image.now nodes × (max_image_length ≤ length out.old) }
-    ensures { Drew image.now state out.old result out.new }
+fn draw(image: Standing, state: u32, out: &mut [u8]) -> Drawn
+    requires { Alive image.bytes.now × (max_image_length ≤ length out.old) }
+    ensures { Drew image.entry.bytes.now state out.old result out.new }
 {
-    let thread = pick(image, state);
-    let answer = step_thread::step_checked(image, nodes, thread, out);
-    let outcome = answer.outcome;
+    let thread = pick(image.bytes, state);
+    let answer = step_thread::step_checked::<Common>(image, thread, out);
     Drawn {
         thread,
-        outcome,
+        outcome: answer.outcome,
         nodes: answer.nodes,
     }
 }
 
-// A draw from the buffer that holds the present image into the other one; `odd` says that the second holds it.
-pub fn alternate(
-    odd: bool,
-    size: usize,
-    nodes: usize,
-    state: u32,
-    first: &mut [u8],
-    second: &mut [u8],
-) -> Drawn
-    requires { Ready odd size nodes first.old second.old }
-    ensures drew { Drew (take size (cond odd second.old first.old)) state (cond odd first.old second.old) result (cond odd first.new second.new) }
-    ensures first_unchanged { cond odd second.new first.new ≡ cond odd second.old first.old }
-{
-    if odd {
-        return draw(&second[..size], nodes, state, first);
+// Where a draw goes from: the nodes of the present image, and the state that picks.
+#[derive(Clone, Copy)]
+pub struct At {
+    pub nodes: usize,
+    pub state: u32,
+}
+
+// A draw from the buffer that holds the present image into the other one.
+pub struct Draws {}
+
+impl Passage for Draws {
+    type At = At;
+
+    type Came = Drawn;
+
+    ghost ready = { λ image at out. Present image at.nodes × (max_image_length ≤ length out) };
+
+    ghost left = { λ image at out drawn out'. Drew image at.state out drawn out' };
+
+    fn go(image: &[u8], at: At, out: &mut [u8]) -> Drawn {
+        let image = Standing {
+            bytes: image,
+            nodes: at.nodes,
+        };
+        draw(image, at.state, out)
     }
-    draw(&first[..size], nodes, state, second)
 }

@@ -16,6 +16,7 @@ use run_spec::Ending;
 use step_spec::Outcome;
 
 // What a step came to, in numbers: done; the rule, with the new image's length; the awaited name; the refusal.
+// Numbers, and no enum: the C interface.
 #[repr(C)]
 #[derive(Clone, Copy)]
 pub struct Stepped {
@@ -35,6 +36,7 @@ impl Stepped {
 }
 
 // How a run ended, in numbers: the refusal; else why it stopped, the turns taken, and the last image's buffer, 0 for the first and 1 for the second, and length.
+// Numbers, and no enum: the C interface.
 #[repr(C)]
 #[derive(Clone, Copy)]
 pub struct Ran {
@@ -67,7 +69,7 @@ pub extern "C" fn fikarehu_load(recipe: &[u8], out: &mut [u8]) -> Loaded
     ensures value { result ≡ load.loaded_of common recipe.now (length out.old) }
     ensures out_after { out.new ≡ load.out_after_load common recipe.now out.old }
 {
-    load_recipe::load(recipe, out)
+    load_recipe::load::<load_recipe::Common>(recipe, out)
 }
 
 // T-09: the same in the separate profile.
@@ -76,10 +78,11 @@ pub extern "C" fn fikarehu_load_separate(recipe: &[u8], out: &mut [u8]) -> Loade
     ensures value { result ≡ load.loaded_of separate recipe.now (length out.old) }
     ensures out_after { out.new ≡ load.out_after_load separate recipe.now out.old }
 {
-    load_separate::load(recipe, out)
+    load_recipe::load::<load_separate::Separate>(recipe, out)
 }
 
-// An outcome in numbers.
+// An outcome in numbers. It is no `From`, which takes no `requires`: that an awaited name has 32 bits is known of a step's outcome, and not of any.
+#[tactic(auto, unfolding(crate::specs::Numbers::step_numbers))]
 fn step_numbers(outcome: Outcome) -> Stepped
     requires { NameSmall outcome }
     ensures { result ≡ step_numbers outcome }
@@ -114,7 +117,7 @@ pub extern "C" fn fikarehu_step(image: &[u8], thread: u64, out: &mut [u8]) -> St
     ensures value { result ≡ step_numbers (outcome_of common image.now thread out.old) }
     ensures out_after { out.new ≡ out_after_step common image.now thread out.old }
 {
-    step_numbers(step_thread::step(image, thread as usize, out))
+    step_numbers(step_thread::step::<step_thread::Common>(image, thread as usize, out))
 }
 
 // T-09: the same in the separate profile.
@@ -123,7 +126,7 @@ pub extern "C" fn fikarehu_step_separate(image: &[u8], thread: u64, out: &mut [u
     ensures value { result ≡ step_numbers (outcome_of separate image.now thread out.old) }
     ensures out_after { out.new ≡ out_after_step separate image.now thread out.old }
 {
-    step_numbers(step_separate::step(image, thread as usize, out))
+    step_numbers(step_thread::step::<step_separate::Separate>(image, thread as usize, out))
 }
 
 // The numbers of a run that stopped.
@@ -140,20 +143,23 @@ fn stopped_numbers(stop: u32, turns: u16, size: usize) -> Ran
 }
 
 // An ending in numbers.
-fn run_numbers(ending: Ending) -> Ran
-    ensures { result ≡ run_numbers ending }
-{
-    match ending {
-        Ending::Turns(turns, length) => stopped_numbers(Ran::TURNS, turns, length),
-        Ending::Idle(turns, length) => stopped_numbers(Ran::IDLE, turns, length),
-        Ending::Room(turns, length) => stopped_numbers(Ran::ROOM, turns, length),
-        Ending::Refused(number) => Ran {
-            refusal: number,
-            stop: 0,
-            turns: 0,
-            buffer: 0,
-            length: 0,
-        },
+impl From<Ending> for Ran {
+    ghost from_gives = { λ ending numbers. numbers ≡ run_numbers ending };
+
+    #[tactic(auto, unfolding(crate::specs::Numbers::run_numbers))]
+    fn from(ending: Ending) -> Ran {
+        match ending {
+            Ending::Turns(turns, length) => stopped_numbers(Ran::TURNS, turns, length),
+            Ending::Idle(turns, length) => stopped_numbers(Ran::IDLE, turns, length),
+            Ending::Room(turns, length) => stopped_numbers(Ran::ROOM, turns, length),
+            Ending::Refused(number) => Ran {
+                refusal: number,
+                stop: 0,
+                turns: 0,
+                buffer: 0,
+                length: 0,
+            },
+        }
     }
 }
 
@@ -169,5 +175,5 @@ pub extern "C" fn fikarehu_run(
     ensures value { result ≡ run_numbers (ran recipe.now turns (length first.old) (length second.old)) }
     ensures leaves { Leaves recipe.now turns first.old second.old first.new second.new }
 {
-    run_numbers(run_recipe::run(recipe, turns, first, second))
+    Ran::from(run_recipe::run(recipe, turns, first, second))
 }

@@ -9,10 +9,10 @@ use Rattle.calculus.specs.Lists.{each_below, sum_below}
 use Rattle.calculus.specs.Limits.{max_nodes}
 use Rattle.calculus.proofs.Theory.Tests.{and_parts, and_true, leb_complete, leb_sound}
 use Rattle.calculus.proofs.Theory.Tabulate.{each_below_sound}
-use Rattle.term_scan.specs.declared.Part.TheVariants.{Nodes, NoTerm}
+use Rattle.std.proofs.Common.{None, Some}
 use Rattle.image_layout.specs.Slice.{names}
 use Rattle.image_layout.specs.Layout.{heads_stand}
-use Rattle.image_check.specs.Parts.{all_part, component_part, expression_stands, Named, nodes_of}
+use Rattle.image_check.specs.Parts.{all_part, component_part, expression_stands, nodes_of}
 use Rattle.image_check.proofs.Theory.Names.{each_below_next, sum_below_most, sum_below_next}
 use Rattle.image_check.proofs.Picks.{pick_none, pick_some}
 use Rattle.image_check.proofs.Components.{part_fallen, part_stood}
@@ -30,11 +30,8 @@ unfolding each_below sum_below
 spent_none s m e h = record { few = omega arith; all = e; heads = h; stood = refl; budget = omega arith }
 
 module _ {s : List ℕ} {m k left : ℕ} (p : Spent s m k left) where
-  pub within : left ≤ max_nodes
-  within = omega (arith, p.budget)
-
   -- all have passed
-  pub spent_all : m ≤ k → Nodes (max_nodes - left) ≡ all_part s
+  pub spent_all : m ≤ k → Some (max_nodes - left) ≡ all_part s
   unfolding all_part
   spent_all h =
       let e : k ≡ names s = omega (arith, p.few, p.all) in
@@ -46,11 +43,8 @@ module _ {s : List ℕ} {m k left : ℕ} (p : Spent s m k left) where
       sum
 
   module _ (more : k < m) where
-    pub next_named : Named s k
-    next_named = record { heads = p.heads; below = omega (arith, p.all) }
-
     -- one does not pass
-    pub spent_fault : NoTerm ≡ component_part s m left k → NoTerm ≡ all_part s
+    pub spent_fault : None ≡ component_part s m left k → None ≡ all_part s
     unfolding all_part
     spent_fault h =
         pick_none (each_below (names s) (expression_stands s (names s)) && leb (sum_below (names s) (nodes_of s)) max_nodes) (sum_below (names s) (nodes_of s)) λ t.
@@ -69,7 +63,7 @@ module _ {s : List ℕ} {m k left : ℕ} (p : Spent s m k left) where
         }
 
     -- one more
-    module _ (n : ℕ) (h : Nodes n ≡ component_part s m left k) where
+    module _ (n : ℕ) (h : Some n ≡ component_part s m left k) where
       pub enough : n ≤ left
       enough = let (r, e) = part_stood s m left k n h in omega (arith, r.few)
 

@@ -13,7 +13,7 @@ use Rattle.calculus.specs.Image.{expression_test, is_settled, nodes}
 use Rattle.calculus.proofs.Theory.Tests.{and_parts, and_true, leb_complete, leb_sound}
 use Rattle.term.specs.Reader.{GoodAt, one_term, read_term}
 use Rattle.term.specs.Expressions.{term_at}
-use Rattle.term_scan.specs.declared.Part.TheVariants.{Nodes, NoTerm}
+use Rattle.std.proofs.Common.{None, Some}
 use Rattle.calculus.specs.Kinds.{thread_kind, cell_kind, open_handle_kind, future_kind}
 use Rattle.image_layout.specs.Slice.{kind_at, expression_at}
 use Rattle.image_layout.specs.Readable.{HasHead, HasExpression}
@@ -47,19 +47,19 @@ module _ (s : List ℕ) (m left k : ℕ) where
   test_stood : (expression_stands s m k && leb (nodes_of s k) left) ≡ true → Stood s m left k
   test_stood h = let (t, l) = and_parts (expression_stands s m k) (leb (nodes_of s k) left) h in record { stands = t; few = leb_sound (nodes_of s k) left l }
 
-  pub stood_part : (n : ℕ) → Stood s m left k → nodes_of s k ≡ n → Nodes n ≡ component_part s m left k
+  pub stood_part : (n : ℕ) → Stood s m left k → nodes_of s k ≡ n → Some n ≡ component_part s m left k
   unfolding component_part
   stood_part n r e = pick_some (expression_stands s m k && leb (nodes_of s k) left) n (nodes_of s k) (stood_test r) e
 
-  pub fallen_part : ¬ Stood s m left k → NoTerm ≡ component_part s m left k
+  pub fallen_part : ¬ Stood s m left k → None ≡ component_part s m left k
   unfolding component_part
   fallen_part h = pick_none (expression_stands s m k && leb (nodes_of s k) left) (nodes_of s k) (λ t. h (test_stood t))
 
-  pub part_stood : (n : ℕ) → Nodes n ≡ component_part s m left k → Stood s m left k × (nodes_of s k ≡ n)
+  pub part_stood : (n : ℕ) → Some n ≡ component_part s m left k → Stood s m left k × (nodes_of s k ≡ n)
   unfolding component_part
   part_stood n h = let (t, e) = picked (expression_stands s m k && leb (nodes_of s k) left) n (nodes_of s k) h in (test_stood t, e)
 
-  pub part_fallen : NoTerm ≡ component_part s m left k → ¬ Stood s m left k
+  pub part_fallen : None ≡ component_part s m left k → ¬ Stood s m left k
   unfolding component_part
   part_fallen h r = unpicked (expression_stands s m k && leb (nodes_of s k) left) (nodes_of s k) h (stood_test r)
 
@@ -74,7 +74,7 @@ module _ (s : List ℕ) (m left k : ℕ) where
   no_expression (suc (suc (suc (suc (suc zero))))) e low high = rw (future_component s k e) (refl, refl)
   no_expression (suc (suc (suc (suc (suc (suc kind)))))) e low high = absurd (omega arith)
 
-  pub part_empty : Named s k → {kind : ℕ} → kind ≡ kind_at s k → cell_kind < kind → Nodes 0 ≡ component_part s m left k
+  pub part_empty : Named s k → {kind : ℕ} → kind ≡ kind_at s k → cell_kind < kind → Some 0 ≡ component_part s m left k
   unfolding expression_stands term_stands nodes_of
   part_empty n is h =
       let (keeps, none) = no_expression (kind_at s k) refl (omega arith) (known_kind n).1 in
@@ -127,24 +127,24 @@ module _ (s : List ℕ) (m left k : ℕ) where
       | no l ↦ (cell_reads (omega arith) r).0
     ]
 
-    pub part_broken : NoTerm ≡ expression_part m left l → NoTerm ≡ component_part s m left k
+    pub part_broken : None ≡ expression_part m left l → None ≡ component_part s m left k
     part_broken h = fallen_part (λ r. part_none m left (expression_at s k) (h ∙ ap (expression_part m left) bytes) (stood_reads r))
 
-    module _ (n : ℕ) (h : Nodes n ≡ expression_part m left l) where
+    module _ (n : ℕ) (h : Some n ≡ expression_part m left l) where
       both : Reads m left (expression_at s k) × (nodes here ≡ n)
       both = part_reads m left (expression_at s k) n (h ∙ ap (expression_part m left) bytes)
 
-      pub part_thread : kind ≡ thread_kind → Nodes n ≡ component_part s m left k
+      pub part_thread : kind ≡ thread_kind → Some n ≡ component_part s m left k
       part_thread t =
           let (reads, count) = both in
           let e : kind_at s k ≡ thread_kind = sym is ∙ t in
           stood_part n record { stands = thread_stands e ∙ and_true reads.one reads.scope; few = omega (arith, thread_nodes e, reads.few) } (thread_nodes e ∙ count)
 
       module _ (other : kind ≡ thread_kind → ⊥) where
-        pub part_valueless : is_settled (place (term_at l 0)) ≡ false → NoTerm ≡ component_part s m left k
+        pub part_valueless : is_settled (place (term_at l 0)) ≡ false → None ≡ component_part s m left k
         part_valueless f = fallen_part (λ r. false≢true (sym f ∙ ap (λ (x : List ℕ). is_settled (place (term_at x 0))) bytes ∙ (cell_reads (is_cell other) r).1))
 
-        pub part_cell : is_settled (place (term_at l 0)) ≡ true → Nodes n ≡ component_part s m left k
+        pub part_cell : is_settled (place (term_at l 0)) ≡ true → Some n ≡ component_part s m left k
         part_cell t =
             let (reads, count) = both in
             let e = is_cell other in
@@ -152,5 +152,5 @@ module _ (s : List ℕ) (m left k : ℕ) where
             stood_part n record { stands = cell_stands e ∙ and_true reads.one (and_true reads.scope settles); few = omega (arith, cell_nodes e, reads.few) } (cell_nodes e ∙ count)
 
 -- an expression that was read can be searched
-pub part_good : (m left : ℕ) (l : List ℕ) (n : ℕ) → Nodes n ≡ expression_part m left l → GoodAt l 0
+pub part_good : (m left : ℕ) (l : List ℕ) (n : ℕ) → Some n ≡ expression_part m left l → GoodAt l 0
 part_good m left l n h = (whole_term l (part_reads m left l n h).0.one).0

@@ -17,10 +17,9 @@ use Rattle.term.specs.Expressions.{term_at}
 use Rattle.term.proofs.Reading.{past_term}
 use Rattle.term.proofs.Fronts.{is_good, is_tree}
 use Rattle.term.proofs.Expressions.{one_term_sound}
-use Rattle.term_scan.specs.declared.Extent.TheVariants.{Ends, Refused}
-use Rattle.term_scan.specs.declared.Part.TheVariants.{Nodes, NoTerm}
-use Rattle.term_scan.specs.Extents.{extent_at, in_scope, small}
-use Rattle.term_scan.proofs.Many.{refused_ends}
+use Rattle.std.proofs.Common.{None, Some}
+use Rattle.term_scan.specs.Extents.{ends, extent_at, in_scope, small}
+use Rattle.term_scan.proofs.Many.{refused_ends, same_end}
 use Rattle.term_scan.proofs.Answers.{scope_ends, small_good, small_stands}
 use Rattle.term_scan.proofs.Scopes.{scoped_image}
 use Rattle.image_check.specs.Parts.{expression_part}
@@ -71,45 +70,45 @@ module _ (m left : ℕ) (l : List ℕ) where
   reads_test : Reads m left l → test ≡ true
   reads_test r = and_true r.one (and_true r.scope (leb_complete (nodes (term_at l 0)) left r.few))
 
-  pub part_reads : (n : ℕ) → Nodes n ≡ expression_part m left l → Reads m left l × (nodes (term_at l 0) ≡ n)
+  pub part_reads : (n : ℕ) → Some n ≡ expression_part m left l → Reads m left l × (nodes (term_at l 0) ≡ n)
   unfolding expression_part
   part_reads n h = let (t, e) = picked test n (nodes (term_at l 0)) h in (test_reads t, e)
 
-  pub part_none : NoTerm ≡ expression_part m left l → ¬ Reads m left l
+  pub part_none : None ≡ expression_part m left l → ¬ Reads m left l
   unfolding expression_part
   part_none h r = unpicked test (nodes (term_at l 0)) h (reads_test r)
 
-  none_part : ¬ Reads m left l → NoTerm ≡ expression_part m left l
+  none_part : ¬ Reads m left l → None ≡ expression_part m left l
   unfolding expression_part
   none_part h = pick_none test (nodes (term_at l 0)) (λ t. h (test_reads t))
 
-  reads_part : (n : ℕ) → Reads m left l → nodes (term_at l 0) ≡ n → Nodes n ≡ expression_part m left l
+  reads_part : (n : ℕ) → Reads m left l → nodes (term_at l 0) ≡ n → Some n ≡ expression_part m left l
   unfolding expression_part
   reads_part n r e = pick_some test n (nodes (term_at l 0)) (reads_test r) e
 
   -- the scan finds what there is
-  scan_finds : Reads m left l → small left (extent_at l 0) ≡ Ends (length l) (nodes (term_at l 0))
+  scan_finds : Reads m left l → small left (extent_at l 0) ≡ ends (length l) (nodes (term_at l 0))
   scan_finds r =
-      let (good, ends) = whole_term l r.one in
-      small_good left good r.few ∙ ap (λ (e : ℕ). Ends e (nodes (term_at l 0))) ends
+      let (good, e_is) = whole_term l r.one in
+      small_good left good r.few ∙ ap (λ (e : ℕ). ends e (nodes (term_at l 0))) e_is
 
   module _ (b : Bytes l) where
     scope_finds : Reads m left l → scoped byte_values m 0 (term_at l 0) ≡ true
     scope_finds r = scoped_image m 0 (term_at l 0) (one_term_sound l b r.one).1.writable ∙ r.scope
 
-    both_find : Reads m left l → in_scope (scoped byte_values m 0 (term_at l 0)) (small left (extent_at l 0)) ≡ Ends (length l) (nodes (term_at l 0))
+    both_find : Reads m left l → in_scope (scoped byte_values m 0 (term_at l 0)) (small left (extent_at l 0)) ≡ ends (length l) (nodes (term_at l 0))
     both_find r = ap₂ in_scope (scope_finds r) (scan_finds r)
 
     -- no term within the budget, or an index, or a name
-    pub refused : Refused ≡ in_scope (scoped byte_values m 0 (term_at l 0)) (small left (extent_at l 0)) → NoTerm ≡ expression_part m left l
+    pub refused : None ≡ in_scope (scoped byte_values m 0 (term_at l 0)) (small left (extent_at l 0)) → None ≡ expression_part m left l
     refused q = none_part (λ r. refused_ends (q ∙ both_find r))
 
-    module _ (e n : ℕ) (q : Ends e n ≡ in_scope (scoped byte_values m 0 (term_at l 0)) (small left (extent_at l 0))) where
+    module _ (e n : ℕ) (q : ends e n ≡ in_scope (scoped byte_values m 0 (term_at l 0)) (small left (extent_at l 0))) where
       -- bytes over
-      pub bytes_over : (e ≡ length l → ⊥) → NoTerm ≡ expression_part m left l
-      bytes_over d = none_part (λ r. let p = q ∙ both_find r in d (cc))
+      pub bytes_over : (e ≡ length l → ⊥) → None ≡ expression_part m left l
+      bytes_over d = none_part (λ r. d (same_end (q ∙ both_find r)))
 
-      pub found : e ≡ length l → Nodes n ≡ expression_part m left l
+      pub found : e ≡ length l → Some n ≡ expression_part m left l
       found d =
           let (t, p) = scope_ends (scoped byte_values m 0 (term_at l 0)) (small left (extent_at l 0)) e n q in
           let (s, few) = small_stands left l 0 e n zero-le p in

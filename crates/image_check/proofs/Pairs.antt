@@ -1,27 +1,21 @@
--- Handles and futures in pairs: one law for each return of `pair_stands`, and for each way through the loop over all names.
+-- Handles and futures in pairs: one law for each return of `pair_stands`.
 use mathlib.Core.Path.{◌∙◌, ◌≡◌, ap, refl, sym}
-use mathlib.Core.Bool.{false, false≢true, true}
+use mathlib.Core.Bool.{false, true}
 use mathlib.Core.Option.{some}
 use mathlib.Core.List.{List}
-use Prim.Native.Nat.{◌+◌, ◌<◌, ◌≤◌, suc, zero, ℕ}
+use Prim.Native.Nat.{◌<◌, ◌≤◌, suc, zero, ℕ}
 use native.Mathlib.Omega.{arith}
 use borrow.Author.Tests.{ne_eqb}
 use lib.Dec.{eqb}
-use lib.ListN.{get_or}
 use Rattle.calculus.specs.Syntax.{at}
-use Rattle.calculus.specs.Lists.{each_below}
-use Rattle.calculus.specs.Limits.{max_names}
 use Rattle.calculus.specs.Image.{is_awaited}
-use Rattle.calculus.proofs.Theory.Tests.{and_true, false_of, true_of}
-use Rattle.calculus.proofs.Theory.Tabulate.{each_below_sound}
 use Rattle.calculus.specs.Kinds.{open_handle_kind, future_kind}
-use Rattle.image_layout.specs.Slice.{names, kind_at, companion_at}
+use Rattle.image_layout.specs.Slice.{kind_at, companion_at}
 use Rattle.image_layout.specs.Readable.{HasHead}
-use Rattle.image_layout.specs.Layout.{heads_stand}
 use Rattle.image_layout.proofs.Theory.Reading.{has_head}
 use Rattle.image.specs.Configuration.{components, config_of}
-use Rattle.image_check.specs.Parts.{component_of, HandlesCounted, pair_stands, pair_keeps, pairs_stand, Tally}
-use Rattle.image_check.proofs.Theory.Names.{component_kind, config_at, config_past, each_below_next, future_component, open_component}
+use Rattle.image_check.specs.Parts.{component_of, HandlesCounted, pair_stands, pair_keeps}
+use Rattle.image_check.proofs.Theory.Names.{component_kind, config_at, config_past, future_component, open_component}
 
 -- a name is a future by its kind
 awaited_kind : (s : List ℕ) (y kind : ℕ) → kind_at s y ≡ kind → eqb kind future_kind ≡ is_awaited (some (component_of s y))
@@ -72,47 +66,3 @@ module _ {s : List ℕ} {m k count : ℕ} (p : HandlesCounted s m k count) {kind
           ∙ awaited_kind s companion (kind_at s companion) refl
           ∙ ap is_awaited (sym (config_at s companion (omega (arith, p.all))))
           ∙ open_pair
-
--- ---- the loop
-
--- k of m names have passed
-pub record Paired (s : List ℕ) (m k : ℕ) (counts : List ℕ) : Type 0 where
-  pub few : k ≤ m
-  pub all : m ≡ names s
-  pub heads : heads_stand s ≡ true
-  pub within : m ≤ max_names
-  pub tally : Tally s counts
-  pub stood : each_below k (pair_stands s) ≡ true
-
-pub paired_none : (s : List ℕ) (m : ℕ) (counts : List ℕ) → m ≡ names s → heads_stand s ≡ true → names s ≤ max_names → Tally s counts → Paired s m 0 counts
-unfolding each_below
-paired_none s m counts e h w t = record { few = omega arith; all = e; heads = h; within = omega arith; tally = t; stood = refl }
-
-module _ {s : List ℕ} {m k : ℕ} {counts : List ℕ} (p : Paired s m k counts) where
-  pub paired_all : m ≤ k → true ≡ pairs_stand s
-  unfolding pairs_stand
-  paired_all h =
-      let e : k ≡ names s = omega (arith, p.few, p.all) in
-      sym (ap (λ (x : ℕ). each_below x (pair_stands s)) (sym e) ∙ p.stood)
-
-  module _ (more : k < m) where
-    pub next_counted : HandlesCounted s m k (get_or counts k 0)
-    next_counted = record {
-      named = record { heads = p.heads; below = omega (arith, p.all) };
-      all = p.all;
-      handles = p.tally.each k (omega (arith, p.within));
-    }
-
-    pub paired_fault : pair_stands s k ≡ false → false ≡ pairs_stand s
-    unfolding pairs_stand
-    paired_fault f = sym (false_of (each_below (names s) (pair_stands s)) (λ t. false≢true (sym f ∙ each_below_sound (names s) (pair_stands s) (true_of (each_below (names s) (pair_stands s)) t) k (omega (arith, p.all)))))
-
-    pub paired_one : pair_stands s k ≡ true → Paired s m (k + 1) counts
-    paired_one t = record {
-      few = omega arith;
-      all = p.all;
-      heads = p.heads;
-      within = p.within;
-      tally = p.tally;
-      stood = each_below_next (pair_stands s) k ∙ and_true p.stood t;
-    }

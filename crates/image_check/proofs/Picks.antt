@@ -3,21 +3,21 @@ use mathlib.Core.Path.{◌≡◌, ap, refl, sym}
 use mathlib.Core.Bool.{Bool, false, true}
 use Prim.Native.Nat.{ℕ}
 use Rattle.calculus.proofs.Theory.Tests.{clash}
-use Rattle.term_scan.specs.declared.Part.TheVariants.{Nodes, NoTerm}
+use Rattle.std.proofs.Common.{None, Some}
 use Rattle.image_check.specs.Parts.{pick_part}
 
-pub pick_some : (t : Bool) (n m : ℕ) → t ≡ true → m ≡ n → Nodes n ≡ pick_part t m
-pick_some true n m h e = ap Nodes (sym e)
+pub pick_some : (t : Bool) (n m : ℕ) → t ≡ true → m ≡ n → Some n ≡ pick_part t m
+pick_some true n m h e = ap Some (sym e)
 pick_some false n m h e = absurd (clash (cc))
 
-pub pick_none : (t : Bool) (n : ℕ) → ¬ (t ≡ true) → NoTerm ≡ pick_part t n
+pub pick_none : (t : Bool) (n : ℕ) → ¬ (t ≡ true) → None ≡ pick_part t n
 pick_none true n h = absurd (h refl)
 pick_none false n h = refl
 
-pub picked : (t : Bool) (n m : ℕ) → Nodes n ≡ pick_part t m → (t ≡ true) × (m ≡ n)
+pub picked : (t : Bool) (n m : ℕ) → Some n ≡ pick_part t m → (t ≡ true) × (m ≡ n)
 picked true n m e = (refl, cc)
 picked false n m e = absurd (clash (cc))
 
-pub unpicked : (t : Bool) (n : ℕ) → NoTerm ≡ pick_part t n → ¬ (t ≡ true)
+pub unpicked : (t : Bool) (n : ℕ) → None ≡ pick_part t n → ¬ (t ≡ true)
 unpicked true n e h = clash (cc)
 unpicked false n e h = clash (cc)

@@ -1,6 +1,6 @@
 -- The parts of refusal 13 as the check goes through them: for each name its expression, then the nodes in all, then handles and futures. That they make up
 -- `image_stands` is Theory.Whole.
-use Rattle.std.specs.Prelude.{◌≡◌, Bool, ◌&&◌, ◌||◌, false, true, List, ◌<◌, ℕ, eqb, leb, get_or, length}
+use Rattle.std.specs.Prelude.{◌≡◌, Bool, ◌&&◌, ◌||◌, false, true, List, ◌<◌, ℕ, eqb, leb, get_or, length, Option, None, Some}
 use Rattle.calculus.specs.Syntax.{Component, thread_of, holds, open_for, used, awaited, Config, at, sum_in, sum_all}
 use Rattle.calculus.specs.Lists.{each_below, sum_below}
 use Rattle.calculus.specs.Limits.{max_names, max_nodes}
@@ -8,8 +8,6 @@ use Rattle.calculus.specs.Step.{place}
 use Rattle.calculus.specs.Image.{expression_test, handle_for, is_awaited, is_settled, nodes}
 use Rattle.term.specs.Reader.{one_term, read_term}
 use Rattle.term.specs.Expressions.{term_at}
-use Rattle.term_scan.specs.declared.Part.{Part}
-use Rattle.term_scan.specs.declared.Part.TheVariants.{Nodes, NoTerm}
 use Rattle.calculus.specs.Kinds.{open_handle_kind}
 use Rattle.image_layout.specs.Slice.{names, kind_at, expression_at, encoded_at}
 use Rattle.image_layout.specs.Layout.{heads_stand}
@@ -54,21 +52,21 @@ unfoldable pub pair_stands : List ℕ → ℕ → Bool
 pair_stands s k = pair_keeps (config_of s) k (component_of s k)
 
 -- answers: a number of nodes where a test passes
-abbrev pub pick_part : Bool → ℕ → Part
-pick_part true n = Nodes n
-pick_part false n = NoTerm
+abbrev pub pick_part : Bool → ℕ → Option ℕ
+pick_part true n = Some n
+pick_part false n = None
 
 -- of bytes that are to be an expression with at most `left` nodes
-unfoldable pub expression_part : ℕ → ℕ → List ℕ → Part
+unfoldable pub expression_part : ℕ → ℕ → List ℕ → Option ℕ
 expression_part m left l =
     pick_part (one_term (read_term l) && (expression_test m 0 (term_at l 0) && leb (nodes (term_at l 0)) left)) (nodes (term_at l 0))
 
 -- of name k
-unfoldable pub component_part : List ℕ → ℕ → ℕ → ℕ → Part
+unfoldable pub component_part : List ℕ → ℕ → ℕ → ℕ → Option ℕ
 component_part s m left k = pick_part (expression_stands s m k && leb (nodes_of s k) left) (nodes_of s k)
 
 -- of all names
-unfoldable pub all_part : List ℕ → Part
+unfoldable pub all_part : List ℕ → Option ℕ
 all_part s = pick_part (each_below (names s) (expression_stands s (names s)) && leb (sum_below (names s) (nodes_of s)) max_nodes) (sum_below (names s) (nodes_of s))
 
 unfoldable pub pairs_stand : List ℕ → Bool

@@ -2,10 +2,11 @@
 // the expressions, which are read by loops, and two over the handles: no recursion, and no walk that is quadratic in the number of names.
 #![tactic(auto)]
 
-ghost use Rattle.std.specs.Prelude.{◌≡◌, true, ◌≤◌, length};
+ghost use Rattle.std.specs.Prelude.{◌≡◌, true, IfSome, ◌≤◌, length};
+ghost use Rattle.std.specs.Option.{option_map};
+ghost use Rattle.calculus.specs.Bytes.{Bytes};
 ghost use Rattle.calculus.specs.Limits.{max_names, max_nodes};
 ghost use Rattle.calculus.specs.Image.{nodes_all};
-ghost use Rattle.term_walk.specs.Frames.{max_waits};
 ghost use Rattle.image_layout.specs.Slice.{names};
 ghost use Rattle.image_layout.specs.Layout.{heads_stand};
 ghost use Rattle.image.specs.Configuration.{config_of};
@@ -14,77 +15,75 @@ ghost use Rattle.image_check.specs.Parts.{all_part, component_part, HandlesCount
 ghost use Rattle.image_check.specs.Answer.{checked};
 
 use numbers::{Byte, Image};
-use term_scan::{Extent, Part};
-use term_walk::Frames;
+use term_walk::{Frames, MAX_WAITS};
 
-// The number of nodes of an image that keeps every rule and limit, or that it breaks one.
+// An image that keeps every rule and limit, and how many nodes it has.
 #[derive(Clone, Copy)]
-pub enum Checked {
-    Nodes(usize),
-    Broken,
+pub struct Standing<'a> {
+    pub bytes: &'a [u8],
+    pub nodes: usize,
+    pub ghost stands: { image_stands bytes.now ≡ true },
+    pub ghost counted: { nodes_all (config_of bytes.now) ≡ nodes },
+    pub ghost fit: { Bytes bytes.now },
 }
 
 // The nodes of an expression that is exactly one term with at most `left` of them, whose variables are bound and whose names are below `names`.
 // `frames` is lent to the scan.
-fn expression_nodes(expression: &[u8], names: usize, left: usize, frames: &mut [u16]) -> Part
-    requires { (left ≤ max_nodes) × (length frames.old ≡ max_waits) }
+fn expression_nodes(
+    expression: &[u8],
+    names: usize,
+    left: usize,
+    frames: &mut Frames<MAX_WAITS>,
+) -> Option<usize>
+    requires { left ≤ max_nodes }
     ensures { result ≡ expression_part names left expression.now }
 {
-    let Extent::Ends(end, nodes) = term_scan::scan_scoped(
-        expression,
-        0,
-        left,
-        Byte::VALUES,
-        names,
-        frames,
-    ) else {
-        return Part::NoTerm;
-    };
-    if end != expression.len() {
-        return Part::NoTerm;
+    let found = term_scan::scan_scoped(expression, 0, left, Byte::VALUES, names, frames)?;
+    if found.end != expression.len() {
+        return None;
     }
-    Part::Nodes(nodes)
+    Some(found.nodes)
 }
 
 // The same of the expression of name k, where it has one; a cell's is a value.
-fn component_nodes(image: &[u8], names: usize, k: usize, left: usize, frames: &mut [u16]) -> Part
-    requires { Named image.now k × ((left ≤ max_nodes) × (length frames.old ≡ max_waits)) }
+fn component_nodes(
+    image: &[u8],
+    names: usize,
+    k: usize,
+    left: usize,
+    frames: &mut Frames<MAX_WAITS>,
+) -> Option<usize>
+    requires { Named image.now k × (left ≤ max_nodes) }
     ensures { result ≡ component_part image.now names left k }
 {
     let kind = image_layout::kind_at(image, k);
     if Image::CELL < kind {
-        return Part::Nodes(0);
+        return Some(0);
     }
     let expression = image_layout::expression_at(image, k);
-    let Part::Nodes(nodes) = expression_nodes(expression, names, left, frames) else {
-        return Part::NoTerm;
-    };
+    let nodes = expression_nodes(expression, names, left, frames)?;
     if kind == Image::THREAD {
-        return Part::Nodes(nodes);
+        return Some(nodes);
     }
     if !term_redex::is_value(expression, 0) {
-        return Part::NoTerm;
+        return None;
     }
-    Part::Nodes(nodes)
+    Some(nodes)
 }
 
-// The nodes of all expressions: each takes its own off what is left. One array for the scans of them all.
-fn all_nodes(image: &[u8]) -> Part
+// The nodes of all expressions: each takes its own off what is left. One stack of frames for the scans of them all.
+fn all_nodes(image: &[u8]) -> Option<usize>
     requires { heads_stand image.now ≡ true }
     ensures { result ≡ all_part image.now }
 {
     let names = image_layout::names_of(image);
-    let mut frames = [0u16; Frames::MAX_WAITS];
+    let mut frames = Frames::<MAX_WAITS>::new();
     let mut left = Image::MAX_NODES;
-    let mut k = 0;
-    while k < names {
-        let Part::Nodes(nodes) = component_nodes(image, names, k, left, &mut frames) else {
-            return Part::NoTerm;
-        };
+    for k in 0..names {
+        let nodes = component_nodes(image, names, k, left, &mut frames)?;
         left -= nodes;
-        k += 1;
     }
-    Part::Nodes(Image::MAX_NODES - left)
+    Some(Image::MAX_NODES - left)
 }
 
 // How many open handles have each companion.
@@ -94,15 +93,10 @@ fn handle_counts(image: &[u8]) -> [u16; Image::MAX_NAMES]
 {
     let names = image_layout::names_of(image);
     let mut counts = [0u16; Image::MAX_NAMES];
-    let mut k = 0;
-    while k < names {
-        let kind = image_layout::kind_at(image, k);
-        let companion = image_layout::companion_at(image, k) as usize;
-        k += 1;
-        if kind != Image::OPEN_HANDLE {
-            continue;
+    for k in 0..names {
+        if image_layout::kind_at(image, k) == Image::OPEN_HANDLE {
+            counts[image_layout::companion_at(image, k) as usize] += 1;
         }
-        counts[companion] += 1;
     }
     counts
 }
@@ -133,36 +127,31 @@ fn pairs_stand(image: &[u8]) -> bool
 {
     let names = image_layout::names_of(image);
     let counts = handle_counts(image);
-    let mut k = 0;
-    while k < names {
-        if !pair_stands(image, names, k, counts[k]) {
-            return false;
-        }
-        k += 1;
-    }
-    true
+    (0..names).all(|k| pair_stands(image, names, k, counts[k]))
 }
 
 // Document 01, refusal 13, decided: "image breaks a rule or limit".
-pub fn check_image(image: &[u8]) -> Checked
-    ensures { result ≡ checked image.now }
+pub fn check_image(image: &[u8]) -> Option<Standing<'_>>
+    ensures answer { option_map (λ s. s.nodes) result ≡ checked image.now }
+    ensures same { IfSome result (λ s. s.bytes.now ≡ image.now) }
 {
     if image.len() < Image::FIRST_HEAD {
-        return Checked::Broken;
+        return None;
     }
     if Image::MAX_NAMES < image_layout::names_of(image) {
-        return Checked::Broken;
+        return None;
     }
     if !image_layout::heads_stand(image) {
-        return Checked::Broken;
+        return None;
     }
-    let Part::Nodes(nodes) = all_nodes(image) else {
-        return Checked::Broken;
-    };
+    let nodes = all_nodes(image)?;
     if !pairs_stand(image) {
-        return Checked::Broken;
+        return None;
     }
-    Checked::Nodes(nodes)
+    Some(Standing {
+        bytes: image,
+        nodes,
+    })
 }
 
 // The nodes of an image that stands.
@@ -170,8 +159,5 @@ pub fn count_nodes(image: &[u8]) -> usize
     requires { image_stands image.now ≡ true }
     ensures { result ≡ nodes_all (config_of image.now) }
 {
-    let Checked::Nodes(nodes) = check_image(image) else {
-        return 0;
-    };
-    nodes
+    check_image(image).unwrap().nodes
 }

@@ -1,13 +1,16 @@
 // Document 01, "The image": its limits and kinds, and its heads and expressions read and written in bytes.
 #![tactic(auto)]
 
-ghost use Rattle.std.specs.Prelude.{◌≡◌, ◌+◌, ◌<◌, ◌≤◌, length};
+ghost use Rattle.std.specs.Prelude.{◌≡◌, ℕ, ◌+◌, ◌<◌, ◌≤◌, length};
 ghost use Rattle.calculus.specs.Bytes.{two_byte_values};
 ghost use Rattle.calculus.specs.Limits.{first_head, head_length};
+ghost use Rattle.calculus.specs.Lists.{tabulate};
 ghost use Rattle.buffer.specs.Written.{Wrote};
-ghost use Rattle.image_layout.specs.Encoded.{head};
+ghost use Rattle.image_layout.specs.Encoded.{Encoded, expressions, head, heads, head_offset};
 ghost use Rattle.image_layout.specs.Slice.{names, kind_at, companion_at, owner_at, offset_at, length_at, expression_at};
 ghost use Rattle.image_layout.specs.Layout.{head_agrees, head_stands, heads_stand};
+ghost use Rattle.image_layout.specs.Heads.{Says};
+ghost use Rattle.image_layout.specs.Room.{Room};
 ghost use Rattle.image_layout.specs.Readable.{HasHead, HasOwner, HasExpression};
 
 use buffer::{put_byte, put_u16, word_at};
@@ -106,6 +109,44 @@ pub fn put_head(out: &mut [u8], next: Next, this: Head) -> Next
     }
 }
 
+// Writes the heads of so many names: what that of a name says, by its number.
+pub fn put_heads<F: Fn(usize) -> Head>(out: &mut [u8], at: usize, names: usize, head_of: F) -> usize
+    ghost component: { ℕ → Encoded }
+    requires can_call { (k : ℕ) → k < names → F.pre head_of k }
+    requires says { (k : ℕ) (h : Head) → k < names → F.post head_of k h → Says h (component k) }
+    requires room { Room names component out.old × (at ≡ first_head) }
+    ensures { Wrote out.old at (heads (head_offset names) (tabulate names component)) out.new result }
+{
+    let mut next = Next {
+        head: at,
+        expression: Image::FIRST_HEAD + Image::HEAD_LENGTH * names,
+    };
+    for k in 0..names {
+        next = put_head(out, next, head_of(k));
+    }
+    next.head
+}
+
+// Writes the expressions of so many names: that of a name, by its number.
+pub fn put_expressions<F: Fn(&mut [u8], usize, usize) -> usize>(
+    out: &mut [u8],
+    at: usize,
+    names: usize,
+    put: F,
+) -> usize
+    ghost component: { ℕ → Encoded }
+    requires can_call { (k next : ℕ) (room : _) → k < names → next + length (component k).expression ≤ length room.now → F.pre put room next k }
+    requires writes { (k next last : ℕ) (old new : _) → k < names → F.post put old next k last new → Wrote old.now next (component k).expression new.now last }
+    requires room { at + length (expressions (tabulate names component)) ≤ length out.old }
+    ensures { Wrote out.old at (expressions (tabulate names component)) out.new result }
+{
+    let mut next = at;
+    for k in 0..names {
+        next = put(out, next, k);
+    }
+    next
+}
+
 // Whether kind, companion and length of a head agree.
 fn head_agrees(kind: u8, companion: u8, size: usize) -> bool
     ensures { result ≡ head_agrees kind companion size }
@@ -155,13 +196,11 @@ pub fn heads_stand(image: &[u8]) -> bool
     if image.len() < end {
         return false;
     }
-    let mut k = 0;
-    while k < names {
+    for k in 0..names {
         if !head_stands(image, k, end) {
             return false;
         }
         end += length_at(image, k);
-        k += 1;
     }
     end == image.len()
 }

@@ -1,22 +1,20 @@
 -- What stands so far of a term, in 18 bytes with zeros behind it, and what it still has to come after.
-use Rattle.std.specs.Prelude.{◌≡◌, Bool, cond, List, ◌++◌, ◌+◌, ◌≤◌, ℕ, drop, take}
+use Rattle.std.specs.Prelude.{◌≡◌, Bool, cond, List, ◌++◌, ◌+◌, ◌≤◌, ℕ, drop, take, Option, None, Some}
 use Rattle.calculus.specs.Limits.{max_term_length}
 use Rattle.term.specs.Forms.{operand_of}
 use Rattle.list_spec.specs.Order.{above, behind, Bound, free, on, Passed}
 use Rattle.list_spec.specs.Goals.{head, piece_of}
 use Rattle.list_spec.specs.NextTerm.{with_zeros}
 use Rattle.list_place.specs.Candidates.{arg_in, tag_in}
-use Rattle.list_order.specs.declared.Pass.{Pass}
-use Rattle.list_order.specs.declared.Pass.TheVariants.{Behind, On}
 
 -- what a term of which `at` bytes stand has to come after: nothing any more, or what is left of the bytes given, of which those bytes are a beginning
 unfoldable pub low_of : Bool → ℕ → List ℕ → Bound
 low_of passed at after = cond passed free (above (drop at after))
 
 -- what an answer says, where `at` bytes stand then
-unfoldable pub says : ℕ → List ℕ → Pass → Passed
-says at after Behind = behind
-says at after (On passed) = on (low_of passed at after)
+unfoldable pub says : ℕ → List ℕ → Option Bool → Passed
+says at after None = behind
+says at after (Some passed) = on (low_of passed at after)
 
 -- the bytes of the node of a code
 abbrev pub code_bytes : ℕ → List ℕ

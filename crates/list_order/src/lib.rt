@@ -10,29 +10,22 @@ ghost use Rattle.list_order.specs.Standing.{code_bytes, code_length, low_of, say
 use numbers::{Byte, Term};
 use term::Node;
 
-// Bytes come before the bytes given, with everything that they begin; or they can be gone on from, and whether the bytes given are passed then.
-#[derive(Clone, Copy)]
-pub enum Pass {
-    Behind,
-    On(bool),
-}
-
 // One byte more, where `at` bytes stand.
-fn pass_byte(after: &[u8], at: usize, free: bool, byte: u8) -> Pass
+fn pass_byte(after: &[u8], at: usize, free: bool, byte: u8) -> Option<bool>
     requires { at < max_term_length }
     ensures { passed (low_of free at after.now) (byte ∷ []) ≡ says (at + 1) after.now result }
 {
     if free {
-        return Pass::On(true);
+        return Some(true);
     }
     if after.len() <= at {
-        return Pass::On(true);
+        return Some(true);
     }
     let given = after[at];
     if byte < given {
-        return Pass::Behind;
+        return None;
     }
-    Pass::On(given < byte)
+    Some(given < byte)
 }
 
 // How many bytes the node of a code has.
@@ -45,22 +38,18 @@ pub fn length_of(code: usize) -> usize
 }
 
 // The bytes of the node of a code more, where `at` bytes stand.
-pub fn pass_node(after: &[u8], at: usize, free: bool, code: usize) -> Pass
+pub fn pass_node(after: &[u8], at: usize, free: bool, code: usize) -> Option<bool>
     requires { (code < codes) × (at + 3 ≤ max_term_length) }
     ensures { passed (low_of free at after.now) (code_bytes code) ≡ says (at + code_length code) after.now result }
 {
     let length = length_of(code);
-    let Pass::On(first) = pass_byte(after, at, free, (code / Byte::VALUES) as u8) else {
-        return Pass::Behind;
-    };
+    let first = pass_byte(after, at, free, (code / Byte::VALUES) as u8)?;
     if length == 1 {
-        return Pass::On(first);
+        return Some(first);
     }
-    let Pass::On(second) = pass_byte(after, at + 1, first, (code % Byte::VALUES) as u8) else {
-        return Pass::Behind;
-    };
+    let second = pass_byte(after, at + 1, first, (code % Byte::VALUES) as u8)?;
     if length == 2 {
-        return Pass::On(second);
+        return Some(second);
     }
     pass_byte(after, at + 2, second, 0)
 }

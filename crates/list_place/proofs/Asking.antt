@@ -195,6 +195,8 @@ module _ (T : Table) (p q nodes : ℕ) where
       pub uses_function : is_function_kind x.kind ≡ true → eqb x.q p ≡ may_use T p q nodes
       uses_function f = sym (by_body ∙ rw f refl)
 
+pub ruleset uses = (uses_long, uses_same, uses_many, uses_short, uses_no_function, uses_function)
+
 -- a lambda, test by test
 module _ (T : Table) (spine want t nodes : ℕ) (x : Entry) (e : as_entry x ≡ entry_of T t) where
   pub lambda_fails : is_function_kind x.kind ≡ false → false ≡ lambda_stands T spine want t nodes

@@ -1,9 +1,5 @@
 -- A type applied to as many arguments as applications stand open: one application after the other.
-use mathlib.Core.Path.{◌≡◌, refl, sym, ◌∙◌}
-use mathlib.Core.Bool.{◌&&◌, false, true}
-use Prim.Native.Nat.{◌-◌, ◌<◌, ◌≤◌, suc, zero, ℕ}
-use native.Mathlib.Omega.{arith}
-use lib.Dec.{eqb}
+use Rattle.std.proofs.Common.{◌≡◌, refl, sym, ◌∙◌, ◌&&◌, false, true, ◌-◌, ◌<◌, ◌≤◌, suc, zero, ℕ, arith, eqb}
 use Rattle.calculus.specs.Limits.{byte_values}
 use Rattle.calculus.specs.Table.{is_many, Table}
 use Rattle.calculus.specs.Verdict.{is_function_kind}
@@ -21,8 +17,8 @@ module _ (T : Table) (spine want number : ℕ) where
     pub byte : t < byte_values
     pub same : meets T spine (want_of want) number ≡ meets T left (want_of want) t
 
-  pub asked_first : number < byte_values → Asked spine number
-  asked_first b = record { byte = b; same = refl }
+  pub asked_first : number < byte_values → (left : ℕ) → left ≡ spine → Asked left number
+  asked_first b left e = rw e record { byte = b; same = refl }
 
   module _ (left t : ℕ) (a : Asked left t) where
     -- one application: the type is a function, and its result is asked
@@ -38,8 +34,8 @@ module _ (T : Table) (spine want number : ℕ) where
       pub asked_none : is_function_kind x.kind ≡ false → false ≡ meets T spine (want_of want) number
       asked_none f = sym (a.same ∙ opened h ∙ rw (← e, f) refl)
 
-      pub asked_next : is_function_kind x.kind ≡ true → x.q < byte_values → Asked (left - 1) x.q
-      asked_next f b = record { byte = b; same = a.same ∙ opened h ∙ rw (← e, f) refl }
+      pub asked_next : is_function_kind x.kind ≡ true → x.q < byte_values → (rest : ℕ) → rest ≡ left - 1 → Asked rest x.q
+      asked_next f b rest r = rw r record { byte = b; same = a.same ∙ opened h ∙ rw (← e, f) refl }
 
     module _ (h : left ≤ 0) where
       closed : left ≡ 0

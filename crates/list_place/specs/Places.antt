@@ -1,9 +1,8 @@
 -- The terms that are still to come, from the arrays of a place.
 use Rattle.std.specs.Prelude.{◌≡◌, cond, true, List, [], ◌∷◌, ◌+◌, ◌<◌, ◌≤◌, suc, zero, ℕ, eqb, get_or, length}
 use Rattle.std.proofs.Math.Option.{Option, none, some}
-use Rattle.calculus.specs.Limits.{byte_values, max_term_nodes}
+use Rattle.calculus.specs.Limits.{byte_values}
 use Rattle.calculus.specs.Table.{Table}
-use Rattle.term.specs.Forms.{variable_tag, name_tag}
 use Rattle.check_types.specs.Walk.{environment}
 use Rattle.list_spec.specs.Goals.{arguments, Goal, goal, meets, State, state}
 use Rattle.list_place.specs.declared.Place.{Place}
@@ -23,13 +22,6 @@ goals_of wants depths env (suc n) = goal (want_of (get_or wants n 0)) (environme
 -- what a place says is to come
 unfoldable pub state_of : Place → State
 state_of x = state x.spine (goals_of x.wants x.depths x.env x.goals)
-
--- a node with no subterm, with `depth` variables in scope
-pub record LeafThere (depth tag arg : ℕ) : Type 0 where
-  pub few : depth ≤ max_term_nodes
-  pub bound : tag ≡ variable_tag → arg < depth
-  pub byte : arg < byte_values
-  pub known : tag ≤ name_tag
 
 -- `spine` arguments of a function of type t are put behind the first `goals` terms to come, whatever the types of the variables are
 pub record Pushed (T : Table) (wants depths : List ℕ) (goals spine t depth : ℕ) (wants' depths' : List ℕ) (top : ℕ) : Type 0 where

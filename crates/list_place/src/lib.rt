@@ -4,11 +4,9 @@
 ghost use Rattle.std.specs.Prelude.{◌≡◌, ◌+◌, ◌-◌, ◌<◌, ◌≤◌, length};
 ghost use Rattle.calculus.specs.Limits.{byte_values, max_term_nodes};
 ghost use Rattle.recipe_table.specs.Entries.{table_of};
-ghost use Rattle.term.specs.Expressions.{leaf_exp};
-ghost use Rattle.check_types.specs.Walk.{environment, HasNumber};
 ghost use Rattle.list_spec.specs.Goals.{may_use, meets};
 ghost use Rattle.list_index.specs.Index.{constant_codes};
-ghost use Rattle.list_place.specs.Places.{want_of, LeafThere, Pushed};
+ghost use Rattle.list_place.specs.Places.{want_of, Pushed};
 ghost use Rattle.list_place.specs.Candidates.{Annotated, Asked, lambda_stands, leaf_bound, leaf_room, LeafAsked, LeafStands, MayStand};
 
 use list_index::CONSTANT_CODES;
@@ -36,41 +34,18 @@ impl Place {
 pub fn is_met(table: &[u8], spine: usize, want: u16, number: u8) -> bool
     ensures { result ≡ meets (table_of table.now) spine (want_of want) number }
 {
-    let mut open = spine;
     let mut t = number;
-    while 0 < open {
+    for _k in 0..spine {
         let entry = check_types::entry_at(table, t as usize);
         if !check_types::is_function(entry.kind) {
             return false;
         }
         t = entry.q;
-        open -= 1;
     }
     if want == Place::ANY {
         return check_types::many_at(table, t as usize);
     }
     t as u16 == want
-}
-
-// The type of a node with no subterm.
-pub fn leaf_type(env: &[u8; Term::MAX_NODES], depth: usize, tag: u8, arg: usize) -> u8
-    requires { LeafThere depth tag arg }
-    ensures { HasNumber (environment depth env.now) (leaf_exp tag arg) result }
-{
-    if tag == Node::VARIABLE {
-        let level = depth - 1 - arg;
-        return env[level];
-    }
-    if tag == Node::NUM {
-        return numbers::Type::NUM_ENTRY;
-    }
-    if tag == Node::NAME {
-        return numbers::Type::SETTING_ENTRY;
-    }
-    if tag < Node::CELL {
-        return numbers::Type::UNIT_ENTRY;
-    }
-    arg as u8
 }
 
 // Puts the arguments of a function of type t, as many as applications stood open, behind the first `goals` terms to come, the first argument last; answers how many terms there are then.
@@ -100,37 +75,28 @@ pub fn push_arguments(
 const SMALL_NUMS: usize = 2;
 
 // How many numbers are tried after the tag of a node with no subterm; of a constant, all that a byte says.
+#[tactic(auto, unfolding(crate::specs::Candidates::leaf_bound))]
 pub fn bound_of(tag: u8, depth: usize) -> usize
     ensures { result ≡ leaf_bound tag depth }
 {
-    if tag == Node::VARIABLE {
-        return depth;
+    match tag {
+        Node::VARIABLE => depth,
+        Node::NUM => SMALL_NUMS,
+        Node::UNIT | Node::NAME => 1,
+        _ => Byte::VALUES,
     }
-    if tag == Node::NUM {
-        return SMALL_NUMS;
-    }
-    if tag == Node::UNIT {
-        return 1;
-    }
-    if tag == Node::NAME {
-        return 1;
-    }
-    Byte::VALUES
 }
 
 // A constant's type is an instance of Fig. 8; other nodes with no subterm have no type of their own.
+#[tactic(auto, using(crate::proofs::Asking::annotated_low, crate::proofs::Asking::annotated_high, crate::proofs::Asking::annotated_constant))]
 fn is_annotated(constants: &[bool; CONSTANT_CODES], tag: u8, arg: usize) -> bool
     requires { (arg < byte_values) × (length constants.now ≡ constant_codes) }
     ensures { Annotated constants.now tag arg result }
 {
-    if tag < Node::CELL {
-        return true;
+    match tag {
+        Node::CELL..=Node::HANDLE => { constants[(tag - Node::CELL) as usize * Byte::VALUES + arg] }
+        _ => true,
     }
-    if Node::HANDLE < tag {
-        return true;
-    }
-    let constant = (tag - Node::CELL) as usize * Byte::VALUES + arg;
-    constants[constant]
 }
 
 // A node with no subterm may stand at a goal, where there is room for it.
@@ -154,55 +120,47 @@ fn leaf_stands(
     if !is_annotated(constants, tag, arg) {
         return false;
     }
-    is_met(table, spine, want, leaf_type(env, depth, tag, arg))
+    is_met(
+        table,
+        spine,
+        want,
+        check_types::leaf_type(tag, arg, env, depth),
+    )
 }
 
 // A once parameter of type p can be used in a body of type q that has at most so many nodes.
+#[tactic(auto, using(crate::proofs::Asking::uses))]
 fn may_use(table: &[u8], p: u8, q: u8, nodes: usize) -> bool
     ensures { result ≡ may_use (table_of table.now) p q nodes }
 {
-    if 2 < nodes {
-        return true;
-    }
-    if p == q {
-        return true;
-    }
-    if check_types::many_at(table, p as usize) {
+    if 2 < nodes || p == q || check_types::many_at(table, p as usize) {
         return true;
     }
     if nodes < 2 {
         return false;
     }
     let body = check_types::entry_at(table, q as usize);
-    if !check_types::is_function(body.kind) {
-        return false;
-    }
-    body.q == p
+    check_types::is_function(body.kind) && body.q == p
 }
 
 // A lambda whose type has this number may stand at a goal, where its body has at most so many nodes.
+#[tactic(auto, unfolding(crate::specs::Candidates::lambda_stands))]
 fn lambda_stands(table: &[u8], spine: usize, want: u16, number: u8, nodes: usize) -> bool
     ensures { result ≡ lambda_stands (table_of table.now) spine want number nodes }
 {
     let entry = check_types::entry_at(table, number as usize);
-    if !check_types::is_function(entry.kind) {
-        return false;
-    }
-    if !is_met(table, spine, want, number) {
-        return false;
-    }
-    may_use(table, entry.p, entry.q, nodes)
+    check_types::is_function(entry.kind)
+        && is_met(table, spine, want, number)
+        && may_use(table, entry.p, entry.q, nodes)
 }
 
 // There is room for a node with no subterm, where `pending` terms are to come: it is not the last of them, or the last node.
+#[tactic(auto, using(crate::proofs::Asking::room_some, crate::proofs::Asking::room_last))]
 pub fn has_leaf_room(pending: usize, left: usize) -> bool
     requires { (0 < pending) × (pending ≤ left) }
     ensures { result ≡ leaf_room (left - 1) (pending - 1) }
 {
-    if 1 < pending {
-        return true;
-    }
-    left == 1
+    1 < pending || left == 1
 }
 
 // The node of a code may stand at a goal, with `pending` terms to come and `left` nodes left.
@@ -221,26 +179,15 @@ pub fn may_stand(
     ensures { MayStand (table_of table.now) env.now depth spine want pending left code result }
 {
     let tag = (code / Byte::VALUES) as u8;
-    if tag == Node::LAMBDA {
-        if left <= pending {
-            return false;
+    let arg = code % Byte::VALUES;
+    match tag {
+        Node::LAMBDA => {
+            pending < left && lambda_stands(table, spine, want, arg as u8, left - pending)
         }
-        return lambda_stands(
-            table,
-            spine,
-            want,
-            (code % Byte::VALUES) as u8,
-            left - pending,
-        );
-    }
-    if tag == Node::APPLICATION {
-        if code % Byte::VALUES != 0 {
-            return false;
+        Node::APPLICATION => arg == 0 && pending + 2 <= left,
+        _ => {
+            has_leaf_room(pending, left)
+                && leaf_stands(table, constants, env, depth, spine, want, code)
         }
-        return pending + 2 <= left;
     }
-    if !has_leaf_room(pending, left) {
-        return false;
-    }
-    leaf_stands(table, constants, env, depth, spine, want, code)
 }

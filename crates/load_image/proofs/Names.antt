@@ -6,7 +6,7 @@ use native.Mathlib.Omega.{arith}
 use lib.ListN.{get_or, length, length-append, drop, take, length-drop}
 use lib.Seq.{take_all}
 use Rattle.calculus.specs.Bytes.{Bytes, two_bytes}
-use Rattle.calculus.specs.Limits.{byte_values, max_bays, max_image_length}
+use Rattle.calculus.specs.Limits.{byte_values, first_head, max_bays, max_image_length}
 use Rattle.calculus.specs.Lists.{tabulate}
 use Rattle.calculus.proofs.Theory.Tests.{ltb_complete, ltb_not}
 use Rattle.calculus.proofs.Theory.Tabulate.{tabulate_at, tabulate_same}
@@ -17,6 +17,7 @@ use Rattle.recipe_file.proofs.Inside.{few_parts, pairs_inside, term_is_part}
 use Rattle.check_spec.specs.Verdict.{refusal}
 use Rattle.calculus.proofs.Theory.Lists.{get_d_at}
 use Rattle.buffer.specs.Written.{Wrote}
+use Rattle.buffer.proofs.Theory.TwoBytes.{length_two_bytes}
 use Rattle.buffer.proofs.Theory.Writes.{then, known_as}
 use Rattle.calculus.specs.Kinds.{thread_kind, cell_kind}
 use Rattle.image_layout.specs.Encoded.{Encoded, heads, head_offset, expressions}
@@ -62,6 +63,11 @@ settings_read s nums l e f =
     rw f (tabulate_same (bays s) _ _ (λ k h.
     let m : k < max_bays = omega (arith, few_bays l) in
     ap (λ (n : ℕ). setting n k) (ap (λ (x : List ℕ). get_or x k 0) e ∙ get_d_at (tabulate max_bays (starting_num s)) k (tabulate_at max_bays (starting_num s) k m))))
+
+-- the number of names was written, and the heads begin behind it
+pub names_wrote : (s : List ℕ) {b : ℕ} {old out : List ℕ} {next : ℕ} → b ≡ bays s → Wrote old 0 (two_bytes (b + b)) out next
+    → (next ≡ first_head) × Wrote old 0 (two_bytes (starting_names s)) out next
+names_wrote s {b} e w = (omega (arith, w.ends, length_two_bytes (b + b)), known_as w (ap (λ (n : ℕ). two_bytes (n + n)) e))
 
 module _ (s : List ℕ) (b : Bytes s) (accepted : refusal s ≡ 0) where
   -- there is room for the image

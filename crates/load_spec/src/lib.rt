@@ -4,6 +4,7 @@
 use numbers::Recipe;
 
 // Document 01: "Accepting answers b and each bay's type number; loading also the image's length". A refusal has its number, and zeros.
+// The number of a cause beside values, and no Result: the C interface answers it.
 #[repr(C)]
 #[derive(Clone, Copy)]
 pub struct Loaded {

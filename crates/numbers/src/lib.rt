@@ -121,73 +121,43 @@ impl Type {
 }
 
 // The rules, in Fig. 5's order, then those of Fig. 10.
-pub struct Rule {}
-
-impl Rule {
-    pub const BETA: u8 = 1;
-
-    pub const THREAD_NEW: u8 = 2;
-
-    pub const FUTURE_DEREF: u8 = 3;
-
-    pub const HANDLE_NEW: u8 = 4;
-
-    pub const HANDLE_BIND: u8 = 5;
-
-    pub const CELL_NEW: u8 = 6;
-
-    pub const CELL_EXCH: u8 = 7;
-
-    pub const CASE_PAIR: u8 = 8;
-
-    pub const CASE_LIST: u8 = 9;
+#[derive(Clone, Copy, Debug, PartialEq, Eq)]
+pub enum Rule {
+    Beta = 1,
+    ThreadNew = 2,
+    FutureDeref = 3,
+    HandleNew = 4,
+    HandleBind = 5,
+    CellNew = 6,
+    CellExch = 7,
+    CasePair = 8,
+    CaseList = 9,
 }
 
 // The causes of a refusal.
-pub struct Cause {}
-
-impl Cause {
-    pub const FILE_LENGTH: u8 = 1;
-
-    pub const OPENING: u8 = 2;
-
-    pub const LAYOUT: u8 = 3;
-
-    pub const TYPE_ENTRY: u8 = 4;
-
-    pub const NO_TERM: u8 = 5;
-
-    pub const TERM_SIZE: u8 = 6;
-
-    pub const SCOPE: u8 = 7;
-
-    pub const ANNOTATION: u8 = 8;
-
-    pub const TYPE: u8 = 9;
-
-    pub const LINEARITY: u8 = 10;
-
-    pub const BAY_ONCE: u8 = 11;
-
-    pub const BUFFER: u8 = 12;
-
-    pub const IMAGE: u8 = 13;
-
-    pub const NO_THREAD: u8 = 14;
-
-    pub const ROOM: u8 = 15;
-
-    pub const USED_HANDLE: u8 = 16;
-
-    pub const WRONG_KIND: u8 = 17;
-
-    pub const SEED: u8 = 18;
-
-    pub const STARTING: u8 = 19;
-
-    pub const OTHER_SETTING: u8 = 20;
-
-    pub const SHARE: u8 = 21;
+#[derive(Clone, Copy, Debug, PartialEq, Eq)]
+pub enum Cause {
+    FileLength = 1,
+    Opening = 2,
+    Layout = 3,
+    TypeEntry = 4,
+    NoTerm = 5,
+    TermSize = 6,
+    Scope = 7,
+    Annotation = 8,
+    Type = 9,
+    Linearity = 10,
+    BayOnce = 11,
+    Buffer = 12,
+    Image = 13,
+    NoThread = 14,
+    Room = 15,
+    UsedHandle = 16,
+    WrongKind = 17,
+    Seed = 18,
+    Starting = 19,
+    OtherSetting = 20,
+    Share = 21,
 }
 
 pub fn byte_values() -> usize
@@ -280,15 +250,15 @@ pub fn rules() -> [u8; 9]
     ensures { result ≡ rules }
 {
     [
-        Rule::BETA,
-        Rule::THREAD_NEW,
-        Rule::FUTURE_DEREF,
-        Rule::HANDLE_NEW,
-        Rule::HANDLE_BIND,
-        Rule::CELL_NEW,
-        Rule::CELL_EXCH,
-        Rule::CASE_PAIR,
-        Rule::CASE_LIST,
+        Rule::Beta as u8,
+        Rule::ThreadNew as u8,
+        Rule::FutureDeref as u8,
+        Rule::HandleNew as u8,
+        Rule::HandleBind as u8,
+        Rule::CellNew as u8,
+        Rule::CellExch as u8,
+        Rule::CasePair as u8,
+        Rule::CaseList as u8,
     ]
 }
 
@@ -296,26 +266,26 @@ pub fn causes() -> [u8; 21]
     ensures { result ≡ causes }
 {
     [
-        Cause::FILE_LENGTH,
-        Cause::OPENING,
-        Cause::LAYOUT,
-        Cause::TYPE_ENTRY,
-        Cause::NO_TERM,
-        Cause::TERM_SIZE,
-        Cause::SCOPE,
-        Cause::ANNOTATION,
-        Cause::TYPE,
-        Cause::LINEARITY,
-        Cause::BAY_ONCE,
-        Cause::BUFFER,
-        Cause::IMAGE,
-        Cause::NO_THREAD,
-        Cause::ROOM,
-        Cause::USED_HANDLE,
-        Cause::WRONG_KIND,
-        Cause::SEED,
-        Cause::STARTING,
-        Cause::OTHER_SETTING,
-        Cause::SHARE,
+        Cause::FileLength as u8,
+        Cause::Opening as u8,
+        Cause::Layout as u8,
+        Cause::TypeEntry as u8,
+        Cause::NoTerm as u8,
+        Cause::TermSize as u8,
+        Cause::Scope as u8,
+        Cause::Annotation as u8,
+        Cause::Type as u8,
+        Cause::Linearity as u8,
+        Cause::BayOnce as u8,
+        Cause::Buffer as u8,
+        Cause::Image as u8,
+        Cause::NoThread as u8,
+        Cause::Room as u8,
+        Cause::UsedHandle as u8,
+        Cause::WrongKind as u8,
+        Cause::Seed as u8,
+        Cause::Starting as u8,
+        Cause::OtherSetting as u8,
+        Cause::Share as u8,
     ]
 }

@@ -1,5 +1,5 @@
 -- Causes 1 to 3 do not fit exactly when a file is laid out as document 01 says.
-use mathlib.Core.Path.{◌∙◌, ◌≡◌, ap, refl, sym}
+use mathlib.Core.Path.{◌≡◌, ap, refl, sym}
 use mathlib.Core.Logic.{◌↔◌}
 use mathlib.Core.Bool.{Bool, ◌||◌, false, false≢true, not, true}
 use mathlib.Core.List.{List, [], ◌∷◌}
@@ -112,5 +112,9 @@ pub no_layout_cause : (s : List ℕ) → layout_refusal s ≡ 0 → (cause_1 s �
 unfolding layout_refusal
 no_layout_cause s e = let (a, (b, (c, u))) = none_fits (layout_causes s) tt e in (a, b, c)
 
-pub laid_where : (s : List ℕ) (r : ℕ) → r ≡ layout_refusal s → r ≡ 0 → FileRule s
-laid_where s r e z = let (a, b, c) = no_layout_cause s (sym e ∙ z) in laid s a b c
+pub laid_where : (s : List ℕ) → layout_refusal s ≡ 0 → FileRule s
+laid_where s e = let (a, b, c) = no_layout_cause s e in laid s a b c
+
+pub layout_stands : {s : List ℕ} → FileRule s → layout_refusal s ≡ 0
+unfolding layout_refusal
+layout_stands l = rw (no_cause_1 l, no_cause_2 l, no_cause_3 l) refl

@@ -102,12 +102,9 @@ pub record NumsRead (s : List ℕ) (bay : ℕ) (nums : List ℕ) : Type 0 where
 pub read_none : (s : List ℕ) → NumsRead s 0 (replicate max_bays 0)
 read_none s = record { few = omega arith; filled = filled_none max_bays (starting_num s) }
 
-module _ {s starting : List ℕ} (is : starting ≡ starting_bytes s) (bay : ℕ) where
+module _ {s starting : List ℕ} (is : starting ≡ starting_bytes s) (l : FileRule s) (n : cause_19 s ≡ false) (bay : ℕ) where
   -- a num more
-  module _ (l : FileRule s) (n : cause_19 s ≡ false) (more : starting_num_length * bay < length starting) where
-    pub whole : starting_num_length * bay + starting_num_length ≤ length starting
-    whole = let (k, e, h) = written l n in omega (arith, ap length is)
-
+  module _ (more : bay < length starting / starting_num_length) where
     pub one_more : bay < max_bays
     one_more = let (k, e, h) = written l n in omega (arith, ap length is, l.has_parts.high)
 
@@ -115,6 +112,8 @@ module _ {s starting : List ℕ} (is : starting ≡ starting_bytes s) (bay : ℕ
     unfolding starting_num
     read_next r n e = record { few = omega (arith, one_more); filled = rw r.filled (filled_next max_bays (starting_num s) bay n (e ∙ ap (λ (x : List ℕ). word x (starting_num_length * bay)) is)) }
 
-  pub read_all : {nums : List ℕ} → NumsRead s bay nums → length starting ≤ starting_num_length * bay → nums ≡ tabulate max_bays (starting_num s)
+  pub read_all : {nums : List ℕ} → NumsRead s bay nums → length starting / starting_num_length ≤ bay → nums ≡ tabulate max_bays (starting_num s)
   unfolding starting_num
-  read_all r h = r.filled ∙ filled_all max_bays (starting_num s) bay (λ k i. past (starting_bytes s) k (let e = ap length is in omega arith))
+  read_all r h =
+      let (k, e, few) = written l n in
+      r.filled ∙ filled_all max_bays (starting_num s) bay (λ j i. past (starting_bytes s) j (let same = ap length is in omega arith))

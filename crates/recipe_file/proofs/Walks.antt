@@ -16,10 +16,10 @@ pub record PairsWalked (s : List ℕ) (n i at : ℕ) : Type 0 where
   pub near : at ≤ pair_offset n + two_byte_values * i
   pub same : pairs_test s n 0 (pair_offset n) ≡ pairs_test s (n - i) i at
 
-pub walked_start : (s : List ℕ) (n i at : ℕ) → i ≡ 0 → at ≡ pair_offset n → PairsWalked s n i at
-walked_start s n i at p q =
+pub walked_start : (s : List ℕ) (n : ℕ) {at : ℕ} → at ≡ pair_offset n → PairsWalked s n 0 at
+walked_start s n q =
     let e : n - 0 ≡ n = omega arith in
-    rw (p, q) (record { inside = omega arith; near = omega arith; same = rw e refl })
+    rw q (record { inside = omega arith; near = omega arith; same = rw e refl })
 
 module _ {s : List ℕ} {n i at : ℕ} (w : PairsWalked s n i at) (h : i < n) (o : ℕ) (is_offset : o ≡ offset_of s i) where
   turn : pairs_test s n 0 (pair_offset n) ≡ (eqb o at && (not (eqb (length_of s i) 0) && pairs_test s (n - (i + 1)) (i + 1) (at + length_of s i)))
@@ -33,13 +33,12 @@ module _ {s : List ℕ} {n i at : ℕ} (w : PairsWalked s n i at) (h : i < n) (o
     pub walked_empty : size ≡ 0 → false ≡ pairs_test s n 0 (pair_offset n)
     walked_empty z = sym (turn ∙ rw (eq-eqb o at p, ← is_size, z) refl)
 
-    pub walked_next : (size ≡ 0 → ⊥) → size < two_byte_values → (j to : ℕ) → j ≡ i + 1 → to ≡ at + size → PairsWalked s n j to
-    walked_next f b j to e₁ e₂ =
-        rw (e₁, e₂) (record {
-          inside = omega arith;
-          near = omega (arith, w.near);
-          same = turn ∙ rw (eq-eqb o at p, ← is_size, ne_eqb size 0 f) refl;
-        })
+    pub walked_next : (size ≡ 0 → ⊥) → size < two_byte_values → PairsWalked s n (i + 1) (at + size)
+    walked_next f b = record {
+      inside = omega arith;
+      near = omega (arith, w.near);
+      same = turn ∙ rw (eq-eqb o at p, ← is_size, ne_eqb size 0 f) refl;
+    }
 
 pub walked_end : {s : List ℕ} {n i at : ℕ} → PairsWalked s n i at → n ≤ i → eqb at (length s) ≡ pairs_test s n 0 (pair_offset n)
 unfolding pairs_test

@@ -1,17 +1,15 @@
 // The recipe file: its limits, its layout, and its parts as slices of it.
 #![tactic(auto)]
 
-ghost use Rattle.std.specs.Prelude.{◌≡◌, false, ◌+◌, ◌*◌, ◌<◌, ◌≤◌, length};
-ghost use Rattle.calculus.specs.Bytes.{two_byte_values};
+ghost use Rattle.std.specs.Prelude.{◌≡◌, false, ◌+◌, ◌*◌, ◌<◌, ◌≤◌, length, IfOk};
+ghost use Rattle.calculus.specs.Bytes.{Bytes, two_byte_values};
 ghost use Rattle.calculus.specs.Limits.{byte_values, max_bays, min_file_length};
 ghost use Rattle.calculus.specs.Lists.{tabulate};
+ghost use Rattle.numbers.specs.Refusals.{refusal_number};
 ghost use Rattle.recipe_file.specs.File.{edition_of, bays, pair_offset, offset_of, length_of, part, table_bytes, term_bytes, outside, cause_2, pairs_test, table_length_test, cause_3, layout_refusal};
 ghost use Rattle.recipe_file.specs.Starting.{starting_bytes, starting_num, cause_19};
-ghost use Rattle.recipe_file.specs.FileRule.{FileRule, HasPart, HasBay};
+ghost use Rattle.recipe_file.specs.FileRule.{FileRule, HasPart};
 
-mod cursor;
-
-use cursor::Cursor;
 use numbers::{Cause, Recipe};
 
 // The first two bytes of every recipe.
@@ -155,19 +153,18 @@ fn pairs_stand(recipe: &[u8], n: usize) -> bool
     requires { (n < byte_values) × (pair_offset n ≤ length recipe.now) }
     ensures { result ≡ pairs_test recipe.now n 0 (pair_offset n) }
 {
-    let mut cursor = Cursor::new(n);
-    while cursor.pair < n {
-        let pair = cursor.pair;
-        if offset_of(recipe, pair) != cursor.at {
+    let mut end = pair_offset(n);
+    for pair in 0..n {
+        if offset_of(recipe, pair) != end {
             return false;
         }
         let size = length_of(recipe, pair);
         if size == 0 {
             return false;
         }
-        cursor = cursor.past(size);
+        end += size;
     }
-    cursor.at == recipe.len()
+    end == recipe.len()
 }
 
 // A type table may have this length.
@@ -199,31 +196,6 @@ fn layout_breaks(recipe: &[u8]) -> bool
     !table_length_stands(length_of(recipe, TABLE_PART))
 }
 
-// The lowest of causes 1 to 3 that fits, or 0.
-pub fn layout_refusal(recipe: &[u8], edition: Edition) -> u8
-    requires { edition ≡ edition_of recipe.now }
-    ensures { result ≡ layout_refusal recipe.now }
-{
-    if is_outside(Recipe::MIN_FILE, Recipe::MAX_FILE, recipe.len()) {
-        return Cause::FILE_LENGTH;
-    }
-    if opening_breaks(recipe, edition) {
-        return Cause::OPENING;
-    }
-    if layout_breaks(recipe) {
-        return Cause::LAYOUT;
-    }
-    0
-}
-
-// How many bays a recipe has.
-pub fn bay_count(recipe: &[u8], edition: Edition) -> usize
-    requires { FileRule recipe.now × (edition ≡ edition_of recipe.now) }
-    ensures { result ≡ bays recipe.now }
-{
-    wide(recipe[3]) - edition.terms
-}
-
 // The part that pair i names, as it stands in the recipe.
 pub fn part(recipe: &[u8], i: usize) -> &[u8]
     requires { HasPart recipe.now i }
@@ -234,55 +206,98 @@ pub fn part(recipe: &[u8], i: usize) -> &[u8]
     &recipe[start..start + size]
 }
 
-// The bytes of the type table.
-pub fn table_bytes(recipe: &[u8]) -> &[u8]
-    requires { FileRule recipe.now }
-    ensures { result.now ≡ table_bytes recipe.now }
-{
-    part(recipe, TABLE_PART)
+// A recipe that is laid out: its bytes, with the edition that they say.
+#[derive(Clone, Copy)]
+pub struct RecipeFile<'a> {
+    pub bytes: &'a [u8],
+    pub edition: Edition,
+    ghost said: { edition ≡ edition_of bytes.now },
+    ghost laid: { layout_refusal bytes.now ≡ 0 },
+    ghost fit: { Bytes bytes.now },
 }
 
-// The bytes of a bay's term.
-pub fn term_bytes(recipe: &[u8], edition: Edition, bay: usize) -> &[u8]
-    requires { HasBay recipe.now bay × (edition ≡ edition_of recipe.now) }
-    ensures { result.now ≡ term_bytes recipe.now bay }
-{
-    part(recipe, edition.terms + bay)
-}
-
-// The bytes of the starting part, as they stand in the recipe; none where the edition has no such part.
-fn starting_bytes(recipe: &[u8], edition: Edition) -> &[u8]
-    requires { FileRule recipe.now × (edition ≡ edition_of recipe.now) }
-    ensures { result.now ≡ starting_bytes recipe.now }
-{
-    if !edition.starting {
-        return &recipe[..0];
+impl<'a> RecipeFile<'a> {
+    // A recipe's bytes, or the lowest of causes 1 to 3 that fits.
+    pub fn read(bytes: &'a [u8]) -> Result<Self, Cause>
+        ensures refusal { refusal_number result ≡ layout_refusal bytes.now }
+        ensures file { IfOk result (λ file. file.bytes.now ≡ bytes.now) }
+    {
+        let edition = edition_of(bytes);
+        if is_outside(Recipe::MIN_FILE, Recipe::MAX_FILE, bytes.len()) {
+            return Err(Cause::FileLength);
+        }
+        if opening_breaks(bytes, edition) {
+            return Err(Cause::Opening);
+        }
+        if layout_breaks(bytes) {
+            return Err(Cause::Layout);
+        }
+        Ok(RecipeFile { bytes, edition })
     }
-    part(recipe, STARTING_PART)
-}
 
-// Cause 19: the length of the starting part.
-pub fn starting_breaks(recipe: &[u8], edition: Edition) -> bool
-    requires { FileRule recipe.now × (edition ≡ edition_of recipe.now) }
-    ensures { result ≡ cause_19 recipe.now }
-{
-    if !edition.starting {
-        return false;
+    // The bytes of a recipe that is known to be laid out.
+    pub fn of(bytes: &'a [u8]) -> Self
+        requires { FileRule bytes.now }
+        ensures { result.bytes.now ≡ bytes.now }
+    {
+        RecipeFile {
+            bytes,
+            edition: edition_of(bytes),
+        }
     }
-    length_of(recipe, STARTING_PART) != STARTING_NUM_LENGTH * bay_count(recipe, edition)
-}
 
-// The starting nums of all bays, by value; 0 where none is written.
-pub fn starting_nums(recipe: &[u8], edition: Edition) -> [u16; Recipe::MAX_BAYS]
-    requires { (FileRule recipe.now × (cause_19 recipe.now ≡ false)) × (edition ≡ edition_of recipe.now) }
-    ensures { result ≡ tabulate max_bays (starting_num recipe.now) }
-{
-    let starting = starting_bytes(recipe, edition);
-    let mut nums = [0u16; Recipe::MAX_BAYS];
-    let mut bay: usize = 0;
-    while STARTING_NUM_LENGTH * bay < starting.len() {
-        nums[bay] = buffer::word_at(starting, STARTING_NUM_LENGTH * bay) as u16;
-        bay += 1;
+    // How many bays it has.
+    pub fn bays(self) -> usize
+        ensures { result ≡ bays self.entry.bytes.now }
+    {
+        wide(self.bytes[3]) - self.edition.terms
     }
-    nums
+
+    // The bytes of the type table.
+    pub fn table(self) -> &'a [u8]
+        ensures { result.now ≡ table_bytes self.entry.bytes.now }
+    {
+        part(self.bytes, TABLE_PART)
+    }
+
+    // The bytes of a bay's term.
+    pub fn term(self, bay: usize) -> &'a [u8]
+        requires { bay < bays self.bytes.now }
+        ensures { result.now ≡ term_bytes self.entry.bytes.now bay }
+    {
+        part(self.bytes, self.edition.terms + bay)
+    }
+
+    // The bytes of the starting part; none where the edition has no such part.
+    fn starting(self) -> &'a [u8]
+        ensures { result.now ≡ starting_bytes self.entry.bytes.now }
+    {
+        if !self.edition.starting {
+            return &self.bytes[..0];
+        }
+        part(self.bytes, STARTING_PART)
+    }
+
+    // Cause 19: the length of the starting part.
+    pub fn starting_breaks(self) -> bool
+        ensures { result ≡ cause_19 self.entry.bytes.now }
+    {
+        if !self.edition.starting {
+            return false;
+        }
+        length_of(self.bytes, STARTING_PART) != STARTING_NUM_LENGTH * self.bays()
+    }
+
+    // The starting nums of all bays, by value; 0 where none is written.
+    pub fn starting_nums(self) -> [u16; Recipe::MAX_BAYS]
+        requires { cause_19 self.bytes.now ≡ false }
+        ensures { result ≡ tabulate max_bays (starting_num self.entry.bytes.now) }
+    {
+        let starting = self.starting();
+        let mut nums = [0u16; Recipe::MAX_BAYS];
+        for bay in 0..starting.len() / STARTING_NUM_LENGTH {
+            nums[bay] = buffer::word_at(starting, STARTING_NUM_LENGTH * bay) as u16;
+        }
+        nums
+    }
 }

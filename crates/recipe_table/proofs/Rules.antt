@@ -215,20 +215,6 @@ is_at : (a : List Entry) (count k : ℕ) (x : calculus.Entry) → count ≤ leng
 unfolding calculus.entry_is calculus.test_entry stands_at
 is_at a count k x h l = rw (entry_at a count h k l) refl
 
-module _ (a : List Entry) (t : Bool) (e : t ≡ calculus.same_entry (as_entry (get_or a unit_entry unused)) calculus.entry_of_unit) where
-  pub no_unit : t ≡ false → false ≡ first_three a
-  unfolding first_three stands_at
-  no_unit f = rw (← e, f) refl
-
-  module _ (p : t ≡ true) (u : Bool) (e' : u ≡ calculus.same_entry (as_entry (get_or a num_entry unused)) calculus.entry_of_num) where
-    pub no_num : u ≡ false → false ≡ first_three a
-    unfolding first_three stands_at
-    no_num f = rw (← e, p, ← e', f) refl
-
-    pub cell_third : u ≡ true → calculus.same_entry (as_entry (get_or a setting_entry unused)) calculus.entry_of_setting ≡ first_three a
-    unfolding first_three stands_at
-    cell_third f = rw (← e, p, ← e', f) refl
-
 -- the table
 module _ (kinds : ℕ) (a : List Entry) (count : ℕ) (h : count ≤ length a) (l : min_entries ≤ count) where
   rules : calculus.table_test kinds (as_table a count)

@@ -13,6 +13,9 @@ use Rattle.calculus.specs.Limits.{min_entries, max_entries}
 use Rattle.calculus.specs.Table.{TableRule, table_test}
 use Rattle.calculus.proofs.Theory.Lowest.{first_cause_front, none_fits}
 use Rattle.calculus.proofs.Theory.TableTest.{KindsBelow, table_test_iff}
+use Rattle.numbers.specs.declared.Cause.{Cause}
+use Rattle.numbers.specs.Refusals.{number_of}
+use Rattle.numbers.proofs.Refusals.{some_number}
 use Rattle.recipe_file.specs.declared.Edition.{Edition}
 use Rattle.recipe_file.specs.File.{edition_of, entry_length, table_bytes, layout_causes, layout_refusal}
 use Rattle.recipe_file.specs.FileRule.{Between, FileRule}
@@ -40,17 +43,17 @@ module _ {s : List ℕ} (l : FileRule s) where
   count_fits = omega (arith, count_between.high, length_table)
 
 -- a cause below 4 is the answer
-pub layout_first : (s : List ℕ) (r : ℕ) → r ≡ layout_refusal s → (r ≡ 0 → ⊥) → r ≡ table_refusal s
+pub layout_first : (s : List ℕ) (c : Cause) → number_of c ≡ layout_refusal s → number_of c ≡ table_refusal s
 unfolding layout_refusal table_refusal
-layout_first s r e f = e ∙ sym (first_cause_front (layout_causes s) (cause type_entry_cause (cause_4 s) ∷ []) (λ z. f (e ∙ z)))
+layout_first s c e = e ∙ sym (first_cause_front (layout_causes s) (cause type_entry_cause (cause_4 s) ∷ []) (λ z. some_number c (e ∙ z)))
 
 -- else the table decides
-module _ (s : List ℕ) (n : Edition) (says : n ≡ edition_of s) (r : ℕ) (e : r ≡ layout_refusal s) (z : r ≡ 0) (a : List Entry) (is_table : a ≡ filled (type_table s))
+module _ (s : List ℕ) (n : Edition) (says : n ≡ edition_of s) (e : layout_refusal s ≡ 0) (a : List Entry) (is_table : a ≡ filled (type_table s))
     (count : ℕ) (is_count : count ≡ length (type_table s)) (t : Bool) (f : t ≡ table_test n.kinds (as_table a count)) where
   decided : ◌≡◌ {A = ℕ} (cond (not t) type_entry_cause 0) (table_refusal s)
   unfolding table_refusal cause_4
   decided =
-      let (p, q, w) = no_layout_cause s (sym e ∙ z) in
+      let (p, q, w) = no_layout_cause s e in
       let g : as_table a count ≡ type_table s = rw is_table (as_table_filled (type_table s) count is_count) in
       rw (p, q, w, f, g, says) refl
 

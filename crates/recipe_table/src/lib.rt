@@ -1,21 +1,22 @@
 // The type table: read by value, and its rules.
 #![tactic(auto)]
 
-ghost use Rattle.std.specs.Prelude.{◌≡◌, ◌&&◌, not, ◌-◌, ◌<◌, ◌≤◌, ◌/◌, ltb, length};
+ghost use Rattle.std.specs.Prelude.{◌≡◌, ◌&&◌, not, ◌-◌, ◌<◌, ◌≤◌, ◌/◌, ltb, length, IfOk};
 ghost use Rattle.calculus.specs.Limits.{min_entries, max_entries};
-ghost use Rattle.calculus.specs.Table.{is_once_kind, entry_stands, entries_test, same_entry, distinct_test, table_test};
-ghost use Rattle.recipe_file.specs.File.{edition_of, entry_length};
-ghost use Rattle.recipe_file.specs.FileRule.{Between, FileRule};
+ghost use Rattle.calculus.specs.Table.{is_once_kind, entry_stands, entries_test, distinct_test, table_test};
+ghost use Rattle.numbers.specs.Refusals.{refusal_number};
+ghost use Rattle.recipe_file.specs.File.{entry_length};
+ghost use Rattle.recipe_file.specs.FileRule.{Between};
 ghost use Rattle.recipe_table.specs.Entries.{table_of, type_table, table_refusal};
 ghost use Rattle.recipe_table.specs.Keys.{Coded, absent, mark_of, marks_room, Marked};
 ghost use Rattle.recipe_table.specs.Filled.{as_entry, as_table, filled, first_three};
 ghost use Rattle.recipe_table.specs.Rules.{names_test, many_entry, contents_test};
 
 use numbers::{Byte, Cause, Recipe, Type};
-use recipe_file::{ENTRY_LENGTH, Edition};
+use recipe_file::{ENTRY_LENGTH, RecipeFile};
 
 // An entry of the type table.
-#[derive(Clone, Copy)]
+#[derive(Clone, Copy, Debug, PartialEq, Eq)]
 pub struct Entry {
     pub kind: u8,
     pub p: u8,
@@ -68,15 +69,13 @@ pub fn read_table(bytes: &[u8]) -> [Entry; Recipe::MAX_ENTRIES]
 {
     let mut table = [Entry::UNUSED; Recipe::MAX_ENTRIES];
     let count = bytes.len() / ENTRY_LENGTH;
-    let mut i = 0;
-    while i < count {
+    for i in 0..count {
         let at = ENTRY_LENGTH * i;
         table[i] = Entry {
             kind: bytes[at],
             p: bytes[at + 1],
             q: bytes[at + 2],
         };
-        i += 1;
     }
     table
 }
@@ -133,16 +132,6 @@ fn contents_stand(kind: u8, first: Entry, second: Entry) -> bool
     true
 }
 
-// Two entries are equal.
-fn is_same(a: Entry, b: Entry) -> bool
-    ensures { result ≡ same_entry (as_entry a) (as_entry b) }
-{
-    if a.kind != b.kind {
-        return false;
-    }
-    a.p == b.p && a.q == b.q
-}
-
 // An entry as one number.
 fn key_of(it: Entry) -> u32
     ensures { Coded (as_entry it) result }
@@ -163,10 +152,8 @@ fn is_new(keys: &[u32; Recipe::MAX_ENTRIES], from: usize, count: usize, key: u32
     ensures { result ≡ absent key keys.now from (count - from) }
 {
     let mut fresh = true;
-    let mut j = from;
-    while j < count {
+    for j in from..count {
         fresh &= keys[j] != key;
-        j += 1;
     }
     fresh
 }
@@ -195,9 +182,7 @@ fn entries_stand(table: [Entry; Recipe::MAX_ENTRIES], count: usize, kinds: u8) -
 {
     let mut keys = [0u32; Recipe::MAX_ENTRIES];
     let mut marks = [false; MARKS];
-    let mut i = count;
-    while 0 < i {
-        i -= 1;
+    for i in (0..count).rev() {
         let it = table[i];
         let key = key_of(table[i]); // read again: from `it`, which is read by its fields too, it would go through memory
         if !entry_stands(it, i, kinds) {
@@ -216,16 +201,13 @@ fn entries_stand(table: [Entry; Recipe::MAX_ENTRIES], count: usize, kinds: u8) -
 }
 
 // Entries 0, 1, 2 are unit, num, cell of num.
+#[tactic(auto, unfolding(crate::specs::Filled::first_three, crate::specs::Filled::stands_at, calculus::specs::Table::same_entry))]
 fn first_stand(table: [Entry; Recipe::MAX_ENTRIES]) -> bool
     ensures { result ≡ first_three table }
 {
-    if !is_same(table[UNIT_AT], Entry::UNIT) {
-        return false;
-    }
-    if !is_same(table[NUM_AT], Entry::NUM) {
-        return false;
-    }
-    is_same(table[SETTING_AT], Entry::SETTING)
+    table[UNIT_AT] == Entry::UNIT
+        && table[NUM_AT] == Entry::NUM
+        && table[SETTING_AT] == Entry::SETTING
 }
 
 // The table keeps its rules, in an edition with so many kinds.
@@ -240,34 +222,27 @@ pub fn table_stands(table: [Entry; Recipe::MAX_ENTRIES], count: usize, kinds: u8
 }
 
 // The type table of a recipe.
-pub fn table_in(recipe: &[u8]) -> [Entry; Recipe::MAX_ENTRIES]
-    requires { FileRule recipe.now }
-    ensures { result ≡ filled (type_table recipe.now) }
+pub fn table_in(recipe: RecipeFile) -> [Entry; Recipe::MAX_ENTRIES]
+    ensures { result ≡ filled (type_table recipe.entry.bytes.now) }
 {
-    let bytes = recipe_file::table_bytes(recipe);
-    read_table(bytes)
+    read_table(recipe.table())
 }
 
 // How many entries the type table of a recipe has.
-pub fn entry_count(recipe: &[u8]) -> usize
-    requires { FileRule recipe.now }
-    ensures { result ≡ length (type_table recipe.now) }
+pub fn entry_count(recipe: RecipeFile) -> usize
+    ensures { result ≡ length (type_table recipe.entry.bytes.now) }
 {
-    let bytes = recipe_file::table_bytes(recipe);
-    bytes.len() / ENTRY_LENGTH
+    recipe.table().len() / ENTRY_LENGTH
 }
 
-// The lowest of causes 1 to 4 that fits, or 0.
-pub fn table_refusal(recipe: &[u8], edition: Edition) -> u8
-    requires { edition ≡ edition_of recipe.now }
-    ensures { result ≡ table_refusal recipe.now }
+// A recipe whose layout and type table stand, or the lowest of causes 1 to 4 that fits.
+pub fn read(recipe: &[u8]) -> Result<RecipeFile, Cause>
+    ensures refusal { refusal_number result ≡ table_refusal recipe.now }
+    ensures file { IfOk result (λ file. file.bytes.now ≡ recipe.now) }
 {
-    let layout = recipe_file::layout_refusal(recipe, edition);
-    if layout != 0 {
-        return layout;
+    let recipe = RecipeFile::read(recipe)?;
+    if !table_stands(table_in(recipe), entry_count(recipe), recipe.edition.kinds) {
+        return Err(Cause::TypeEntry);
     }
-    if !table_stands(table_in(recipe), entry_count(recipe), edition.kinds) {
-        return Cause::TYPE_ENTRY;
-    }
-    0
+    Ok(recipe)
 }

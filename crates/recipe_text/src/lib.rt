@@ -8,6 +8,7 @@ ghost use Rattle.text.specs.Put.{Puts, PutsInput};
 ghost use Rattle.recipe_text.specs.Text.{hexadecimal, hexadecimal_byte, image_line, max_text_length, text_of};
 
 use buffer::{put_byte, put_bytes};
+use load_recipe::Common;
 use numbers::Image;
 use text::{digit_of, put_verdict_line};
 
@@ -37,10 +38,8 @@ fn put_hexadecimal(text: &mut [u8], at: usize, bytes: &[u8]) -> usize
     ensures { Wrote text.old at (hexadecimal bytes.now) text.new result }
 {
     let mut next = at;
-    let mut i = 0;
-    while i < bytes.len() {
-        next = put_hexadecimal_byte(text, next, bytes[i]);
-        i += 1;
+    for byte in bytes {
+        next = put_hexadecimal_byte(text, next, *byte);
     }
     next
 }
@@ -63,7 +62,7 @@ pub fn put_text(recipe: &[u8], text: &mut [u8]) -> usize
         return 0;
     }
     let mut out = [0u8; Image::MAX_LENGTH];
-    let loaded = load_recipe::load(recipe, &mut out);
+    let loaded = load_recipe::load::<Common>(recipe, &mut out);
     let after_verdict = put_verdict_line(text, loaded.refusal as u8);
     if loaded.refusal != 0 {
         return after_verdict;

@@ -1,10 +1,11 @@
 -- A run on its way: what the loop keeps, and a law for each way through it.
 use mathlib.Core.Path.{◌∙◌, ◌≡◌, ap, ap₂, refl, subst, subst⁻¹, sym}
-use mathlib.Core.Bool.{Bool, cond}
+use mathlib.Core.Bool.{Bool, cond, false, true}
 use mathlib.Core.List.{List}
 use Prim.Native.Nat.{ℕ, suc, ◌%◌, ◌+◌, ◌-◌, ◌<◌, ◌≤◌}
 use native.Mathlib.Decide.{dec_lt}
 use native.Mathlib.Omega.{arith}
+use Rattle.std.specs.Prelude.{Result, Ok, Err}
 use lib.Dec.{eqb}
 use lib.ListN.{length, take}
 use lib.Seq.{take_all}
@@ -26,10 +27,10 @@ use Rattle.run_spec.proofs.Theory.ReachedLooks.{grows}
 use Rattle.run_spec.proofs.Theory.Chain.{turn_goes}
 use Rattle.run_spec.proofs.Theory.Fair.{goes_below}
 use Rattle.run_turn.specs.declared.At.{At}
-use Rattle.run_turn.specs.declared.Taken.{Taken}
-use Rattle.run_turn.specs.declared.Taken.TheVariants.{Met, Nobody, On}
+use Rattle.run_turn.specs.declared.Halt.{Halt}
+use Rattle.run_turn.specs.declared.Halt.TheVariants.{Met, Nobody}
 use Rattle.run_turn.specs.Turning.{Took, Went, met_one, nobody_went, went}
-use Rattle.run_recipe.specs.Running.{Holds, Present, Ready, Starts}
+use Rattle.run_recipe.specs.Running.{Holds, Present, Ready}
 
 -- ---- parity
 
@@ -144,16 +145,16 @@ module _ {c : Course} {taken : ℕ} {image : List ℕ} {stop : Stop} (q : Rest c
       }
 
 -- what a turn says, by its variant
-pub took_as : {s out : List ℕ} {next : ℕ} {t u : Taken} → t ≡ u → Took s next t out → Took s next u out
-took_as {s} {out} {next} e t = subst (λ (u : Taken). Took s next u out) e t
+took_as : {s out : List ℕ} {next : ℕ} {t u : Result At Halt} → t ≡ u → Took s next t out → Took s next u out
+took_as {s} {out} {next} e t = subst (λ (u : Result At Halt). Took s next u out) e t
 
-went_of : {at' : At} {s out : List ℕ} {next : ℕ} → Took s next (On at') out → Went s next at' out
+went_of : {at' : At} {s out : List ℕ} {next : ℕ} → Took s next (Ok at') out → Went s next at' out
 went_of (went w) = w
 
-nobody_of : {s out : List ℕ} {next : ℕ} {lacked : Bool} → Took s next (Nobody lacked) out → search_from s next ≡ nobody lacked
+nobody_of : {s out : List ℕ} {next : ℕ} {lacked : Bool} → Took s next (Err (Nobody lacked)) out → search_from s next ≡ nobody lacked
 nobody_of (nobody_went e) = e
 
-met_of : {s out : List ℕ} {next number : ℕ} → Took s next (Met number) out → search_from s next ≡ met number
+met_of : {s out : List ℕ} {next number : ℕ} → Took s next (Err (Met number)) out → search_from s next ≡ met number
 met_of (met_one e) = e
 
 -- ---- the loop
@@ -165,16 +166,10 @@ pub record Underway (c : Course) (k : ℕ) (first second : List ℕ) (at : At) (
   pub few : taken ≤ k
   pub rest : Rest c taken (take_turns (k - taken) at.next (take at.length (cond (eqb (taken % 2) 1) second first)))
 
-pub underway_start : (k : ℕ) (at : At) (first second : List ℕ) → Starts at first second → Underway (take_turns k at.next (take at.length first)) k first second at 0
-underway_start k at first second s =
-    let n : k - 0 ≡ k = omega arith in
-    record {
-      present = s.present;
-      first_long = s.first_long;
-      second_long = s.second_long;
-      few = omega arith;
-      rest = rw n (record { turns = omega arith; last = refl; stop = refl });
-    }
+-- the buffer that is written is long enough
+pub other_long : {odd : Bool} {at : At} {first second : List ℕ} → Ready odd at first second → max_image_length ≤ length (cond odd first second)
+other_long {odd = true} r = r.first_long
+other_long {odd = false} r = r.second_long
 
 module _ {c : Course} {k : ℕ} {first second : List ℕ} {at : At} {taken : ℕ} (u : Underway c k first second at taken) where
   pub underway_ready : Ready (eqb (taken % 2) 1) at first second
@@ -198,30 +193,33 @@ module _ {c : Course} {k : ℕ} {first second : List ℕ} {at : At} {taken : ℕ
   stops_here first' second' same q = (ends q at.length size_is, holds_last q first' second' at.length size_is (ap (take at.length) same))
 
   module _ (first' second' : List ℕ) (l : taken < k) where
-    pub underway_on : {at' : At} → max_image_length ≤ length first' → max_image_length ≤ length second' →
-        Took (take at.length (cond (eqb (taken % 2) 1) second first)) at.next (On at') (cond (eqb (taken % 2) 1) first' second') →
+    pub underway_on : {t : Result At Halt} {at' : At} → t ≡ Ok at' → length first' ≡ length first → length second' ≡ length second →
+        Took (take at.length (cond (eqb (taken % 2) 1) second first)) at.next t (cond (eqb (taken % 2) 1) first' second') →
         Underway c k first' second' at' (taken + 1)
-    underway_on {at'} a b t =
-        let w = went_of t in
+    underway_on {t} {at'} is a b took =
+        let w = went_of (took_as is took) in
         let q = rest_on c k taken at.next (take at.length (cond (eqb (taken % 2) 1) second first)) l w.found_is u.rest in
         record {
           present = rw (parity_on first' second' taken) (present_on u.present w);
-          first_long = a;
-          second_long = b;
+          first_long = omega (arith, a, u.first_long);
+          second_long = omega (arith, b, u.second_long);
           few = omega arith;
           rest = subst⁻¹ (Rest c (taken + 1)) (ap₂ (take_turns (k - (taken + 1))) w.next_is (ap (take at'.length) (parity_on first' second' taken) ∙ w.holds)) q;
         }
 
-    module _ (same : cond (eqb (taken % 2) 1) second' first' ≡ cond (eqb (taken % 2) 1) second first) {out : List ℕ} where
-      pub underway_nobody : {lacked : Bool} → Took (take at.length (cond (eqb (taken % 2) 1) second first)) at.next (Nobody lacked) out →
+    module _ (same : cond (eqb (taken % 2) 1) second' first' ≡ cond (eqb (taken % 2) 1) second first) {t : Result At Halt} {out : List ℕ} where
+      pub underway_nobody : {lacked : Bool} → t ≡ Err (Nobody lacked) → Took (take at.length (cond (eqb (taken % 2) 1) second first)) at.next t out →
           (ending_by (cond lacked no_room idle) taken at.length ≡ ending_of c) × Holds c first' second'
-      underway_nobody t = stops_here first' second' same (rest_nobody c k taken at.next (take at.length (cond (eqb (taken % 2) 1) second first)) l (nobody_of t) u.rest)
+      underway_nobody is took = stops_here first' second' same (rest_nobody c k taken at.next (take at.length (cond (eqb (taken % 2) 1) second first)) l (nobody_of (took_as is took)) u.rest)
 
-      pub underway_met : {number : ℕ} → Took (take at.length (cond (eqb (taken % 2) 1) second first)) at.next (Met number) out →
+      pub underway_met : {number : ℕ} → t ≡ Err (Met number) → Took (take at.length (cond (eqb (taken % 2) 1) second first)) at.next t out →
           (Refused number ≡ ending_of c) × Holds c first' second'
       unfolding ending_by
-      underway_met t = stops_here first' second' same (rest_met c k taken at.next (take at.length (cond (eqb (taken % 2) 1) second first)) l (met_of t) u.rest)
+      underway_met is took = stops_here first' second' same (rest_met c k taken at.next (take at.length (cond (eqb (taken % 2) 1) second first)) l (met_of (took_as is took)) u.rest)
 
-  pub underway_end : (taken < k → ⊥) → (Turns taken at.length ≡ ending_of c) × Holds c first second
+  pub underway_end : k ≤ taken → (Turns k at.length ≡ ending_of c) × Holds c first second
   unfolding ending_by
-  underway_end l = stops_here first second refl (rest_none c k taken at.next (take at.length (cond (eqb (taken % 2) 1) second first)) l u.rest)
+  underway_end l =
+      let all : taken ≡ k = omega (arith, u.few) in
+      let (value, holds) = stops_here first second refl (rest_none c k taken at.next (take at.length (cond (eqb (taken % 2) 1) second first)) (omega arith) u.rest) in
+      (ap (λ (t : ℕ). Turns t at.length) (sym all) ∙ value, holds)

@@ -1,27 +1,41 @@
 // The runner: checks and loads a recipe, then turn after turn between two lent buffers.
 #![tactic(auto)]
 
-ghost use Rattle.std.specs.Prelude.{◌≡◌, cond, length, take};
+ghost use Rattle.std.specs.Prelude.{◌≡◌, cond, ◌≤◌, length, take};
+ghost use Rattle.calculus.specs.Limits.{max_image_length};
+ghost use Rattle.image_layout.specs.Slice.{names};
+ghost use Rattle.step_look.specs.Looked.{Stands};
 ghost use Rattle.run_turn.specs.Turning.{Took};
 ghost use Rattle.run_spec.specs.Course.{idle, no_room, take_turns};
 ghost use Rattle.run_spec.specs.Ending.{Leaves, ending_by, ending_of, ran};
-ghost use Rattle.run_recipe.specs.Running.{Holds, Ready, Starts};
+ghost use Rattle.run_recipe.specs.Running.{Holds, Starts};
 
+use buffer_pair::{Passage, alternate};
+use image_check::Standing;
+use load_recipe::Common;
 use numbers::{Cause, Image};
 use run_spec::Ending;
-use run_turn::{At, Taken};
+use run_turn::{At, Halt};
 
-// A turn from the buffer that holds the present image into the other one; `odd` says that the second holds it.
-fn alternate(odd: bool, at: At, first: &mut [u8], second: &mut [u8]) -> Taken
-    requires { Ready odd at first.old second.old }
-    ensures took { Took (take at.length (cond odd second.old first.old)) at.next result (cond odd first.new second.new) }
-    ensures first_unchanged { cond odd second.new first.new ≡ cond odd second.old first.old }
-{
-    let length = at.length;
-    if odd {
-        return run_turn::take_turn(&second[..length], at, first);
+// A turn from the buffer that holds the present image into the other one.
+struct Turns {}
+
+impl Passage for Turns {
+    type At = At;
+
+    type Came = Result<At, Halt>;
+
+    ghost ready = { λ image at out. Stands image at.nodes × ((at.next ≤ names image) × (max_image_length ≤ length out)) };
+
+    ghost left = { λ image at out taken out'. Took image at.next taken out' };
+
+    fn go(image: &[u8], at: At, out: &mut [u8]) -> Result<At, Halt> {
+        let image = Standing {
+            bytes: image,
+            nodes: at.nodes,
+        };
+        run_turn::take_turn(image, at.next, out)
     }
-    run_turn::take_turn(&first[..length], at, second)
 }
 
 // "It stops before k turns only when there is no such thread, and then says whether one lacked room".
@@ -41,23 +55,14 @@ fn run_turns(turns: u16, start: At, first: &mut [u8], second: &mut [u8]) -> Endi
     ensures holds { Holds (take_turns turns start.next (take start.length first.old)) first.new second.new }
 {
     let mut at = start;
-    let mut taken: u16 = 0;
-    while taken < turns {
-        match alternate(taken % 2 == 1, at, first, second) {
-            Taken::On(on) => {
-                at = on;
-                taken += 1;
-                continue;
-            }
-            Taken::Nobody(lacked) => {
-                return nobody_goes(lacked, taken, at.length);
-            }
-            Taken::Met(number) => {
-                return Ending::Refused(number as u32);
-            }
+    for taken in 0..turns {
+        match alternate::<Turns>(taken % 2 == 1, at.length, at, first, second) {
+            Ok(on) => at = on,
+            Err(Halt::Nobody(lacked)) => return nobody_goes(lacked, taken, at.length),
+            Err(Halt::Met(number)) => return Ending::Refused(number as u32),
         }
     }
-    Ending::Turns(taken, at.length)
+    Ending::Turns(turns, at.length)
 }
 
 // Document 02, T-04: "The runner checks, loads and takes up to k turns .. between two lent buffers." 12 is tried first: of the second buffer here, of the first by the load.
@@ -66,9 +71,9 @@ pub fn run(recipe: &[u8], turns: u16, first: &mut [u8], second: &mut [u8]) -> En
     ensures leaves { Leaves recipe.now turns first.old second.old first.new second.new }
 {
     if second.len() < Image::MAX_LENGTH {
-        return Ending::Refused(Cause::BUFFER as u32);
+        return Ending::Refused(Cause::Buffer as u32);
     }
-    let loaded = load_recipe::load(recipe, first);
+    let loaded = load_recipe::load::<Common>(recipe, first);
     let refusal = loaded.refusal;
     if refusal != 0 {
         return Ending::Refused(refusal);

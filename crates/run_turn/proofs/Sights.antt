@@ -8,13 +8,12 @@ use Rattle.calculus.specs.Image.{limits_test}
 use Rattle.calculus.specs.Causes.{no_thread_cause, room_cause}
 use Rattle.calculus.specs.Reply.{Reply, moved, waits, finished, refuses, reply_of}
 use Rattle.image.specs.Stands.{image_stands}
-use Rattle.step_rules.specs.declared.Step.{Step}
 use Rattle.step_rules.specs.Moves.{image_after}
-use Rattle.step_room.specs.declared.Size.{Size}
 use Rattle.step_spec.specs.declared.Outcome.{Outcome}
 use Rattle.step_spec.specs.declared.Outcome.TheVariants.{Rule}
 use Rattle.step_spec.specs.Stepping.{outcome_of_reply, step_reply}
-use Rattle.step_look.specs.Looked.{Going, Staying, reply_in}
+use Rattle.step_look.specs.declared.Going.{Going}
+use Rattle.step_look.specs.Looked.{Goes, Staying, reply_in}
 use Rattle.run_spec.specs.Course as course
 use Rattle.run_spec.specs.Course.{look, look_of}
 use Rattle.run_turn.specs.declared.Sight.TheVariants.{LacksRoom, Rests, PassesOn}
@@ -27,7 +26,7 @@ look_stands s stands x = rw stands refl
 
 module _ {s : List ℕ} (stands : image_stands s ≡ true) {x : ℕ} where
   -- a thread that goes
-  pub by_going : {step : Step} {after : Size} → Going s x step after → look s x ≡ course.goes (image_after s step)
+  pub by_going : {going : Going} → Goes s x going → look s x ≡ course.goes (image_after s going.step)
   unfolding look_of reply_of limits_test
   by_going g = let S = g.stepped in look_stands s stands x ∙ rw (S.steps, g.fits, S.written) refl
 

@@ -1,10 +1,11 @@
 -- A turn: what is found, and what is written.
-use mathlib.Core.Path.{◌∙◌, ◌≡◌, ap, refl}
-use mathlib.Core.Bool.{Bool, true}
+use mathlib.Core.Path.{◌∙◌, ◌≡◌, ap, refl, subst, subst⁻¹, sym}
+use mathlib.Core.Bool.{true}
 use mathlib.Core.List.{List}
 use Prim.Native.Nat.{ℕ, ◌+◌, ◌<◌, ◌≤◌}
 use native.Mathlib.Decide.{dec_lt}
 use native.Mathlib.Omega.{arith}
+use Rattle.std.specs.Prelude.{Result, Ok, Err, IsErrAnd}
 use lib.ListN.{drop, length, take}
 use lib.Seq.{take-append_seam}
 use Rattle.calculus.specs.Owners.{grown}
@@ -24,28 +25,31 @@ use Rattle.image.specs.Stands.{image_stands}
 use Rattle.image.proofs.Theory.Exactly.{length_config}
 use Rattle.image.proofs.Theory.Lengths.{within_length}
 use Rattle.image_check.proofs.Theory.Whole.{whole_sound}
-use Rattle.step_rules.specs.declared.Step.{Step}
 use Rattle.step_rules.specs.Effects.{rule_of}
 use Rattle.step_rules.specs.Moves.{image_after}
-use Rattle.step_room.specs.declared.Size.{Size}
-use Rattle.step_look.specs.Looked.{Going}
-use Rattle.run_spec.specs.Course.{Search, found, met, nobody, one_after, search_from}
-use Rattle.run_turn.specs.declared.Found.TheVariants.{Goes, Met, Nobody}
-use Rattle.run_turn.specs.Turning.{Finds, Went, finds, finds_nobody, meets}
+use Rattle.step_look.specs.declared.Going.{Going}
+use Rattle.step_look.specs.Looked.{Goes}
+use Rattle.run_spec.specs.Course.{Search, found, one_after, search_from}
+use Rattle.run_turn.specs.declared.At.{At}
+use Rattle.run_turn.specs.declared.Halt.{Halt}
+use Rattle.run_turn.specs.Turning.{Finds, Took, Went, finds, finds_nobody, meets, met_one, nobody_went}
 
--- what a search says
-module _ {s : List ℕ} {q : Search} where
-  pub found_goes : {x : ℕ} {step : Step} {after : Size} → Finds s q (Goes x step after) → Going s x step after × (q ≡ found x (image_after s step))
-  found_goes (finds g e) = (g, e)
+-- what a search says: the thread that goes, or why a turn stops
+pub found_goes : {s : List ℕ} {q : Search} {going : Going} → Finds s q (Ok going) → Goes s going.step.thread going × (q ≡ found going.step.thread (image_after s going.step))
+found_goes {s} {q} {going} (finds {x = x} g e) =
+    let is : x ≡ going.step.thread = sym g.stepped.carries.goer in
+    (subst (λ (y : ℕ). Goes s y going) is g, e ∙ ap (λ (y : ℕ). found y (image_after s going.step)) is)
 
-  pub found_nobody : {lacked : Bool} → Finds s q (Nobody lacked) → q ≡ nobody lacked
-  found_nobody (finds_nobody e) = e
-
-  pub found_met : {number : ℕ} → Finds s q (Met number) → q ≡ met number
-  found_met (meets e) = e
+pub turn_stops : {s out : List ℕ} {next : ℕ} {taken : Result At Halt} {halt : Halt} → IsErrAnd taken (λ e. e ≡ halt) → Finds s (search_from s next) (Err halt) → Took s next taken out
+turn_stops {s} {out} {next} {taken = Ok at} p f = absurd p
+turn_stops {s} {out} {next} {taken = Err h} p f = subst⁻¹ (λ (i : Halt). Took s next (Err i) out) p (stops f)
+  where
+    stops : {halt : Halt} → Finds s (search_from s next) (Err halt) → Took s next (Err halt) out
+    stops (finds_nobody e) = nobody_went e
+    stops (meets e) = met_one e
 
 -- the thread that goes is a name of the image
-pub goes_below : {s : List ℕ} {x : ℕ} {step : Step} {after : Size} → Going s x step after → x < names s
+pub goes_below : {s : List ℕ} {x : ℕ} {going : Going} → Goes s x going → x < names s
 goes_below {s} {x} g = elim (dec_lt x (names s)) [
   | yes l ↦ l
   | no l ↦ absurd (
@@ -59,11 +63,11 @@ pub few_names : (s : List ℕ) → image_stands s ≡ true → names s ≤ max_n
 few_names s stands = (whole_sound s stands).few_names
 
 -- the thread's step is written
-pub turn_went : {s : List ℕ} {next x : ℕ} {step : Step} {after : Size} (g : Going s x step after) → search_from s next ≡ found x (image_after s step) →
-    (out : List ℕ) → max_image_length ≤ length out → (out' : List ℕ) (size : ℕ) → Wrote out 0 (image_after s step) out' size →
-    Went s next (record { next = x + 1; length = size; nodes = after.nodes }) out'
+pub turn_went : {s : List ℕ} {next x : ℕ} {going : Going} (g : Goes s x going) → search_from s next ≡ found x (image_after s going.step) →
+    (out : List ℕ) → max_image_length ≤ length out → (out' : List ℕ) (size : ℕ) → Wrote out 0 (image_after s going.step) out' size →
+    Went s next (record { next = x + 1; length = size; nodes = going.after.nodes }) out'
 unfolding reply_of limits_test one_after
-turn_went {s} {x = x} {step = step} g e out long out' size w =
+turn_went {s} {x = x} {going = going} g e out long out' size w =
     let S = g.stepped in
     let I' = grown (owned_of s) x S.outcome in
     let v : Wrote out 0 (image_of I') out' size = rw S.written at w in
@@ -71,7 +75,7 @@ turn_went {s} {x = x} {step = step} g e out long out' size w =
     let b = beyond v (omega (arith, within_length I' ((limits_test_iff S.outcome).0 g.fits))) in
     record {
       thread = x;
-      rule = number (rule_of step.by);
+      rule = number (rule_of going.step.by);
       outcome = I';
       found_is = e ∙ ap (found x) S.written;
       moves = rw (S.steps, g.fits) refl;

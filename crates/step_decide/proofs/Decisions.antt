@@ -5,7 +5,7 @@ use mathlib.Core.List.{List}
 use Prim.Native.Nat.{ℕ, ◌+◌}
 use Rattle.calculus.specs.Step.{place}
 use Rattle.calculus.specs.Image.{is_settled}
-use Rattle.calculus.specs.Causes.{used_handle_cause, wrong_kind_cause}
+use Rattle.numbers.specs.declared.Cause.TheVariants.{UsedHandle, WrongKind}
 use Rattle.calculus.specs.Kinds.{thread_kind, cell_kind, open_handle_kind, used_handle_kind, future_kind}
 use Rattle.term.specs.Reader.{GoodAt}
 use Rattle.term.specs.Expressions.{term_at}
@@ -49,10 +49,10 @@ module _ {s : List ℕ} {x : ℕ} {m : Meeting} {y kind : ℕ} (c : Calls s x m 
   pub call_goes : {future : ℕ} {r : Decision} → kind ≡ open_handle_kind → future ≡ companion_at s y → r ≡ Goes (step_at x m (HandleBind y future)) → Decided s x r
   call_goes k future_is e = goes_by e (ap (HandleBind y) future_is) (call_open c (sym kind_is ∙ k))
 
-  pub call_refuses_used : kind ≡ used_handle_kind → Decided s x (Refuses used_handle_cause)
+  pub call_refuses_used : kind ≡ used_handle_kind → Decided s x (Refuses UsedHandle)
   call_refuses_used k = refuses_used (call_used c (sym kind_is ∙ k))
 
-  pub call_refuses : ¬ (kind ≡ thread_kind) → ¬ (kind ≡ future_kind) → ¬ (kind ≡ open_handle_kind) → ¬ (kind ≡ used_handle_kind) → Decided s x (Refuses wrong_kind_cause)
+  pub call_refuses : ¬ (kind ≡ thread_kind) → ¬ (kind ≡ future_kind) → ¬ (kind ≡ open_handle_kind) → ¬ (kind ≡ used_handle_kind) → Decided s x (Refuses WrongKind)
   call_refuses n₁ n₅ n₃ n₄ = refuses_wrong (call_cell c (λ k. n₁ (kind_is ∙ k)) (λ k. n₅ (kind_is ∙ k)) (λ k. n₃ (kind_is ∙ k)) (λ k. n₄ (kind_is ∙ k)))
 
 module _ {s : List ℕ} {x : ℕ} {m : Meeting} {y kind : ℕ} (c : ExchangesName s x m y) (kind_is : kind ≡ kind_at s y) where
@@ -65,7 +65,7 @@ module _ {s : List ℕ} {x : ℕ} {m : Meeting} {y kind : ℕ} (c : ExchangesNam
   pub exchange_goes : {from size : ℕ} {r : Decision} → kind ≡ cell_kind → from ≡ offset_at s y → size ≡ length_at s y → r ≡ Goes (step_at x m (CellExch y from (from + size))) → Decided s x r
   exchange_goes k from_is size_is e = goes_by e (ap₂ (λ (i j : ℕ). CellExch y i (i + j)) from_is size_is) (exchange_cell c (sym kind_is ∙ k))
 
-  pub exchange_refuses : ¬ (kind ≡ thread_kind) → ¬ (kind ≡ future_kind) → ¬ (kind ≡ cell_kind) → Decided s x (Refuses wrong_kind_cause)
+  pub exchange_refuses : ¬ (kind ≡ thread_kind) → ¬ (kind ≡ future_kind) → ¬ (kind ≡ cell_kind) → Decided s x (Refuses WrongKind)
   exchange_refuses n₁ n₅ n₂ = refuses_wrong (exchange_handle c (λ k. n₁ (kind_is ∙ k)) (λ k. n₅ (kind_is ∙ k)) (λ k. n₂ (kind_is ∙ k)))
 
 module _ {s : List ℕ} {x : ℕ} {m : Meeting} {y kind : ℕ} (c : TakesName s x m y) (kind_is : kind ≡ kind_at s y) where
@@ -75,5 +75,5 @@ module _ {s : List ℕ} {x : ℕ} {m : Meeting} {y kind : ℕ} (c : TakesName s 
   pub take_waits : kind ≡ future_kind → Decided s x (Waits y)
   take_waits k = waits (take_future c (sym kind_is ∙ k))
 
-  pub take_refuses : ¬ (kind ≡ thread_kind) → ¬ (kind ≡ future_kind) → Decided s x (Refuses wrong_kind_cause)
+  pub take_refuses : ¬ (kind ≡ thread_kind) → ¬ (kind ≡ future_kind) → Decided s x (Refuses WrongKind)
   take_refuses n₁ n₅ = refuses_wrong (take_other c (λ k. n₁ (kind_is ∙ k)) (λ k. n₅ (kind_is ∙ k)))

@@ -1,7 +1,7 @@
 -- What a decision says of the calculus's step of thread x of the image s.
 use Rattle.std.specs.Prelude.{◌≡◌, List, ℕ}
 use Rattle.calculus.specs.Step.{waiting, used_handle, wrong_kind, step_of}
-use Rattle.calculus.specs.Causes.{used_handle_cause, wrong_kind_cause}
+use Rattle.numbers.specs.declared.Cause.TheVariants.{UsedHandle, WrongKind}
 use Rattle.image.specs.Configuration.{config_of}
 use Rattle.step_rules.specs.declared.Step.{Step}
 use Rattle.step_rules.specs.Stepped.{Stepped}
@@ -12,5 +12,5 @@ use Rattle.step_decide.specs.declared.Decision.TheVariants.{Goes, Waits, Refuses
 pub data Decided (s : List ℕ) (x : ℕ) : Decision → Type 0 where
   goes : {step : Step} → Stepped s x step → Decided s x (Goes step)
   waits : {y : ℕ} → step_of (config_of s) x ≡ waiting y → Decided s x (Waits y)
-  refuses_used : step_of (config_of s) x ≡ used_handle → Decided s x (Refuses used_handle_cause)
-  refuses_wrong : step_of (config_of s) x ≡ wrong_kind → Decided s x (Refuses wrong_kind_cause)
+  refuses_used : step_of (config_of s) x ≡ used_handle → Decided s x (Refuses UsedHandle)
+  refuses_wrong : step_of (config_of s) x ≡ wrong_kind → Decided s x (Refuses WrongKind)

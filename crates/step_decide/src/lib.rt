@@ -19,7 +19,7 @@ use term_redex::{Meeting, end_of, is_value};
 pub enum Decision {
     Goes(Step),
     Waits(usize),
-    Refuses(u8),
+    Refuses(Cause),
 }
 
 // The thread goes by this move.
@@ -51,21 +51,16 @@ fn call(image: &[u8], thread: usize, meeting: Meeting, y: usize) -> Decision
     requires { Calls image.now thread meeting y }
     ensures { Decided image.now thread result }
 {
-    let kind = kind_at(image, y);
-    if kind == Image::THREAD {
-        return follow(image, thread, meeting, y);
+    match kind_at(image, y) {
+        Image::THREAD => follow(image, thread, meeting, y),
+        Image::FUTURE => Decision::Waits(y),
+        Image::OPEN_HANDLE => {
+            let future = companion_at(image, y) as usize;
+            goes(thread, meeting, Move::HandleBind(y, future))
+        }
+        Image::USED_HANDLE => Decision::Refuses(Cause::UsedHandle),
+        _ => Decision::Refuses(Cause::WrongKind),
     }
-    if kind == Image::FUTURE {
-        return Decision::Waits(y);
-    }
-    if kind == Image::OPEN_HANDLE {
-        let future = companion_at(image, y) as usize;
-        return goes(thread, meeting, Move::HandleBind(y, future));
-    }
-    if kind == Image::USED_HANDLE {
-        return Decision::Refuses(Cause::USED_HANDLE);
-    }
-    Decision::Refuses(Cause::WRONG_KIND)
 }
 
 // A full exch with name y.
@@ -73,19 +68,16 @@ fn exchange_name(image: &[u8], thread: usize, meeting: Meeting, y: usize) -> Dec
     requires { ExchangesName image.now thread meeting y }
     ensures { Decided image.now thread result }
 {
-    let kind = kind_at(image, y);
-    if kind == Image::THREAD {
-        return follow(image, thread, meeting, y);
+    match kind_at(image, y) {
+        Image::THREAD => follow(image, thread, meeting, y),
+        Image::FUTURE => Decision::Waits(y),
+        Image::CELL => {
+            let from = offset_at(image, y);
+            let to = from + length_at(image, y);
+            goes(thread, meeting, Move::CellExch(y, from, to))
+        }
+        _ => Decision::Refuses(Cause::WrongKind),
     }
-    if kind == Image::FUTURE {
-        return Decision::Waits(y);
-    }
-    if kind == Image::CELL {
-        let from = offset_at(image, y);
-        let to = from + length_at(image, y);
-        return goes(thread, meeting, Move::CellExch(y, from, to));
-    }
-    Decision::Refuses(Cause::WRONG_KIND)
 }
 
 // A full exch.
@@ -102,7 +94,7 @@ fn exchange(image: &[u8], thread: usize, meeting: Meeting) -> Decision
             image[at + Step::EXCHANGED_NAME] as usize,
         );
     }
-    Decision::Refuses(Cause::WRONG_KIND)
+    Decision::Refuses(Cause::WrongKind)
 }
 
 // An application, by its function.
@@ -119,7 +111,7 @@ fn apply(image: &[u8], thread: usize, meeting: Meeting) -> Decision
         Node::CELL => goes(thread, meeting, Move::CellNew),
         Node::THREAD => goes(thread, meeting, Move::ThreadNew),
         Node::HANDLE => goes(thread, meeting, Move::HandleNew),
-        _ => Decision::Refuses(Cause::WRONG_KIND),
+        _ => Decision::Refuses(Cause::WrongKind),
     }
 }
 
@@ -128,14 +120,11 @@ fn take_name(image: &[u8], thread: usize, meeting: Meeting, y: usize) -> Decisio
     requires { TakesName image.now thread meeting y }
     ensures { Decided image.now thread result }
 {
-    let kind = kind_at(image, y);
-    if kind == Image::THREAD {
-        return follow(image, thread, meeting, y);
+    match kind_at(image, y) {
+        Image::THREAD => follow(image, thread, meeting, y),
+        Image::FUTURE => Decision::Waits(y),
+        _ => Decision::Refuses(Cause::WrongKind),
     }
-    if kind == Image::FUTURE {
-        return Decision::Waits(y);
-    }
-    Decision::Refuses(Cause::WRONG_KIND)
 }
 
 // A case with a pair or list front of values as subject: each case takes its own apart.
@@ -150,12 +139,12 @@ fn take_both(image: &[u8], thread: usize, meeting: Meeting) -> Decision
         if tag == Node::PAIR {
             return goes(thread, meeting, Move::CasePair(rest));
         }
-        return Decision::Refuses(Cause::WRONG_KIND);
+        return Decision::Refuses(Cause::WrongKind);
     }
     if tag == Node::LIST {
         return goes(thread, meeting, Move::CaseList(rest));
     }
-    Decision::Refuses(Cause::WRONG_KIND)
+    Decision::Refuses(Cause::WrongKind)
 }
 
 // A case, by its subject.
@@ -174,7 +163,7 @@ fn take_apart(image: &[u8], thread: usize, meeting: Meeting) -> Decision
         ),
         Node::PAIR => take_both(image, thread, meeting),
         Node::LIST => take_both(image, thread, meeting),
-        _ => Decision::Refuses(Cause::WRONG_KIND),
+        _ => Decision::Refuses(Cause::WrongKind),
     }
 }
 

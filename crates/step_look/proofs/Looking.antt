@@ -27,14 +27,14 @@ use Rattle.image.proofs.Theory.Exactly.{kind_is}
 use Rattle.step_rules.proofs.Theory.Reading.{rules, thread_stands}
 use Rattle.step_decide.proofs.Names.{as_thread, kind_there}
 use Rattle.step_decide.specs.declared.Decision.{Decision}
-use Rattle.step_decide.specs.declared.Decision.TheVariants.{Goes}
+use Rattle.step_decide.specs.declared.Decision.TheVariants.{Goes as DecisionGoes}
 use Rattle.step_decide.specs.Decided.{Decided, goes as decided_goes, refuses_used, refuses_wrong, waits}
 use Rattle.step_room.specs.declared.Size.{Size}
 use Rattle.step_room.specs.Counting.{After}
 use Rattle.image_check.proofs.Theory.Names.{config_parts}
 use Rattle.step_spec.specs.declared.Outcome.TheVariants.{Done, Refused}
 use Rattle.step_spec.specs.Stepping.{outcome_of_reply}
-use Rattle.step_look.specs.Looked.{Going, Staying, is_thread, stays}
+use Rattle.step_look.specs.Looked.{Goes, Staying, is_thread, stays}
 
 -- it stays
 module _ (s : List ℕ) (x : ℕ) where
@@ -46,7 +46,7 @@ module _ (s : List ℕ) (x : ℕ) where
   unfolding outcome_of_reply reply_of
   by_done e = record { answered = rw e refl; no_rule = λ rule size q. clash (cc) }
 
-  pub by_decision : {d : Decision} → Decided s x d → ((step : Step) → ¬ (d ≡ Goes step)) → Staying s x (stays d)
+  pub by_decision : {d : Decision} → Decided s x d → ((step : Step) → ¬ (d ≡ DecisionGoes step)) → Staying s x (stays d)
   unfolding outcome_of_reply reply_of stays
   by_decision (decided_goes {step = m} S) n = absurd (n m refl)
   by_decision (waits e) n = record { answered = rw e refl; no_rule = λ rule size q. clash (cc) }
@@ -97,7 +97,7 @@ module _ {s : List ℕ} {x : ℕ} {step : Step} (S : Stepped s x step) {n : ℕ}
   unfolding limits_test
   room_is = ap₂ (λ (i j : ℕ). within_limits i j) (counts.handed.names ∙ sym S.named) nodes_are
 
-  pub by_room : limits_test S.outcome ≡ true → Going s x step after
+  pub by_room : limits_test S.outcome ≡ true → Goes s x (record { step = step; after = after })
   by_room l = record { stepped = S; fits = l; handed = counts.handed; counted = nodes_are }
 
 -- an image that stands has few enough nodes to count on
@@ -105,5 +105,5 @@ pub few_before : (s : List ℕ) → Bytes s → image_stands s ≡ true → node
 few_before s b stands = (rules s b stands).limits.few_nodes
 
 -- a decision by which a thread goes, and others
-pub stepped : {s : List ℕ} {x : ℕ} {step : Step} → Decided s x (Goes step) → Stepped s x step
+pub stepped : {s : List ℕ} {x : ℕ} {step : Step} → Decided s x (DecisionGoes step) → Stepped s x step
 stepped (decided_goes S) = S

@@ -19,7 +19,6 @@ use image_layout::{length_at, names_of};
 use numbers::Image;
 use step_rules::{Move, Step, applied, taken};
 use term_redex::Meeting;
-use term_scan::Extent;
 use term_subst::{Span, Uses, count_uses};
 
 // The nodes and bytes of a term.
@@ -60,10 +59,7 @@ pub fn nodes_at(image: &[u8], at: usize) -> usize
     requires { GoodAt image.now at }
     ensures { result ≡ nodes (term_at image.now at) }
 {
-    let Extent::Ends(_, found) = term_scan::scan(image, at) else {
-        return 0;
-    };
-    found
+    term_scan::scan(image, at).unwrap().nodes
 }
 
 // What the value in a part of the image weighs.

@@ -20,3 +20,5 @@ pub mod Rules
 pub mod Found
 -- cases, computed
 pub mod Cases
+-- that the places of a step are inside the image has one proof at most
+pub mod Once

@@ -1,5 +1,5 @@
 -- The meeting of values in a thread of an image, and the steps that begin with it.
-use Rattle.std.specs.Prelude.{◌≡◌, true, List, ℕ, ◌+◌}
+use Rattle.std.specs.Prelude.{◌≡◌, true, List, ℕ, ◌+◌, Some}
 use Rattle.std.proofs.Math.Option.{some}
 use Rattle.calculus.specs.Bytes.{Bytes}
 use Rattle.calculus.specs.Syntax.{Exp, Shape, pair, list, at, thread_of}
@@ -11,7 +11,6 @@ use Rattle.image_layout.specs.Slice.{offset_at, length_at}
 use Rattle.image.specs.Configuration.{config_of}
 use Rattle.image.specs.Stands.{image_stands}
 use Rattle.term_redex.specs.declared.Meeting.{Meeting}
-use Rattle.term_redex.specs.declared.Place.TheVariants.{Meet}
 use Rattle.term_redex.specs.Places.{place_of}
 use Rattle.term_redex.proofs.Meetings.{MeetingAt}
 use Rattle.step_rules.specs.declared.Move.{Move}
@@ -39,7 +38,7 @@ pub record Deciding (s : List ℕ) (x : ℕ) (m : Meeting) : Type 0 where
   pub stands : image_stands s ≡ true
   pub expression : Exp
   pub thread : at (config_of s) x ≡ some (thread_of expression)
-  pub found : place_of (offset_at s x) (place (term_at s (offset_at s x))) ≡ Meet m
+  pub found : place_of (offset_at s x) (place (term_at s (offset_at s x))) ≡ Some m
 
 -- in thread x of the image s values meet in r, in the context F, at the meeting m
 pub record MeetsAt (s : List ℕ) (x : ℕ) (m : Meeting) (F : Context) {r : Exp} (d : Redex r) : Type 0 where

@@ -85,15 +85,15 @@ pub fn rule_of(by: Move) -> u8
     ensures { result ≡ number (rule_of by) }
 {
     match by {
-        Move::Beta => Rule::BETA,
-        Move::ThreadNew => Rule::THREAD_NEW,
-        Move::FutureDeref(_, _) => Rule::FUTURE_DEREF,
-        Move::HandleNew => Rule::HANDLE_NEW,
-        Move::HandleBind(_, _) => Rule::HANDLE_BIND,
-        Move::CellNew => Rule::CELL_NEW,
-        Move::CellExch(_, _, _) => Rule::CELL_EXCH,
-        Move::CasePair(_) => Rule::CASE_PAIR,
-        Move::CaseList(_) => Rule::CASE_LIST,
+        Move::Beta => Rule::Beta as u8,
+        Move::ThreadNew => Rule::ThreadNew as u8,
+        Move::FutureDeref(_, _) => Rule::FutureDeref as u8,
+        Move::HandleNew => Rule::HandleNew as u8,
+        Move::HandleBind(_, _) => Rule::HandleBind as u8,
+        Move::CellNew => Rule::CellNew as u8,
+        Move::CellExch(_, _, _) => Rule::CellExch as u8,
+        Move::CasePair(_) => Rule::CasePair as u8,
+        Move::CaseList(_) => Rule::CaseList as u8,
     }
 }
 

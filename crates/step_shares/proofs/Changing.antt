@@ -23,9 +23,10 @@ use Rattle.step_rules.specs.Moves.{carried, names_after}
 use Rattle.step_rules.specs.Stepped.{Counted, Has, Movable}
 use Rattle.step_rules.proofs.Theory.Meeting.{length_owners}
 use Rattle.step_room.specs.declared.Size.{Size}
-use Rattle.step_look.specs.Looked.{Going, Stands}
+use Rattle.step_look.specs.declared.Going.{Going}
+use Rattle.step_look.specs.Looked.{Goes}
 use Rattle.step_shares.specs.declared.Flow.{Flow}
-use Rattle.step_shares.specs.Leaving.{left_by, outcome_from}
+use Rattle.step_look.specs.Leaving.{left_by, outcome_from}
 use Rattle.step_shares.specs.Tallies.{Changed, Few, names_to, nodes_from, nodes_to}
 
 -- so much is carried
@@ -48,11 +49,13 @@ small_by s x m (CaseList rest) c h = (omega arith, omega arith)
 pub small : {s : List ℕ} {step : Step} → Movable s step → ((carried s step).gained ≤ max_nodes) × ((carried s step).lost ≤ max_nodes)
 small {s} {step} w = small_by s step.thread step.meeting step.by w.last w.has
 
--- an image that stands has few enough nodes to count on
-pub few_before : {s : List ℕ} {n : ℕ} → nodes_all (config_of s) ≤ max_nodes → Stands s n → n ≤ max_nodes
-few_before l st = omega (arith, l, st.counted)
+module _ {s : List ℕ} {n : ℕ} {going : Going} (all : nodes_all (config_of s) ≡ n) (g : Goes s going.step.thread going) where
+  abbrev step : Step
+  step = going.step
 
-module _ {s : List ℕ} {n : ℕ} {step : Step} {after : Size} (st : Stands s n) (g : Going s step.thread step after) where
+  abbrev after : Size
+  after = going.after
+
   abbrev x : ℕ
   x = step.thread
 
@@ -99,13 +102,13 @@ module _ {s : List ℕ} {n : ℕ} {step : Step} {after : Size} (st : Stands s n)
       other_is ∙ ap (λ (d : Carried). owner_at s d.name) is ∙ sym (owner_said s (carried s step).name S.carries.there) in
       let fits = small S.movable in
       let then : Changed (owned_of s) (grown (owned_of s) x C') (with own other old (carried s step)) =
-      changed_to o o' (omega (arith, names_then, old_is, length_config s)) (omega (arith, g.counted)) (omega (arith, st.counted)) in
+      changed_to o o' (omega (arith, names_then, old_is, length_config s)) (omega (arith, g.counted)) (omega (arith, all)) in
       subst (λ (d : Carried). Changed (owned_of s) (left_by s x) (with own other old d) × Few (with own other old d)) (sym is) (
         subst (λ (I' : Owned). Changed (owned_of s) I' (with own other old (carried s step))) (sym left_is) then,
         record {
           new = omega (arith, few_after.0);
           come = omega (arith, few_after.1, fits.1);
-          gone = omega (arith, few, st.counted, fits.0);
+          gone = omega (arith, few, all, fits.0);
           gained = fits.0;
           lost = fits.1;
         },

@@ -1,9 +1,12 @@
 -- The loop that looks for the highest owner. One law for each way through it.
-use mathlib.Core.Path.{◌∙◌, ◌≡◌, ap, refl, sym}
+use mathlib.Core.Path.{◌∙◌, ◌≡◌, ap, refl}
 use mathlib.Core.Bool.{true}
 use mathlib.Core.List.{List}
-use Prim.Native.Nat.{◌+◌, ◌<◌, ◌≤◌, ℕ}
+use Prim.Native.Nat.{◌+◌, ◌<◌, ◌≤◌, ℕ, max}
 use native.Mathlib.Omega.{arith}
+use Rattle.std.specs.Ordering.{nat_cmp, ord_max}
+use Rattle.std.proofs.lemmas.Grind.{common_steps}
+use Rattle.std.proofs.Math.Decide.{dec_lt}
 use Rattle.calculus.specs.Bytes.{Bytes}
 use Rattle.calculus.specs.Limits.{max_bays}
 use Rattle.calculus.specs.Lists.{tabulate}
@@ -17,6 +20,10 @@ use Rattle.image.proofs.Theory.Exactly.{kept_read, length_config, owner_said}
 -- every owner is below 16
 pub owner_small : (s : List ℕ) → Bytes s → image_stands s ≡ true → (k : ℕ) → k < names s → owner_at s k < max_bays
 owner_small s b stands k l = let o = (kept_read s b stands).owns.below k (omega (arith, length_config s)) in rw (owner_said s k l) at o
+
+-- the larger of two numbers, as code finds it
+larger_is : (a b : ℕ) → ord_max nat_cmp a b ≡ max a b
+larger_is a b = grind (arith, common_steps)
 
 -- k of m names have been looked at
 pub record Highest (s : List ℕ) (m k bays : ℕ) : Type 0 where
@@ -40,8 +47,14 @@ module _ {s : List ℕ} {m k bays : ℕ} (p : Highest s m k bays) where
   next_below more = omega (arith, p.all)
 
   module _ (more : k < m) {owner : ℕ} (is : owner ≡ owner_at s k) where
-    pub highest_still : owner < bays → Highest s m (k + 1) bays
-    highest_still l = record { few = omega arith; all = p.all; highest = p.highest ∙ sym (bays_still (owner_at s) k (omega (arith, p.highest, is))) }
-
-    pub highest_raised : bays ≤ owner → Highest s m (k + 1) (owner + 1)
-    highest_raised l = record { few = omega arith; all = p.all; highest = ap (λ (n : ℕ). n + 1) is ∙ sym (bays_raised (owner_at s) k (omega (arith, p.highest, is))) }
+    pub highest_one : {next : ℕ} → next ≡ ord_max nat_cmp bays (owner + 1) → Highest s m (k + 1) next
+    highest_one {next} e =
+        let larger : next ≡ max bays (owner + 1) = e ∙ larger_is bays (owner + 1) in
+        record {
+          few = omega arith;
+          all = p.all;
+          highest = elim (dec_lt owner bays) [
+            | yes l ↦ omega (arith, larger, p.highest, bays_still (owner_at s) k (omega (arith, p.highest, is)))
+            | no l ↦ omega (arith, larger, is, bays_raised (owner_at s) k (omega (arith, p.highest, is)))
+          ];
+        }

@@ -17,7 +17,8 @@ use Rattle.image.specs.Configuration.{owned_of, owners_of}
 use Rattle.image_check.proofs.Theory.Names.{each_below_next}
 use Rattle.step_shares.specs.declared.Flow.{Flow}
 use Rattle.step_shares.specs.declared.Tally.{Tally}
-use Rattle.step_shares.specs.Leaving.{left_by, shares_after}
+use Rattle.step_look.specs.Leaving.{left_by}
+use Rattle.step_shares.specs.Leaving.{shares_after}
 use Rattle.step_shares.specs.Tallies.{Changed, names_to, nodes_from, nodes_to, Tallied}
 
 -- what counts for a bay is no more than all

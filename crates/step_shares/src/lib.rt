@@ -2,22 +2,24 @@
 // bay and takes from it is told by numbers.
 #![tactic(auto)]
 
-ghost use Rattle.std.specs.Prelude.{◌≡◌, ◌&&◌, cond, true, ◌+◌, ◌<◌, ◌≤◌, eqb, leb};
+ghost use Rattle.std.specs.Prelude.{◌≡◌, ◌&&◌, cond, ◌+◌, ◌<◌, ◌≤◌, eqb, leb};
 ghost use Rattle.calculus.specs.Limits.{max_bays, max_names, max_nodes};
 ghost use Rattle.calculus.specs.Shares.{bays_in, names_share, nodes_share};
-ghost use Rattle.image_layout.specs.Slice.{names};
+ghost use Rattle.image_layout.specs.Slice.{names, owner_at};
 ghost use Rattle.image.specs.Configuration.{owned_of, owners_of};
-ghost use Rattle.image.specs.Stands.{image_stands};
 ghost use Rattle.image_check.specs.Parts.{nodes_of};
 ghost use Rattle.step_rules.specs.Moves.{carried};
 ghost use Rattle.step_rules.specs.Stepped.{Movable};
-ghost use Rattle.step_look.specs.Looked.{Going, Stands};
-ghost use Rattle.step_shares.specs.Leaving.{left_by, shares_after};
+ghost use Rattle.step_look.specs.Leaving.{left_by};
+ghost use Rattle.step_look.specs.Looked.{Goes};
+ghost use Rattle.step_shares.specs.Leaving.{shares_after};
 ghost use Rattle.step_shares.specs.Tallies.{Changed, Few, names_to, nodes_from, nodes_to, Tallied};
 
+use image_check::Standing;
 use image_layout::{kind_at, names_of, offset_at, owner_at};
 use numbers::{Image, Recipe};
-use step_room::{Size, nodes_at};
+use step_look::Going;
+use step_room::nodes_at;
 use step_rules::{Carried, Move, Step};
 
 // The names and nodes that each bay owns.
@@ -40,51 +42,50 @@ pub struct Flow {
     pub lost: usize,
 }
 
-// "The stepper takes b as one more than the highest owner in the image".
-fn bays_of(image: &[u8]) -> usize
-    requires { image_stands image.now ≡ true }
-    ensures { (result ≡ bays_in (owners_of image.now)) × (result ≤ max_bays) }
+// The bay that owns name k.
+fn bay_at(image: Standing, k: usize) -> usize
+    requires { k < names image.bytes.now }
+    ensures { (result ≡ owner_at image.entry.bytes.now k) × (result < max_bays) }
 {
-    let names = names_of(image);
+    owner_at(image.bytes, k) as usize
+}
+
+// "The stepper takes b as one more than the highest owner in the image".
+fn bays_of(image: Standing) -> usize
+    ensures { (result ≡ bays_in (owners_of image.entry.bytes.now)) × (result ≤ max_bays) }
+{
+    let names = names_of(image.bytes);
     let mut bays = 0;
-    let mut k = 0;
-    while k < names {
-        let owner = owner_at(image, k) as usize;
-        k += 1;
-        if owner < bays {
-            continue;
-        }
-        bays = owner + 1;
+    for k in 0..names {
+        let owner = bay_at(image, k);
+        bays = bays.max(owner + 1);
     }
     bays
 }
 
 // The nodes of name k: those of its expression, where it has one.
-fn name_nodes(image: &[u8], k: usize) -> usize
-    requires { (image_stands image.now ≡ true) × (k < names image.now) }
-    ensures { result ≡ nodes_of image.now k }
+fn name_nodes(image: Standing, k: usize) -> usize
+    requires { k < names image.bytes.now }
+    ensures { result ≡ nodes_of image.entry.bytes.now k }
 {
-    if Image::CELL < kind_at(image, k) {
+    if Image::CELL < kind_at(image.bytes, k) {
         return 0;
     }
-    nodes_at(image, offset_at(image, k))
+    nodes_at(image.bytes, offset_at(image.bytes, k))
 }
 
 // What each bay owns.
-fn tally_of(image: &[u8]) -> Tally
-    requires { image_stands image.now ≡ true }
-    ensures { Tallied (owned_of image.now) result }
+fn tally_of(image: Standing) -> Tally
+    ensures { Tallied (owned_of image.entry.bytes.now) result }
 {
-    let all = names_of(image);
+    let all = names_of(image.bytes);
     let mut names = [0usize; Recipe::MAX_BAYS];
     let mut nodes = [0usize; Recipe::MAX_BAYS];
-    let mut k = 0;
-    while k < all {
-        let owner = owner_at(image, k) as usize;
+    for k in 0..all {
+        let owner = bay_at(image, k);
         let found = name_nodes(image, k);
         names[owner] += 1;
         nodes[owner] += found;
-        k += 1;
     }
     Tally { names, nodes }
 }
@@ -121,18 +122,18 @@ fn carried_of(image: &[u8], step: Step) -> Carried
     }
 }
 
-// What a step brings to bays and takes from them, where there are so many nodes before it: what comes and goes in all is the thread's bay's, but for what is carried.
-fn flow_of(image: &[u8], nodes: usize, step: Step, after: Size) -> Flow
-    requires { Stands image.now nodes × Going image.now step.thread step after }
-    ensures { Changed (owned_of image.now) (left_by image.now step.thread) result × Few result }
+// What a step brings to bays and takes from them: what comes and goes in all is the thread's bay's, but for what is carried.
+fn flow_of(image: Standing, going: Going) -> Flow
+    requires { Goes image.bytes.now going.step.thread going }
+    ensures { Changed (owned_of image.entry.bytes.now) (left_by image.entry.bytes.now going.step.thread) result × Few result }
 {
-    let carried = carried_of(image, step);
+    let carried = carried_of(image.bytes, going.step);
     Flow {
-        own: owner_at(image, step.thread) as usize,
-        new: after.names - names_of(image),
-        come: after.nodes + carried.lost,
-        gone: nodes + carried.gained,
-        other: owner_at(image, carried.name) as usize,
+        own: bay_at(image, going.step.thread),
+        new: going.after.names - names_of(image.bytes),
+        come: going.after.nodes + carried.lost,
+        gone: image.nodes + carried.gained,
+        other: bay_at(image, carried.name),
         gained: carried.gained,
         lost: carried.lost,
     }
@@ -176,22 +177,20 @@ fn within_share(names: usize, nodes: usize, bays: usize) -> bool
     names <= Image::MAX_NAMES / bays && nodes <= Image::MAX_NODES / bays
 }
 
-// Whether no bay is above its share after the step of a thread that goes, where there are so many nodes before it.
-pub fn shares_after(image: &[u8], nodes: usize, step: Step, after: Size) -> bool
-    requires { Stands image.now nodes × Going image.now step.thread step after }
-    ensures { result ≡ shares_after image.now step.thread }
+// Whether no bay is above its share after the step of a thread that goes.
+pub fn shares_after(image: Standing, going: Going) -> bool
+    requires { Goes image.bytes.now going.step.thread going }
+    ensures { result ≡ shares_after image.entry.bytes.now going.step.thread }
 {
     let bays = bays_of(image);
     let tally = tally_of(image);
-    let flow = flow_of(image, nodes, step, after);
-    let mut k = 0;
-    while k < bays {
+    let flow = flow_of(image, going);
+    for k in 0..bays {
         let names_then = names_left(tally.names[k], flow, k);
         let nodes_then = nodes_left(tally.nodes[k], flow, k);
         if !within_share(names_then, nodes_then, bays) {
             return false;
         }
-        k += 1;
     }
     true
 }

@@ -18,11 +18,9 @@ ghost use Rattle.step_reduct.specs.CanWrite.{CanWrite};
 ghost use Rattle.step_write.specs.Changes.{Becomes};
 
 use buffer::{put_byte, put_bytes, put_u16};
-use image_layout::{
-    Head, Next, companion_at, expression_at, kind_at, length_at, names_of, owner_at, put_head,
-};
+use image_layout::{Head, companion_at, expression_at, kind_at, length_at, names_of, owner_at};
 use numbers::Image;
-use step_reduct::{put_argument, put_name, put_thread_after};
+use step_reduct::{Writable, put_argument, put_name, put_thread_after};
 use step_room::{Size, argument_size};
 use step_rules::{Move, Step};
 use term::Node;
@@ -51,16 +49,16 @@ fn when(test: bool, change: Change, other: Change) -> Change
 }
 
 // What a step makes of name k.
-fn change_of(image: &[u8], step: Step, k: usize) -> Change
-    requires { CanWrite image.now step × (k < names_after image.now step) }
-    ensures { Becomes image.now step k result (component_after image.now step k) }
+fn change_of(writable: Writable, k: usize) -> Change
+    requires { k < names_after writable.image.now writable.step }
+    ensures { Becomes writable.entry.image.now writable.entry.step k result (component_after writable.entry.image.now writable.entry.step k) }
 {
-    if k == step.thread {
+    if k == writable.step.thread {
         return Change::Goes;
     }
-    let names = names_of(image);
+    let names = names_of(writable.image);
     let kept = Change::Kept;
-    let by = step.by;
+    let by = writable.step.by;
     match by {
         Move::Beta => kept,
         Move::ThreadNew => when(k == names, Change::Starts, kept),
@@ -82,14 +80,14 @@ fn change_of(image: &[u8], step: Step, k: usize) -> Change
 }
 
 // Writes the new thread of rule 2: the argument applied to the thread's own name.
-fn put_started(out: &mut [u8], at: usize, image: &[u8], step: Step) -> usize
-    requires can_write { CanWrite image.now step × (names image.now < byte_values) }
-    requires room { at + length (started_bytes image.now step.meeting) ≤ length out.old }
-    ensures { Wrote out.old at (started_bytes image.now step.meeting) out.new result }
+fn put_started(out: &mut [u8], at: usize, writable: Writable) -> usize
+    requires few { names writable.image.now < byte_values }
+    requires room { at + length (started_bytes writable.image.now writable.step.meeting) ≤ length out.old }
+    ensures { Wrote out.old at (started_bytes writable.entry.image.now writable.entry.step.meeting) out.new result }
 {
     let function = put_byte(out, at, Node::APPLICATION);
-    let name = put_argument(out, function, image, step);
-    put_name(out, name, names_of(image))
+    let name = put_argument(out, function, writable);
+    put_name(out, name, names_of(writable.image))
 }
 
 // How many bytes it has.
@@ -101,107 +99,90 @@ fn started_size(meeting: Meeting) -> usize
 }
 
 // Writes the expression of name k; futures and handles have none.
-fn put_expression_after(out: &mut [u8], at: usize, image: &[u8], step: Step, k: usize) -> usize
-    requires can_write { CanWrite image.now step × (k < names_after image.now step) }
-    requires room { at + length (component_after image.now step k).expression ≤ length out.old }
-    ensures { Wrote out.old at (component_after image.now step k).expression out.new result }
+fn put_expression_after(out: &mut [u8], at: usize, writable: Writable, k: usize) -> usize
+    requires below { k < names_after writable.image.now writable.step }
+    requires room { at + length (component_after writable.image.now writable.step k).expression ≤ length out.old }
+    ensures { Wrote out.old at (component_after writable.entry.image.now writable.entry.step k).expression out.new result }
 {
-    let change = change_of(image, step, k);
+    let change = change_of(writable, k);
     match change {
-        Change::Kept => put_bytes(out, at, expression_at(image, k)),
-        Change::Goes => put_thread_after(out, at, image, step),
-        Change::Starts => put_started(out, at, image, step),
-        Change::Holds(_) => put_argument(out, at, image, step),
+        Change::Kept => put_bytes(out, at, expression_at(writable.image, k)),
+        Change::Goes => put_thread_after(out, at, writable),
+        Change::Starts => put_started(out, at, writable),
+        Change::Holds(_) => put_argument(out, at, writable),
         Change::Opens(_) => at,
         Change::Bare(_) => at,
     }
 }
 
-// The head of a name with no expression.
-fn bare(kind: u8, companion: u8) -> Head
-    ensures { (result.kind ≡ kind) × ((result.companion ≡ companion) × (result.size ≡ 0)) }
+// The head of a name with an expression of so many bytes, or with none.
+fn holding(kind: u8, companion: u8, size: usize) -> Head
+    ensures { (result.kind ≡ kind) × ((result.companion ≡ companion) × (result.size ≡ size)) }
 {
     Head {
         kind,
         companion,
-        size: 0,
-    }
-}
-
-// The head of a name with an expression of so many bytes.
-fn holding(kind: u8, owner: u8, size: usize) -> Head
-    ensures { (result.kind ≡ kind) × ((result.companion ≡ owner) × (result.size ≡ size)) }
-{
-    Head {
-        kind,
-        companion: owner,
         size,
     }
 }
 
 // The owner of name k after the step: its own, or, of a new name, that of the thread that goes.
-fn owner_after(image: &[u8], step: Step, k: usize) -> u8
-    requires { CanWrite image.now step }
-    ensures { result ≡ owner_after image.now step.thread k }
+fn owner_after(writable: Writable, k: usize) -> u8
+    ensures { result ≡ owner_after writable.entry.image.now writable.entry.step.thread k }
 {
-    if k < names_of(image) {
-        return owner_at(image, k);
+    if k < names_of(writable.image) {
+        return owner_at(writable.image, k);
     }
-    owner_at(image, step.thread)
+    owner_at(writable.image, writable.step.thread)
 }
 
 // The head of name k, where the expression of the thread that goes has so many bytes.
-fn head_after(image: &[u8], step: Step, thread: usize, k: usize) -> Head
-    requires { CanWrite image.now step × ((thread ≡ length (expression_after image.now step)) × (k < names_after image.now step)) }
-    ensures { Says result (component_after image.now step k) }
+fn head_after(writable: Writable, thread: usize, k: usize) -> Head
+    requires { (thread ≡ length (expression_after writable.image.now writable.step)) × (k < names_after writable.image.now writable.step) }
+    ensures { Says result (component_after writable.entry.image.now writable.entry.step k) }
 {
-    let owner = owner_after(image, step, k);
-    let change = change_of(image, step, k);
+    let owner = owner_after(writable, k);
+    let change = change_of(writable, k);
     match change {
         Change::Kept => Head {
-            kind: kind_at(image, k),
-            companion: companion_at(image, k),
-            size: length_at(image, k),
+            kind: kind_at(writable.image, k),
+            companion: companion_at(writable.image, k),
+            size: length_at(writable.image, k),
         },
         Change::Goes => holding(Image::THREAD, owner, thread),
-        Change::Starts => holding(Image::THREAD, owner, started_size(step.meeting)),
-        Change::Holds(kind) => holding(kind, owner, argument_size(step.meeting)),
-        Change::Opens(future) => bare(Image::OPEN_HANDLE, future),
-        Change::Bare(kind) => bare(kind, owner),
+        Change::Starts => holding(Image::THREAD, owner, started_size(writable.step.meeting)),
+        Change::Holds(kind) => holding(kind, owner, argument_size(writable.step.meeting)),
+        Change::Opens(future) => holding(Image::OPEN_HANDLE, future, 0),
+        Change::Bare(kind) => holding(kind, owner, 0),
     }
 }
 
 // Writes the heads.
-fn put_heads(out: &mut [u8], at: usize, image: &[u8], step: Step, after: Size) -> usize
-    requires can_write { CanWrite image.now step × (Handed image.now step after × (at ≡ first_head)) }
-    requires room { Room (names_after image.now step) (component_after image.now step) out.old }
-    ensures { Wrote out.old at (heads (head_offset (names_after image.now step)) (tabulate (names_after image.now step) (component_after image.now step))) out.new result }
+fn put_heads(out: &mut [u8], at: usize, writable: Writable, after: Size) -> usize
+    requires handed { Handed writable.image.now writable.step after × (at ≡ first_head) }
+    requires room { Room (names_after writable.image.now writable.step) (component_after writable.image.now writable.step) out.old }
+    ensures { Wrote out.old at (heads (head_offset (names_after writable.entry.image.now writable.entry.step)) (tabulate (names_after writable.entry.image.now writable.entry.step) (component_after writable.entry.image.now writable.entry.step))) out.new result }
 {
-    let mut next = Next {
-        head: at,
-        expression: Image::FIRST_HEAD + Image::HEAD_LENGTH * after.names,
-    };
-    let mut k = 0;
-    while k < after.names {
-        next = put_head(out, next, head_after(image, step, after.thread, k));
-        k += 1;
-    }
-    next.head
+    image_layout::put_heads(
+        out,
+        at,
+        after.names,
+        |k| head_after(writable, after.thread, k),
+    )
 }
 
 // Writes the expressions of so many names.
-fn put_expressions(out: &mut [u8], at: usize, image: &[u8], step: Step, names: usize) -> usize
-    requires can_write { CanWrite image.now step × ((names ≡ names_after image.now step) × (at ≡ head_offset (names_after image.now step))) }
-    requires room { Room (names_after image.now step) (component_after image.now step) out.old }
-    ensures { Wrote out.old at (expressions (tabulate (names_after image.now step) (component_after image.now step))) out.new result }
+fn put_expressions(out: &mut [u8], at: usize, writable: Writable, names: usize) -> usize
+    requires handed { (names ≡ names_after writable.image.now writable.step) × (at ≡ head_offset (names_after writable.image.now writable.step)) }
+    requires room { Room (names_after writable.image.now writable.step) (component_after writable.image.now writable.step) out.old }
+    ensures { Wrote out.old at (expressions (tabulate (names_after writable.entry.image.now writable.entry.step) (component_after writable.entry.image.now writable.entry.step))) out.new result }
 {
-    let mut next = at;
-    let mut k = 0;
-    while k < names {
-        next = put_expression_after(out, next, image, step, k);
-        k += 1;
-    }
-    next
+    image_layout::put_expressions(
+        out,
+        at,
+        names,
+        |out, next, k| put_expression_after(out, next, writable, k),
+    )
 }
 
 // Writes the image after a step. What was counted before is handed on: its names, and the bytes of the expression of the thread that goes.
@@ -210,7 +191,8 @@ pub fn put_image_after(image: &[u8], step: Step, after: Size, out: &mut [u8]) ->
     requires room { (length (image_after image.now step) ≤ length out.old) × (length (image_after image.now step) < two_byte_values) }
     ensures { Wrote out.old 0 (image_after image.now step) out.new result }
 {
+    let writable = Writable { image, step };
     let after_names = put_u16(out, 0, after.names);
-    let after_heads = put_heads(out, after_names, image, step, after);
-    put_expressions(out, after_heads, image, step, after.names)
+    let after_heads = put_heads(out, after_names, writable, after);
+    put_expressions(out, after_heads, writable, after.names)
 }

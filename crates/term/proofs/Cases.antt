@@ -7,7 +7,7 @@ use native.Mathlib.Omega.{arith}
 use lib.Dec.{T}
 use Rattle.calculus.specs.Bytes.{two_bytes, word}
 use Rattle.calculus.specs.Syntax.{num, op, exch, handle, app, both, case_of, const, Exp, lam, list, name, pair, var}
-use Rattle.term.specs.declared.Front.TheVariants.{Is}
+use Rattle.std.proofs.Common.{Some}
 use Rattle.term.specs.Numbers.{value_of}
 use Rattle.term.specs.Forms.{form_of, forms, num_tag, to_nothing}
 use Rattle.term.specs.Tree.{forms_below}
@@ -103,6 +103,6 @@ unfolding one_term of_edition forms_below read_term read form_of forms value_of 
 by_edition = tt
 
 -- document 02, T-01, "Refusal 5 no longer has a cause in a num's size": any two bytes after its tag are a num, whatever follows
-every_num : (low high : ℕ) (rest : List ℕ) → node_of (num_tag ∷ low ∷ high ∷ rest) ≡ Is (record { tag = num_tag; arg = low + 256 * high; size = 3; subterms = 0; binders = 0; refers = to_nothing })
+every_num : (low high : ℕ) (rest : List ℕ) → node_of (num_tag ∷ low ∷ high ∷ rest) ≡ Some (record { tag = num_tag; arg = low + 256 * high; size = 3; subterms = 0; binders = 0; refers = to_nothing })
 unfolding form_of forms value_of word
 every_num low high rest = sym (head_node (num_tag ∷ low ∷ high ∷ rest) (omega arith) (omega arith) (omega arith))

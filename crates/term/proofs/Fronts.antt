@@ -6,7 +6,7 @@ use Prim.Native.Nat.{ℕ, zero, suc, ◌+◌, ◌≤◌}
 use native.Mathlib.Omega.{arith}
 use lib.ListN.{length, drop}
 use lib.Seq.{drop-drop}
-use Rattle.term.specs.declared.Front.TheVariants.{Is, Bad}
+use Rattle.std.proofs.Common.{None, Some}
 use Rattle.term.specs.declared.Node.{Node}
 use Rattle.term.specs.Tree.{Tree, leaf, one, tree_size, two}
 use Rattle.term.specs.Reader.{node_of, Got, none, got, read_term, tree_in, first_tree, first_rest, Good}
@@ -39,10 +39,10 @@ pub record TwoFront (l : List ℕ) (h : Node) : Type 0 where
 pub good_fits : (l : List ℕ) → Good l → tree_size (first_tree l) ≤ length l
 good_fits l g = (past_term l (first_tree l) (first_rest l) g).fits
 
-pub front_not_bad : (l : List ℕ) → Good l → node_of l ≡ Bad → ⊥
+pub front_not_bad : (l : List ℕ) → Good l → node_of l ≡ None → ⊥
 front_not_bad l g is = none_got (first_tree l) (first_rest l) (sym (rw is at (step l)) ∙ g)
 
-module _ (l : List ℕ) (h : Node) (is : node_of l ≡ Is h) where
+module _ (l : List ℕ) (h : Node) (is : node_of l ≡ Some h) where
   module _ (g : Good l) where
     pub leaf_front : h.subterms ≡ 0 → first_tree l ≡ leaf h.tag h.arg
     leaf_front k = is_tree l (leaf h.tag h.arg) (drop h.size l) (step_node l h is 0 k)

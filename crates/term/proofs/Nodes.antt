@@ -13,7 +13,7 @@ use Rattle.calculus.specs.Bytes.{Bytes, two_byte_values}
 use Rattle.calculus.specs.Limits.{byte_values}
 use Rattle.calculus.proofs.Theory.Tests.{and_parts}
 use Rattle.term.specs.declared.Form.{Form}
-use Rattle.term.specs.declared.Front.TheVariants.{Is, Bad}
+use Rattle.std.proofs.Common.{None, Some}
 use Rattle.term.specs.declared.Node.{Node}
 use Rattle.term.specs.Numbers.{little_endian, value_of}
 use Rattle.term.specs.Forms.{binders_of, form, form_of, forms, operand_of, refers_of, subterms_of, tags, to_name, to_nothing}
@@ -63,7 +63,7 @@ pub record Heads (l : List ℕ) (h : Node) : Type 0 where
   pub known : h.tag < tags
   pub whole : h.size ≤ length l
 
-picked : (b : Bool) (h k : Node) → cond b (Is h) Bad ≡ Is k → (b ≡ true) × (h ≡ k)
+picked : (b : Bool) (h k : Node) → cond b (Some h) None ≡ Some k → (b ≡ true) × (h ≡ k)
 picked true h k e = (refl, cc)
 picked false h k e = (cc, cc)
 
@@ -74,7 +74,7 @@ stood l e =
     let (some, known) = and_parts (ltb 0 (length l)) (ltb (front_tag l) tags) tag in
     (ltb-true (front_tag l) tags known, leb-true (front_size l) (length l) whole)
 
-pub head_is : (l : List ℕ) (h : Node) → node_of l ≡ Is h → Heads l h
+pub head_is : (l : List ℕ) (h : Node) → node_of l ≡ Some h → Heads l h
 unfolding node_of
 head_is l h e =
     let p = picked (front_stands l) (front_node l) h e in
@@ -84,21 +84,21 @@ head_is l h e =
 
 -- the ways to `Bad`, and the way to a node
 module _ (l : List ℕ) where
-  pub head_none : length l ≡ 0 → Bad ≡ node_of l
+  pub head_none : length l ≡ 0 → None ≡ node_of l
   unfolding node_of
   head_none h = simp (le-ltb 0 (length l) (omega arith))
 
   module _ (some : 0 < length l) where
-    pub head_unknown : tags ≤ front_tag l → Bad ≡ node_of l
+    pub head_unknown : tags ≤ front_tag l → None ≡ node_of l
     unfolding node_of
     head_unknown h = simp (lt-ltb 0 (length l) some, le-ltb (front_tag l) tags h)
 
     module _ (known : front_tag l < tags) where
-      pub head_cut : length l < front_size l → Bad ≡ node_of l
+      pub head_cut : length l < front_size l → None ≡ node_of l
       unfolding node_of
       head_cut h = simp (lt-ltb 0 (length l) some, lt-ltb (front_tag l) tags known, lt-leb (front_size l) (length l) h)
 
-      pub head_node : front_size l ≤ length l → Is (front_node l) ≡ node_of l
+      pub head_node : front_size l ≤ length l → Some (front_node l) ≡ node_of l
       unfolding node_of
       head_node h = simp (lt-ltb 0 (length l) some, lt-ltb (front_tag l) tags known, le-leb (front_size l) (length l) h)
 
@@ -107,7 +107,7 @@ abbrev pub table_node : ℕ → ℕ → ℕ → Node
 table_node tag arg k = record { tag = tag; arg = arg; size = 1 + operand_of tag; subterms = k; binders = binders_of tag; refers = refers_of tag }
 
 -- is read back
-pub head_reads : (tag arg k : ℕ) (rest : List ℕ) → InTable tag arg k → node_of (node_bytes tag arg ++ rest) ≡ Is (table_node tag arg k)
+pub head_reads : (tag arg k : ℕ) (rest : List ℕ) → InTable tag arg k → node_of (node_bytes tag arg ++ rest) ≡ Some (table_node tag arg k)
 unfolding node_of
 head_reads tag arg k rest a =
     let v : value_of (operand_of tag) (little_endian (operand_of tag) arg ++ rest) ≡ arg = value_bytes (operand_of tag) arg rest (operand_at_most tag) a.fits in
@@ -136,7 +136,7 @@ head_allowed (x ∷ xs) h b e =
     }
 
 -- so an operand is what two bytes say
-pub arg_small : (l : List ℕ) (h : Node) → Bytes l → node_of l ≡ Is h → h.arg < two_byte_values
+pub arg_small : (l : List ℕ) (h : Node) → Bytes l → node_of l ≡ Some h → h.arg < two_byte_values
 arg_small l h b is = by (operand_of h.tag) (operand_at_most h.tag) (head_allowed l h b (head_is l h is)).fits
   where
     by : (n : ℕ) → n ≤ 2 → h.arg < byte_values ^ n → h.arg < two_byte_values

@@ -9,17 +9,16 @@ use native.Mathlib.Nat.{not-suc-le-zero, le_refl}
 use native.Mathlib.Omega.{arith}
 use lib.ListN.{length, drop, length-drop}
 use lib.Seq.{drop-drop}
-use Rattle.term.specs.declared.Front.{Front}
-use Rattle.term.specs.declared.Front.TheVariants.{Is, Bad}
+use Rattle.std.proofs.Common.{Option, None, Some}
 use Rattle.term.specs.declared.Node.{Node}
 use Rattle.term.specs.Tree.{HasForm, Shaped, Tree, leaf, one, tree_depth, tree_nodes, tree_size, two}
 use Rattle.term.specs.Reader.{front_node, Got, got, node_of, front_stands, none, onward, read, read_subterms, read_term, read_with}
 use Rattle.term.proofs.Nodes.{head_is, subterms_at_most}
 
 pub data Reads : List ℕ → Tree → List ℕ → Type 0 where
-  leaf_reads : {l : List ℕ} {h : Node} → node_of l ≡ Is h → h.subterms ≡ 0 → Reads l (leaf h.tag h.arg) (drop h.size l)
-  one_reads : {l r : List ℕ} {h : Node} {t : Tree} → node_of l ≡ Is h → h.subterms ≡ 1 → Reads (drop h.size l) t r → Reads l (one h.tag h.arg t) r
-  two_reads : {l r q : List ℕ} {h : Node} {t u : Tree} → node_of l ≡ Is h → h.subterms ≡ 2 → Reads (drop h.size l) t r → Reads r u q → Reads l (two h.tag h.arg t u) q
+  leaf_reads : {l : List ℕ} {h : Node} → node_of l ≡ Some h → h.subterms ≡ 0 → Reads l (leaf h.tag h.arg) (drop h.size l)
+  one_reads : {l r : List ℕ} {h : Node} {t : Tree} → node_of l ≡ Some h → h.subterms ≡ 1 → Reads (drop h.size l) t r → Reads l (one h.tag h.arg t) r
+  two_reads : {l r q : List ℕ} {h : Node} {t u : Tree} → node_of l ≡ Some h → h.subterms ≡ 2 → Reads (drop h.size l) t r → Reads r u q → Reads l (two h.tag h.arg t u) q
 
 -- The reader, through the node at the front
 
@@ -40,15 +39,15 @@ abbrev pub read_below : (List ℕ → Got) → Node → ℕ → List ℕ → Got
 read_below rd h k l = read_subterms rd h.tag h.arg k (drop h.size l)
 
 -- a node's subterms, where there is a node
-abbrev pub read_node : (List ℕ → Got) → Front → List ℕ → Got
-read_node rd Bad l = none
-read_node rd (Is h) l = read_below rd h h.subterms l
+abbrev pub read_node : (List ℕ → Got) → Option Node → List ℕ → Got
+read_node rd None l = none
+read_node rd (Some h) l = read_below rd h h.subterms l
 
 through_node : (rd : List ℕ → Got) (l : List ℕ) → read_with rd l ≡ read_node rd (node_of l) l
 unfolding node_of
 through_node rd l = by (front_stands l)
   where
-    by : (b : Bool) → cond b (read_node rd (Is (front_node l)) l) none ≡ read_node rd (cond b (Is (front_node l)) Bad) l
+    by : (b : Bool) → cond b (read_node rd (Some (front_node l)) l) none ≡ read_node rd (cond b (Some (front_node l)) None) l
     by true = refl
     by false = refl
 
@@ -65,7 +64,7 @@ pub closed_two : (h : Node) (a : Tree) (g : Got) (t : Tree) (r : List ℕ) → c
 closed_two h a none t r e = absurd (none_got t r e)
 closed_two h a (got u q) t r e = (u, cc, cc)
 
-module _ (rd : List ℕ → Got) (reads_rd : (l : List ℕ) (t : Tree) (r : List ℕ) → rd l ≡ got t r → Reads l t r) (l : List ℕ) (h : Node) (is : node_of l ≡ Is h) where
+module _ (rd : List ℕ → Got) (reads_rd : (l : List ℕ) (t : Tree) (r : List ℕ) → rd l ≡ got t r → Reads l t r) (l : List ℕ) (h : Node) (is : node_of l ≡ Some h) where
   then_reads : h.subterms ≡ 2 → (g : Got) → rd (drop h.size l) ≡ g → (t : Tree) (r : List ℕ) → then_second rd h g ≡ got t r → Reads l t r
   then_reads k none eg t r e = absurd (none_got t r e)
   then_reads k (got a q) eg t r e =
@@ -81,9 +80,9 @@ module _ (rd : List ℕ → Got) (reads_rd : (l : List ℕ) (t : Tree) (r : List
       then_reads (omega (arith, subterms_at_most h.tag, (head_is l h is).at_subterms)) (rd (drop h.size l)) refl t r e
 
 node_reads : (rd : List ℕ → Got) → ((l : List ℕ) (t : Tree) (r : List ℕ) → rd l ≡ got t r → Reads l t r)
-    → (l : List ℕ) (h : Front) → node_of l ≡ h → (t : Tree) (r : List ℕ) → read_node rd h l ≡ got t r → Reads l t r
-node_reads rd reads_rd l Bad is t r e = absurd (none_got t r e)
-node_reads rd reads_rd l (Is h) is t r e = subterms_reads rd reads_rd l h is h.subterms refl t r e
+    → (l : List ℕ) (h : Option Node) → node_of l ≡ h → (t : Tree) (r : List ℕ) → read_node rd h l ≡ got t r → Reads l t r
+node_reads rd reads_rd l None is t r e = absurd (none_got t r e)
+node_reads rd reads_rd l (Some h) is t r e = subterms_reads rd reads_rd l h is h.subterms refl t r e
 
 pub reads : (n : ℕ) (l : List ℕ) (t : Tree) (r : List ℕ) → read n l ≡ got t r → Reads l t r
 unfolding read
@@ -174,9 +173,9 @@ subterms_full n h zero l le = refl
 subterms_full n h (suc zero) l le = ap (close_one h) (full n l le)
 subterms_full n h (suc (suc j)) l le = ap (then_second (read n) h) (full n l le) ∙ then_full n h l le (read_term l) refl
 
-node_full : (n : ℕ) (l : List ℕ) → length l ≤ n → (h : Front) → read_node (read n) h l ≡ read_node read_term h l
-node_full n l le Bad = refl
-node_full n l le (Is h) = subterms_full n h h.subterms (drop h.size l) (omega (arith, length-drop h.size l))
+node_full : (n : ℕ) (l : List ℕ) → length l ≤ n → (h : Option Node) → read_node (read n) h l ≡ read_node read_term h l
+node_full n l le None = refl
+node_full n l le (Some h) = subterms_full n h h.subterms (drop h.size l) (omega (arith, length-drop h.size l))
 
 -- the reader's equation
 pub step : (l : List ℕ) → read_term l ≡ read_node read_term (node_of l) l
@@ -185,9 +184,9 @@ step l =
     sym (full (suc (length l)) l (omega arith)) ∙ through_node (read (length l)) l ∙ node_full (length l) l (le_refl (length l)) (node_of l)
 
 -- and at a node with k subterms
-pub step_node : (l : List ℕ) (h : Node) → node_of l ≡ Is h → (k : ℕ) → h.subterms ≡ k → read_term l ≡ read_below read_term h k l
+pub step_node : (l : List ℕ) (h : Node) → node_of l ≡ Some h → (k : ℕ) → h.subterms ≡ k → read_term l ≡ read_below read_term h k l
 step_node l h is k e =
-    step l ∙ ap (λ (x : Front). read_node read_term x l) is ∙ ap (λ (x : ℕ). read_below read_term h x l) e
+    step l ∙ ap (λ (x : Option Node). read_node read_term x l) is ∙ ap (λ (x : ℕ). read_below read_term h x l) e
 
 pub past_term : (l : List ℕ) (t : Tree) (r : List ℕ) → read_term l ≡ got t r → Past l t r
 unfolding read_term
@@ -195,7 +194,7 @@ past_term l t r e = past (reads (length l) l t r e)
 
 -- The nodes that are read are the table's
 
-has_form : (l : List ℕ) {h : Node} {k : ℕ} → node_of l ≡ Is h → h.subterms ≡ k → HasForm h.tag k
+has_form : (l : List ℕ) {h : Node} {k : ℕ} → node_of l ≡ Some h → h.subterms ≡ k → HasForm h.tag k
 has_form l {h} is k = let n = head_is l h is in record { known = n.known; shape = n.at_subterms ∙ k }
 
 shaped : {l : List ℕ} {t : Tree} {r : List ℕ} → Reads l t r → Shaped t

@@ -8,7 +8,8 @@ use lib.ListN.{drop, length, length-drop}
 use lib.Seq.{drop-drop}
 use Rattle.calculus.specs.Bytes.{Bytes, two_byte_values}
 use Rattle.calculus.specs.Syntax.{app, both, case_of, lam, list, pair, Shape}
-use Rattle.term.specs.declared.Front.TheVariants.{Bad, Is}
+use Rattle.std.specs.Prelude.{IsSome}
+use Rattle.std.proofs.Common.{None, Option, Some}
 use Rattle.term.specs.declared.Node.{Node}
 use Rattle.term.specs.Forms.{application_tag, binders_of, form_of, forms, lambda_tag, refers_of, subterms_of, to_name}
 use Rattle.term.specs.Tree.{HasForm, leaf, one, Shaped, tree_nodes, tree_size, two}
@@ -99,11 +100,20 @@ pub shaped_at : {l : List ℕ} {at : ℕ} → GoodAt l at → Shaped (tree_at l 
 unfolding tree_at
 shaped_at {l} {at} g = shaped_term (drop at l) _ _ g.good
 
-pub not_bad : {l : List ℕ} {at : ℕ} → GoodAt l at → node_at l at ≡ Bad → ⊥
+pub not_bad : {l : List ℕ} {at : ℕ} → GoodAt l at → node_at l at ≡ None → ⊥
 unfolding node_at
 not_bad {l} {at} g is = front_not_bad (drop at l) g.good is
 
-pub node_there : {l : List ℕ} {at : ℕ} {h : Node} → at ≤ length l → node_at l at ≡ Is h → NodeAt l at h
+-- what is not nothing is something
+pub some_unless : {A : Type 0} (x : Option A) → (x ≡ None → ⊥) → IsSome x
+some_unless None never = absurd (never refl)
+some_unless (Some h) never = refl
+
+-- so the reader gives a node
+pub node_good : {l : List ℕ} {at : ℕ} → GoodAt l at → IsSome (node_at l at)
+node_good {l} {at} g = some_unless (node_at l at) (not_bad g)
+
+pub node_there : {l : List ℕ} {at : ℕ} {h : Node} → at ≤ length l → node_at l at ≡ Some h → NodeAt l at h
 unfolding node_at
 node_there {l} {at} {h} inside is =
     let n = head_is (drop at l) h is in
@@ -119,7 +129,7 @@ node_there {l} {at} {h} inside is =
     }
 
 -- its operand is what two bytes say
-pub small_arg : (l : List ℕ) (at : ℕ) {h : Node} → Bytes l → node_at l at ≡ Is h → h.arg < two_byte_values
+pub small_arg : (l : List ℕ) (at : ℕ) {h : Node} → Bytes l → node_at l at ≡ Some h → h.arg < two_byte_values
 unfolding node_at
 small_arg l at {h} b is = arg_small (drop at l) h (bytes_drop at l b) is
 
@@ -153,7 +163,7 @@ rest_two {h = h} n not_0 not_lambda = by h.subterms refl n.form n.few
     by (suc (suc zero)) e f few = e
     by (suc (suc (suc k))) e f few = absurd (omega arith)
 
-pub leaf_from : {l : List ℕ} {at : ℕ} {h : Node} → node_at l at ≡ Is h → GoodAt l at → h.subterms ≡ 0 → LeafAt l at h
+pub leaf_from : {l : List ℕ} {at : ℕ} {h : Node} → node_at l at ≡ Some h → GoodAt l at → h.subterms ≡ 0 → LeafAt l at h
 unfolding node_at tree_at term_of first_tree end_at exp_of tree_size
 leaf_from {l} {at} {h} is g k =
     let t = leaf_front (drop at l) h is g.good k in
@@ -163,7 +173,7 @@ leaf_from {l} {at} {h} is g k =
       ends = omega (arith, ap tree_size t, (head_is (drop at l) h is).at_size);
     }
 
-pub one_from : {l : List ℕ} {at : ℕ} {h : Node} → node_at l at ≡ Is h → GoodAt l at → h.subterms ≡ 1 → OneAt l at h
+pub one_from : {l : List ℕ} {at : ℕ} {h : Node} → node_at l at ≡ Some h → GoodAt l at → h.subterms ≡ 1 → OneAt l at h
 unfolding node_at tree_at term_of first_tree end_at exp_of tree_size
 one_from {l} {at} {h} is g k =
     let o = one_front (drop at l) h is g.good k in
@@ -177,7 +187,7 @@ one_from {l} {at} {h} is g k =
       ends = omega (arith, ap tree_size t, (head_is (drop at l) h is).at_size);
     }
 
-pub two_from : {l : List ℕ} {at : ℕ} {h : Node} → node_at l at ≡ Is h → GoodAt l at → h.subterms ≡ 2 → TwoAt l at h
+pub two_from : {l : List ℕ} {at : ℕ} {h : Node} → node_at l at ≡ Some h → GoodAt l at → h.subterms ≡ 2 → TwoAt l at h
 unfolding node_at tree_at term_of first_tree end_at exp_of tree_size
 two_from {l} {at} {h} is g k =
     let o = two_front (drop at l) h is g.good k in
@@ -200,7 +210,7 @@ two_from {l} {at} {h} is g k =
     }
 
 -- the first subterm, whether or not there is a second
-pub first_good : {l : List ℕ} {at : ℕ} {h : Node} → node_at l at ≡ Is h → GoodAt l at → (h.subterms ≡ 0 → ⊥) → GoodAt l (at + h.size)
+pub first_good : {l : List ℕ} {at : ℕ} {h : Node} → node_at l at ≡ Some h → GoodAt l at → (h.subterms ≡ 0 → ⊥) → GoodAt l (at + h.size)
 first_good {l} {at} {h} is g not_0 = by h.subterms refl
   where
     by : (k : ℕ) → h.subterms ≡ k → GoodAt l (at + h.size)

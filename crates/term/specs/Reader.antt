@@ -1,7 +1,5 @@
 -- The reader: what term stands at the front of a list of bytes, if one does. It is defined for every list, a damaged one too.
-use Rattle.std.specs.Prelude.{◌≡◌, Bool, ◌&&◌, cond, false, true, List, [], ◌∷◌, ◌+◌, ◌≤◌, suc, zero, ℕ, leb, ltb, drop, get_or, length}
-use Rattle.term.specs.declared.Front.{Front}
-use Rattle.term.specs.declared.Front.TheVariants.{Bad, Is}
+use Rattle.std.specs.Prelude.{◌≡◌, Bool, ◌&&◌, cond, false, true, List, [], ◌∷◌, ◌+◌, ◌≤◌, suc, zero, ℕ, leb, ltb, drop, get_or, length, Option, None, Some}
 use Rattle.term.specs.declared.Node.{Node}
 use Rattle.term.specs.Numbers.{value_of}
 use Rattle.term.specs.Forms.{binders_of, operand_of, refers_of, subterms_of, tags, unit_tag}
@@ -112,9 +110,9 @@ front_node l =
     }
 
 -- the same where it stands, and otherwise that there is none
-unfoldable pub node_of : List ℕ → Front
-node_of l = cond (front_stands l) (Is (front_node l)) Bad
+unfoldable pub node_of : List ℕ → Option Node
+node_of l = cond (front_stands l) (Some (front_node l)) None
 
 -- the node at a position of a list
-unfoldable pub node_at : List ℕ → ℕ → Front
+unfoldable pub node_at : List ℕ → ℕ → Option Node
 node_at l at = node_of (drop at l)

@@ -103,13 +103,6 @@ impl Node {
     pub const OPERANDS: usize = Byte::VALUES * Byte::VALUES;
 }
 
-// The node at the front of some bytes, or that there is none.
-#[derive(Clone, Copy)]
-pub enum Front {
-    Is(Node),
-    Bad,
-}
-
 // Document 01's and T-03's table of node forms, in the order of the tags, eight to an entry. A constant table is laid out anew at each use: of structs that takes longer than
 // all else of reading a node, and of single bytes, which are laid out in larger pieces, it is long until one can be read. So an entry is read as it is laid out.
 pub const FORMS: [u64; 2] = [
@@ -155,23 +148,24 @@ fn operand_of(s: &[u8], n: u8) -> usize
     buffer::word_at(s, 1)
 }
 
-pub fn node_of(s: &[u8]) -> Front
+// The node at the front of some bytes, where one stands.
+pub fn node_of(s: &[u8]) -> Option<Node>
     ensures { result ≡ node_of s.now }
 {
     if s.len() == 0 {
-        return Front::Bad;
+        return None;
     }
     let tag = s[0];
     if Node::TAGS <= tag {
-        return Front::Bad;
+        return None;
     }
     let form = form_of(tag);
     let size = 1 + (form.operand as usize);
     if s.len() < size {
-        return Front::Bad;
+        return None;
     }
     let arg = operand_of(s, form.operand);
-    Front::Is(Node {
+    Some(Node {
         tag,
         arg,
         size,
@@ -182,7 +176,7 @@ pub fn node_of(s: &[u8]) -> Front
 }
 
 // The same at a position.
-pub fn node_at(s: &[u8], at: usize) -> Front
+pub fn node_at(s: &[u8], at: usize) -> Option<Node>
     requires { at ≤ length s.now }
     ensures { result ≡ node_at s.now at }
 {

@@ -13,17 +13,17 @@ use Rattle.calculus.proofs.Theory.Places.{Placed, place_sound, place_value}
 use Rattle.calculus.proofs.Theory.Tests.{clash}
 use Rattle.term.specs.Expressions.{TermAt}
 use Rattle.term_redex.specs.declared.Meeting.{Meeting}
-use Rattle.term_redex.specs.declared.Place.TheVariants.{Done, Meet}
+use Rattle.std.proofs.Common.{None, Some}
 use Rattle.term_redex.specs.Contexts.{back, front, hole_at}
 use Rattle.term_redex.specs.Places.{first_part, meeting_of, place_of, second_part}
 use Rattle.term_redex.proofs.Contexts.{hole_stands, redex_stands}
 
 -- Done: a closed expression is a value
-pub done_value : (base : ℕ) (e : Exp) → Closed 0 e → place_of base (place e) ≡ Done → (w : Value e) × (place e ≡ settled e w)
+pub done_value : (base : ℕ) (e : Exp) → Closed 0 e → place_of base (place e) ≡ None → (w : Value e) × (place e ≡ settled e w)
 unfolding place_of
 done_value base e c d = let w = go (place e) (place_sound e) d in (w, place_value w)
   where
-    go : (p : Place) → Placed e p → place_of base p ≡ Done → Value e
+    go : (p : Place) → Placed e p → place_of base p ≡ None → Value e
     go (settled v w) s d = rw s w
     go (meet F r r_is) s d = absurd (clash (cc))
     go loose s d = absurd (s c)
@@ -36,11 +36,11 @@ pub record Met (base : ℕ) (e : Exp) (m : Meeting) : Type 0 where
   pub place_is : place e ≡ meet context redex is_redex
   pub meeting_is : m ≡ meeting_of base context is_redex
 
-pub meet_met : (base : ℕ) (e : Exp) (m : Meeting) → place_of base (place e) ≡ Meet m → Met base e m
+pub meet_met : (base : ℕ) (e : Exp) (m : Meeting) → place_of base (place e) ≡ Some m → Met base e m
 unfolding place_of
 meet_met base e m h = go (place e) refl h
   where
-    go : (p : Place) → place e ≡ p → place_of base p ≡ Meet m → Met base e m
+    go : (p : Place) → place e ≡ p → place_of base p ≡ Some m → Met base e m
     go (settled v w) q h = absurd (clash (cc))
     go (meet F r d) q h = record { context = F; redex = r; is_redex = d; place_is = q; meeting_is = cc }
     go loose q h = absurd (clash (cc))

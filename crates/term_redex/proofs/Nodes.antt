@@ -7,8 +7,7 @@ use native.Mathlib.Omega.{arith}
 use lib.Dec.{eqb}
 use lib.ListN.{drop}
 use Rattle.calculus.specs.Syntax.{is_lam, list, pair, Shape, Value}
-use Rattle.term.specs.declared.Front.{Front}
-use Rattle.term.specs.declared.Front.TheVariants.{Bad, Is}
+use Rattle.std.proofs.Common.{Option, None, Some}
 use Rattle.term.specs.declared.Node.{Node}
 use Rattle.term.specs.Forms.{application_tag, exch_tag, form_of, forms, is_case_tag, operand_of}
 use Rattle.term.specs.Tree.{HasForm}
@@ -21,12 +20,12 @@ use Rattle.term_redex.specs.Stops.{TaggedAt}
 use Rattle.term_redex.proofs.Tags.{leaf_case, leaf_exch, leaf_stop, leaf_value, one_case, one_exch, one_stop, stop_tagged, two_case, two_exch, two_stop}
 
 -- a good term has a node at its front
-pub node_of : {l : List ℕ} {at : ℕ} → GoodAt l at → (h : Node) × (node_at l at ≡ Is h)
+pub node_of : {l : List ℕ} {at : ℕ} → GoodAt l at → (h : Node) × (node_at l at ≡ Some h)
 node_of {l} {at} g = go (node_at l at) refl
   where
-    go : (k : Front) → node_at l at ≡ k → (h : Node) × (node_at l at ≡ Is h)
-    go (Is h) e = (h, e)
-    go Bad e = absurd (not_bad g e)
+    go : (k : Option Node) → node_at l at ≡ k → (h : Node) × (node_at l at ≡ Some h)
+    go (Some h) e = (h, e)
+    go None e = absurd (not_bad g e)
 
 -- none, one or two subterms
 pub by_subterms : {C : Type 0} (n : ℕ) → n ≤ 2 → (n ≡ 0 → C) → (n ≡ 1 → C) → (n ≡ 2 → C) → C
@@ -36,21 +35,21 @@ by_subterms (suc (suc zero)) few none one two = two refl
 by_subterms (suc (suc (suc n))) few none one two = absurd (omega arith)
 
 -- how many bytes a node takes, by its tag
-pub application_size : (l : List ℕ) (at : ℕ) {h : Node} → node_at l at ≡ Is h → h.tag ≡ application_tag → h.size ≡ 1
+pub application_size : (l : List ℕ) (at : ℕ) {h : Node} → node_at l at ≡ Some h → h.tag ≡ application_tag → h.size ≡ 1
 unfolding node_at form_of forms
 application_size l at {h} is t = sym (head_is (drop at l) h is).at_size ∙ ap (λ (x : ℕ). 1 + operand_of x) t
 
-pub both_size : (l : List ℕ) (at : ℕ) {h : Node} (s : Shape) → node_at l at ≡ Is h → h.tag ≡ both_tag s → h.size ≡ 2
+pub both_size : (l : List ℕ) (at : ℕ) {h : Node} (s : Shape) → node_at l at ≡ Some h → h.tag ≡ both_tag s → h.size ≡ 2
 unfolding node_at both_tag form_of forms
 both_size l at {h} pair is t = sym (head_is (drop at l) h is).at_size ∙ ap (λ (x : ℕ). 1 + operand_of x) t
 both_size l at {h} list is t = sym (head_is (drop at l) h is).at_size ∙ ap (λ (x : ℕ). 1 + operand_of x) t
 
-pub case_size : (l : List ℕ) (at : ℕ) {h : Node} (s : Shape) → node_at l at ≡ Is h → h.tag ≡ case_tag s → h.size ≡ 1
+pub case_size : (l : List ℕ) (at : ℕ) {h : Node} (s : Shape) → node_at l at ≡ Some h → h.tag ≡ case_tag s → h.size ≡ 1
 unfolding node_at case_tag form_of forms
 case_size l at {h} pair is t = sym (head_is (drop at l) h is).at_size ∙ ap (λ (x : ℕ). 1 + operand_of x) t
 case_size l at {h} list is t = sym (head_is (drop at l) h is).at_size ∙ ap (λ (x : ℕ). 1 + operand_of x) t
 
-module _ {l : List ℕ} {at : ℕ} {h : Node} (is : node_at l at ≡ Is h) (g : GoodAt l at) where
+module _ {l : List ℕ} {at : ℕ} {h : Node} (is : node_at l at ≡ Some h) (g : GoodAt l at) where
   -- by the number of its subterms
   pub by_form : {C : Type 0} → (h.subterms ≡ 0 → HasForm h.tag 0 → C) → (h.subterms ≡ 1 → HasForm h.tag 1 → C) → (h.subterms ≡ 2 → HasForm h.tag 2 → C) → C
   by_form leaf one two =
@@ -94,7 +93,7 @@ module _ {l : List ℕ} {at : ℕ} {h : Node} (is : node_at l at ≡ Is h) (g : 
       subst (λ (n : ℕ). GoodAt l (at + n)) (application_size l at is t) two.good
 
 -- the function's node says whether an application is exch's
-application_stop : {l : List ℕ} {at : ℕ} {h f : Node} → node_at l at ≡ Is h → GoodAt l at → h.tag ≡ application_tag → node_at l (at + 1) ≡ Is f →
+application_stop : {l : List ℕ} {at : ℕ} {h f : Node} → node_at l at ≡ Some h → GoodAt l at → h.tag ≡ application_tag → node_at l (at + 1) ≡ Some f →
     is_stop (term_at l at) ≡ not (eqb f.tag exch_tag)
 unfolding is_stop
 application_stop {l} {at} {h} {f} is g t e =
@@ -107,7 +106,7 @@ module _ {l : List ℕ} {at tag : ℕ} (t : TaggedAt l at tag) where
   pub tagged_function : tag ≡ application_tag → GoodAt l (at + 1)
   tagged_function e = function_good t.is t.good (t.tagged ∙ e)
 
-  pub tagged_application : {f : Node} → tag ≡ application_tag → node_at l (at + 1) ≡ Is f → not (eqb f.tag exch_tag) ≡ is_stop (term_at l at)
+  pub tagged_application : {f : Node} → tag ≡ application_tag → node_at l (at + 1) ≡ Some f → not (eqb f.tag exch_tag) ≡ is_stop (term_at l at)
   tagged_application e g = sym (application_stop t.is t.good (t.tagged ∙ e) g)
 
   pub tagged_stop : ¬ (tag ≡ application_tag) → stop_tagged tag ≡ is_stop (term_at l at)

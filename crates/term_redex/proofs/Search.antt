@@ -10,7 +10,7 @@ use Rattle.calculus.specs.Syntax.{Exp, is_both, is_const, is_exch, is_lam, is_na
 use Rattle.calculus.specs.Step.{loose, meet, place, Place as CalculusPlace, settled}
 use Rattle.calculus.specs.Image.{Closed, is_settled, size}
 use Rattle.calculus.proofs.Theory.Places.{place_sound, place_value}
-use Rattle.term.specs.declared.Front.TheVariants.{Is}
+use Rattle.std.proofs.Common.{Some, Option, None}
 use Rattle.term.specs.declared.Node.{Node}
 use Rattle.term.specs.Tree.{HasForm}
 use Rattle.term.specs.Reader.{end_at, GoodAt, node_at}
@@ -18,8 +18,6 @@ use Rattle.term.specs.Expressions.{term_at}
 use Rattle.term.proofs.Views.{app_from, both_from, case_from, end_inside, end_onward, is_application, is_both as is_pair_or_front, is_case, leaf_from, node_there, past_first, two_form, TwoForm, two_from, TwoAt}
 use Rattle.term.proofs.Expressions.{term_stands}
 use Rattle.term_redex.specs.declared.Meeting.{Meeting}
-use Rattle.term_redex.specs.declared.Place.{Place}
-use Rattle.term_redex.specs.declared.Place.TheVariants.{Done, Meet}
 use Rattle.term_redex.specs.declared.Stop.TheVariants.{At, Past}
 use Rattle.term_redex.specs.Shapes.{const_is_exch, exp_is_exch, is_stop, op_is_exch}
 use Rattle.term_redex.specs.Places.{place_of}
@@ -59,7 +57,7 @@ module _ {A : Type 0} (meets : Meeting → A) (stuck : A) where
       go loose q = refl
 
   -- the subterms of a node that is opened stand for it
-  opened : {l : List ℕ} {at : ℕ} {h : Node} → Bytes l → node_at l at ≡ Is h → (o : TwoAt l at h) → TwoForm h.tag → is_stop (term_at l at) ≡ false → (rest : A) →
+  opened : {l : List ℕ} {at : ℕ} {h : Node} → Bytes l → node_at l at ≡ Some h → (o : TwoAt l at h) → TwoForm h.tag → is_stop (term_at l at) ≡ false → (rest : A) →
       first_of meets stuck at (place (term_at l at)) rest
       ≡ first_of meets stuck (at + h.size) (place (term_at l (at + h.size))) (first_of meets stuck (past_first l at h) (place (term_at l (past_first l at h))) rest)
   unfolding is_stop
@@ -96,8 +94,8 @@ among meets stuck l at zero rest = rest
 among meets stuck l at (suc terms) rest = first_of meets stuck at (place (term_at l at)) (among meets stuck l (end_at l at) terms rest)
 
 -- the place among them, `rest` where all are values
-unfoldable pub place_among : List ℕ → ℕ → ℕ → Place → Place
-place_among l at terms rest = among Meet Done l at terms rest
+unfoldable pub place_among : List ℕ → ℕ → ℕ → Option Meeting → Option Meeting
+place_among l at terms rest = among Some None l at terms rest
 
 -- whether all are values
 unfoldable pub all_values : List ℕ → ℕ → ℕ → Bool
@@ -128,7 +126,7 @@ closed_first (closed_term c r) = (c, r)
 pub record Searching (l : List ℕ) (at here waits : ℕ) : Type 0 where
   pub good : EachGood l here waits
   pub onward : at ≤ here
-  pub same : (rest : Place) → first_of Meet Done at (place (term_at l at)) rest ≡ place_among l here waits rest
+  pub same : (rest : Option Meeting) → first_of Some None at (place (term_at l at)) rest ≡ place_among l here waits rest
   pub values : is_settled (place (term_at l at)) ≡ all_values l here waits
   pub ends : end_at l at ≡ ends_among l here waits
   pub closed : Closed 0 (term_at l at) → EachClosed l here waits
@@ -153,14 +151,14 @@ module _ {l : List ℕ} {at here n : ℕ} (s : Searching l at here (suc n)) wher
   past_value w = record {
     good = (good_first s.good).1;
     onward = omega (arith, s.onward, end_onward l here);
-    same = λ rest. s.same rest ∙ first_value Meet Done here w _;
+    same = λ rest. s.same rest ∙ first_value Some None here w _;
     values = s.values ∙ first_value (λ m. false) false here w _;
     ends = s.ends;
     closed = λ c. (closed_first (s.closed c)).1;
   }
 
   -- a node is opened
-  past_node : {h : Node} → Bytes l → node_at l here ≡ Is h → h.subterms ≡ 2 → is_stop (term_at l here) ≡ false → Searching l at (here + h.size) (suc (suc n))
+  past_node : {h : Node} → Bytes l → node_at l here ≡ Some h → h.subterms ≡ 2 → is_stop (term_at l here) ≡ false → Searching l at (here + h.size) (suc (suc n))
   unfolding place_among all_values among ends_among is_stop
   past_node {h} b is k passes =
       let o = two_from is here_good k in
@@ -169,14 +167,14 @@ module _ {l : List ℕ} {at here n : ℕ} (s : Searching l at here (suc n)) wher
       record {
         good = good_term o.good (good_term o.second (subst (λ (i : ℕ). EachGood l i n) e (good_first s.good).1));
         onward = omega (arith, s.onward);
-        same = λ rest. s.same rest ∙ opened Meet Done b is o f passes _ ∙ ap (λ (i : ℕ). inside Meet Done (place_after rest i)) e;
+        same = λ rest. s.same rest ∙ opened Some None b is o f passes _ ∙ ap (λ (i : ℕ). inside Some None (place_after rest i)) e;
         values = s.values ∙ opened (λ m. false) false b is o f passes _ ∙ ap (λ (i : ℕ). inside (λ m. false) false (values_after i)) e;
         ends = s.ends ∙ ap (λ (i : ℕ). ends_among l i n) e;
         closed = λ c. both_closed (closed_first (s.closed c)) f o;
       }
     where
-      place_after : Place → ℕ → Place
-      place_after rest i = among Meet Done l i n rest
+      place_after : Option Meeting → ℕ → Option Meeting
+      place_after rest i = among Some None l i n rest
 
       values_after : ℕ → Bool
       values_after i = among (λ m. false) false l i n true
@@ -208,7 +206,7 @@ module _ {l : List ℕ} {at here n : ℕ} (s : Searching l at here (suc n)) wher
     good = here_good;
     onward = s.onward;
     stop = is;
-    same = λ rest. s.same rest ∙ stop_first Meet Done here _ is _ Done;
+    same = λ rest. s.same rest ∙ stop_first Some None here _ is _ None;
     no_value = s.values ∙ stop_first (λ m. false) false here _ is _ false ∙ never here (place (term_at l here));
     closed = λ c. (closed_first (s.closed c)).0;
   }
@@ -233,17 +231,17 @@ module _ {l : List ℕ} {at here waits : ℕ} (some : 0 < waits) (s : Searching 
   turn_value : Value (term_at l here) → Searching l at (end_at l here) (waits - 1)
   turn_value = past_value (some_left some s)
 
-  turn_node : {h : Node} → Bytes l → node_at l here ≡ Is h → h.subterms ≡ 2 → is_stop (term_at l here) ≡ false → Searching l at (here + h.size) (waits + 1)
+  turn_node : {h : Node} → Bytes l → node_at l here ≡ Some h → h.subterms ≡ 2 → is_stop (term_at l here) ≡ false → Searching l at (here + h.size) (waits + 1)
   turn_node {h} b is k passes =
       let e : suc (suc (waits - 1)) ≡ waits + 1 = omega arith in
       subst (Searching l at (here + h.size)) e (past_node (some_left some s) b is k passes)
 
   -- a lambda is passed with all that is in it
-  pub turn_lambda : {h : Node} → node_at l here ≡ Is h → h.subterms ≡ 1 → is_stop (term_at l here) ≡ false → Searching l at (end_at l here) (waits - 1)
+  pub turn_lambda : {h : Node} → node_at l here ≡ Some h → h.subterms ≡ 1 → is_stop (term_at l here) ≡ false → Searching l at (end_at l here) (waits - 1)
   turn_lambda is k passes = turn_value (value_node is turn_good (λ e. omega (arith, e, k)) passes)
 
   -- any other node makes way for its subterms
-  pub turn_open : {h : Node} → Bytes l → node_at l here ≡ Is h → ¬ (h.subterms ≡ 1) → is_stop (term_at l here) ≡ false →
+  pub turn_open : {h : Node} → Bytes l → node_at l here ≡ Some h → ¬ (h.subterms ≡ 1) → is_stop (term_at l here) ≡ false →
       Searching l at (here + h.size) (waits - 1 + h.subterms)
   turn_open {h} b is other passes = by_subterms h.subterms (node_there turn_good.inside is).few leaf (λ k. absurd (other k)) two
     where

@@ -10,7 +10,7 @@ use Rattle.calculus.specs.Step.{place}
 use Rattle.calculus.specs.Image.{Closed, is_settled, size}
 use Rattle.calculus.proofs.Theory.Tests.{clash}
 use Rattle.calculus.proofs.Theory.ImageTest.{settled_value}
-use Rattle.term.specs.declared.Front.TheVariants.{Is}
+use Rattle.std.proofs.Common.{Some, Option, None}
 use Rattle.term.specs.declared.Node.{Node}
 use Rattle.term.specs.Forms.{application_tag}
 use Rattle.term.specs.Reader.{end_at, GoodAt, node_at}
@@ -18,8 +18,6 @@ use Rattle.term.specs.Expressions.{case_tag, term_at}
 use Rattle.term.proofs.Views.{app_from, both_from, case_from, end_onward, is_application, is_both, is_case as is_case_form, past_first, two_form, TwoForm, two_from, TwoAt, leaf_from, one_from}
 use Rattle.term.proofs.Expressions.{term_stands}
 use Rattle.term_redex.specs.declared.Meeting.{Meeting}
-use Rattle.term_redex.specs.declared.Place.{Place}
-use Rattle.term_redex.specs.declared.Place.TheVariants.{Done, Meet}
 use Rattle.term_redex.specs.declared.Stop.{Stop}
 use Rattle.term_redex.specs.declared.Stop.TheVariants.{At, Past}
 use Rattle.term_redex.specs.Shapes.{is_case, is_stop}
@@ -50,22 +48,22 @@ module _ {l : List ℕ} {at : ℕ} where
   passed_end (passed v) e = cc
   passed_end (stopped s) e = absurd (clash (cc))
 
-  passed_place : {r : Stop} {end : ℕ} → Stopped l at r → r ≡ Past end → (rest : Place) → first_of Meet Done at (place (term_at l at)) rest ≡ rest
-  passed_place s e = first_value Meet Done at (settled_value (term_at l at) (sym (value_passed s e)))
+  passed_place : {r : Stop} {end : ℕ} → Stopped l at r → r ≡ Past end → (rest : Option Meeting) → first_of Some None at (place (term_at l at)) rest ≡ rest
+  passed_place s e = first_value Some None at (settled_value (term_at l at) (sym (value_passed s e)))
 
 -- Inside a stop
 
 -- what stands to the right of its first subterm: an argument has a place, the body of a case has none
-unfoldable pub beside : List ℕ → Bool → ℕ → Place → Place
+unfoldable pub beside : List ℕ → Bool → ℕ → Option Meeting → Option Meeting
 beside l true second rest = rest
-beside l false second rest = first_of Meet Done second (place (term_at l second)) rest
+beside l false second rest = first_of Some None second (place (term_at l second)) rest
 
 module _ {l : List ℕ} {second : ℕ} where
   argument_stops : {case : Bool} {r : Stop} {inner : ℕ} → StoppedBeside l second case r → r ≡ At inner → (case ≡ false) × StopsAt l second inner
   argument_stops (argument s) e = (refl, stops_at s e)
   argument_stops body e = absurd (clash (cc))
 
-  passed_beside : {case : Bool} {r : Stop} {end : ℕ} → StoppedBeside l second case r → r ≡ Past end → (end ≡ end_at l second) × ((rest : Place) → beside l case second rest ≡ rest)
+  passed_beside : {case : Bool} {r : Stop} {end : ℕ} → StoppedBeside l second case r → r ≡ Past end → (end ≡ end_at l second) × ((rest : Option Meeting) → beside l case second rest ≡ rest)
   unfolding beside
   passed_beside (argument s) e = (passed_end s e, passed_place s e)
   passed_beside body e = (cc, λ rest. refl)
@@ -78,9 +76,9 @@ pub record Inside (l : List ℕ) (node first : ℕ) : Type 0 where
   pub argument_closed : is_case (term_at l node) ≡ false → Closed 0 (term_at l (end_at l first))
   pub same :
       place_of node (place (term_at l node))
-      ≡ first_of Meet Done first (place (term_at l first)) (beside l (is_case (term_at l node)) (end_at l first) (Meet (record { at = node; second = end_at l first; end = end_at l (end_at l first) })))
+      ≡ first_of Some None first (place (term_at l first)) (beside l (is_case (term_at l node)) (end_at l first) (Some (record { at = node; second = end_at l first; end = end_at l (end_at l first) })))
 
-module _ {l : List ℕ} {node : ℕ} (b : Bytes l) (c : Closed 0 (term_at l node)) (s : is_stop (term_at l node) ≡ true) {h : Node} (is : node_at l node ≡ Is h) (o : TwoAt l node h) where
+module _ {l : List ℕ} {node : ℕ} (b : Bytes l) (c : Closed 0 (term_at l node)) (s : is_stop (term_at l node) ≡ true) {h : Node} (is : node_at l node ≡ Some h) (o : TwoAt l node h) where
   -- where it would meet
   here : h.size ≡ 1 →
       meeting_at node (size (term_at l (node + h.size))) (size (term_at l (past_first l node h)))
@@ -110,9 +108,9 @@ module _ {l : List ℕ} {node : ℕ} (b : Bytes l) (c : Closed 0 (term_at l node
         argument_closed = λ n. ca;
         same = rw no
             (ap (λ (x : Exp). place_of node (place x)) p.term
-            ∙ first_applied Meet Done node f a Done (no_exch (sym (ap is_stop p.term) ∙ s))
-            ∙ ap (λ (m : Meeting). first_of Meet Done (node + 1) (place f) (first_of Meet Done (node + 1 + size f) (place a) (Meet m))) (here one)
-            ∙ ap₂ (λ (m n : ℕ). first_of Meet Done m (place f) (first_of Meet Done n (place a) (Meet (record { at = node; second = past_first l node h; end = end_at l (past_first l node h) })))) first next);
+            ∙ first_applied Some None node f a None (no_exch (sym (ap is_stop p.term) ∙ s))
+            ∙ ap (λ (m : Meeting). first_of Some None (node + 1) (place f) (first_of Some None (node + 1 + size f) (place a) (Some m))) (here one)
+            ∙ ap₂ (λ (m n : ℕ). first_of Some None m (place f) (first_of Some None n (place a) (Some (record { at = node; second = past_first l node h; end = end_at l (past_first l node h) })))) first next);
       }
     where
       no_exch : {x : Bool} → not x ≡ true → x ≡ false
@@ -137,9 +135,9 @@ module _ {l : List ℕ} {node : ℕ} (b : Bytes l) (c : Closed 0 (term_at l node
         argument_closed = λ n. absurd (false≢true (sym n ∙ yes));
         same = rw yes
             (ap (λ (x : Exp). place_of node (place x)) p.term
-            ∙ first_case Meet Done node shape v e Done
-            ∙ ap (λ (m : Meeting). first_of Meet Done (node + 1) (place v) (Meet m)) (here one)
-            ∙ ap (λ (n : ℕ). first_of Meet Done n (place v) (Meet (record { at = node; second = past_first l node h; end = end_at l (past_first l node h) }))) first);
+            ∙ first_case Some None node shape v e None
+            ∙ ap (λ (m : Meeting). first_of Some None (node + 1) (place v) (Some m)) (here one)
+            ∙ ap (λ (n : ℕ). first_of Some None n (place v) (Some (record { at = node; second = past_first l node h; end = end_at l (past_first l node h) }))) first);
       }
 
   inside_form : TwoForm h.tag → Inside l node (node + 1)
@@ -166,15 +164,15 @@ pub record Sought (l : List ℕ) (at node : ℕ) : Type 0 where
   pub stop : is_stop (term_at l node) ≡ true
   pub same : place_of at (place (term_at l at)) ≡ place_of node (place (term_at l node))
 
-pub sought_done : {l : List ℕ} {at : ℕ} {r : Stop} {end : ℕ} → Stopped l at r → r ≡ Past end → Done ≡ place_of at (place (term_at l at))
+pub sought_done : {l : List ℕ} {at : ℕ} {r : Stop} {end : ℕ} → Stopped l at r → r ≡ Past end → None ≡ place_of at (place (term_at l at))
 unfolding first_of place_of
-sought_done s e = sym (passed_place s e Done)
+sought_done s e = sym (passed_place s e None)
 
 pub sought_start : {l : List ℕ} {at node : ℕ} {r : Stop} → Searchable l at → Stopped l at r → r ≡ At node → Sought l at node
 unfolding first_of place_of
 sought_start p s e =
     let t = stops_at s e in
-    record { good = t.good; closed = t.closed p.closed; stop = t.stop; same = t.same Done }
+    record { good = t.good; closed = t.closed p.closed; stop = t.stop; same = t.same None }
 
 module _ {l : List ℕ} {at node : ℕ} (b : Bytes l) (p : Sought l at node) where
   pub sought_inside : Inside l node (node + 1)
@@ -198,7 +196,7 @@ module _ {l : List ℕ} {at node : ℕ} (b : Bytes l) (p : Sought l at node) whe
       second_closed n = rw (passed_end s past) (sought_inside.argument_closed n)
 
       -- past the first subterm, a value
-      to_second : place_of at (place (term_at l at)) ≡ beside l (is_case (term_at l node)) second (Meet (record { at = node; second = second; end = end_at l second }))
+      to_second : place_of at (place (term_at l at)) ≡ beside l (is_case (term_at l node)) second (Some (record { at = node; second = second; end = end_at l second }))
       to_second = rw (passed_end s past) (p.same ∙ sought_inside.same ∙ passed_place s past _)
 
       module _ {r' : Stop} (s' : StoppedBeside l second (is_case (term_at l node)) r') where
@@ -213,5 +211,5 @@ module _ {l : List ℕ} {at node : ℕ} (b : Bytes l) (p : Sought l at node) whe
         second_onward e = omega (arith, (argument_stops s' e).1.onward, passed_end s past, end_onward l (node + 1))
 
         -- no stop in either: it is the place itself
-        pub sought_meets : {end : ℕ} → r' ≡ Past end → Meet (record { at = node; second = second; end = end }) ≡ place_of at (place (term_at l at))
+        pub sought_meets : {end : ℕ} → r' ≡ Past end → Some (record { at = node; second = second; end = end }) ≡ place_of at (place (term_at l at))
         sought_meets e = let (ends, past_both) = passed_beside s' e in rw ends (sym (to_second ∙ past_both _))

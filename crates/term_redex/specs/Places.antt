@@ -1,5 +1,5 @@
 -- Document 01, "A step": "Otherwise Fig. 3 gives one place where two values meet". The place of an expression whose bytes begin at `base`.
-use Rattle.std.specs.Prelude.{List, ◌+◌, ℕ}
+use Rattle.std.specs.Prelude.{List, ◌+◌, ℕ, Option, None, Some}
 use Rattle.calculus.specs.Syntax.{Exp}
 use Rattle.calculus.specs.Reduction.{Context}
 use Rattle.calculus.specs.Step.{application, on_place, Redex, subject}
@@ -8,8 +8,6 @@ use Rattle.calculus.specs.Image.{Closed, size}
 use Rattle.term.specs.Reader.{GoodAt}
 use Rattle.term.specs.Expressions.{term_at}
 use Rattle.term_redex.specs.declared.Meeting.{Meeting}
-use Rattle.term_redex.specs.declared.Place.{Place}
-use Rattle.term_redex.specs.declared.Place.TheVariants.{Done, Meet}
 use Rattle.term_redex.specs.Contexts.{hole_at}
 
 -- the two subterms of what stands at the place: function and argument, subject and body
@@ -32,8 +30,8 @@ meeting_of base F d =
 
 -- document 01: a value "answers done", "otherwise .. two values meet". `loose` is the place of no closed expression (calculus, `place_closed`), and
 -- a search asks for a closed one (`Searchable`).
-unfoldable pub place_of : ℕ → step.Place → Place
-place_of base p = on_place p Done Done λ F r d. Meet (meeting_of base F d)
+unfoldable pub place_of : ℕ → step.Place → Option Meeting
+place_of base p = on_place p None None λ F r d. Some (meeting_of base F d)
 
 -- a term at a position whose variables are bound in it: what a search is asked about
 pub record Searchable (l : List ℕ) (at : ℕ) : Type 0 where

@@ -1,15 +1,12 @@
 -- Fig. 3, "evaluated left to right": what a search of a term comes to. Where the term is a value, what stands to its right decides.
-use Rattle.std.specs.Prelude.{◌≡◌, Bool, false, true, List, ◌≤◌, ℕ}
+use Rattle.std.specs.Prelude.{◌≡◌, Bool, false, true, List, ◌≤◌, ℕ, Some, Option, None}
 use Rattle.calculus.specs.Step.{on_place, place}
 use Rattle.calculus.specs.Step as step
 use Rattle.calculus.specs.Image.{Closed, is_settled}
-use Rattle.term.specs.declared.Front.TheVariants.{Is}
 use Rattle.term.specs.declared.Node.{Node}
 use Rattle.term.specs.Reader.{end_at, GoodAt, node_at}
 use Rattle.term.specs.Expressions.{term_at}
 use Rattle.term_redex.specs.declared.Meeting.{Meeting}
-use Rattle.term_redex.specs.declared.Place.{Place}
-use Rattle.term_redex.specs.declared.Place.TheVariants.{Done, Meet}
 use Rattle.term_redex.specs.declared.Stop.{Stop}
 use Rattle.term_redex.specs.declared.Stop.TheVariants.{At, Past}
 use Rattle.term_redex.specs.Shapes.{is_stop}
@@ -23,7 +20,7 @@ first_of meets stuck base p rest = on_place p rest stuck λ F r d. meets (meetin
 pub record TaggedAt (l : List ℕ) (at tag : ℕ) : Type 0 where
   pub good : GoodAt l at
   pub node : Node
-  pub is : node_at l at ≡ Is node
+  pub is : node_at l at ≡ Some node
   pub tagged : node.tag ≡ tag
 
 -- where a search of a term stops: its place is that of the term there, which is no value
@@ -31,7 +28,7 @@ pub record StopsAt (l : List ℕ) (at here : ℕ) : Type 0 where
   pub good : GoodAt l here
   pub onward : at ≤ here
   pub stop : is_stop (term_at l here) ≡ true
-  pub same : (rest : Place) → first_of Meet Done at (place (term_at l at)) rest ≡ place_of here (place (term_at l here))
+  pub same : (rest : Option Meeting) → first_of Some None at (place (term_at l at)) rest ≡ place_of here (place (term_at l here))
   pub no_value : is_settled (place (term_at l at)) ≡ false
   pub closed : Closed 0 (term_at l at) → Closed 0 (term_at l here)
 

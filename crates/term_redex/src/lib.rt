@@ -2,18 +2,16 @@
 // and a case is none, so the place is inside such a node or it is the node itself: the search goes forward, node by node, and never comes back.
 #![tactic(auto)]
 
-ghost use Rattle.std.specs.Prelude.{◌≡◌};
+ghost use Rattle.std.specs.Prelude.{◌≡◌, Some};
 ghost use Rattle.calculus.specs.Step.{place};
 ghost use Rattle.calculus.specs.Image.{is_settled};
-ghost use Rattle.term.specs.declared.Front.TheVariants.{Is};
 ghost use Rattle.term.specs.Reader.{end_at, GoodAt, node_at};
 ghost use Rattle.term.specs.Expressions.{term_at};
 ghost use Rattle.term_redex.specs.Shapes.{is_case, is_stop};
 ghost use Rattle.term_redex.specs.Places.{place_of, Searchable};
 ghost use Rattle.term_redex.specs.Stops.{Stopped, StoppedBeside, TaggedAt};
 
-use term::{Form, Front, Node, is_case};
-use term_scan::Extent;
+use term::{Node, is_case};
 
 // Where values meet: the application or the case, its second subterm, and where it ends.
 #[derive(Clone, Copy)]
@@ -23,14 +21,8 @@ pub struct Meeting {
     pub end: usize,
 }
 
-// A value, or the place where values meet.
-#[derive(Clone, Copy)]
-pub enum Place {
-    Done,
-    Meet(Meeting),
-}
-
 // What a search of a term comes to: a node in it that is no value, or, past a value, where the term ends.
+// No Result: neither of the two is a failure.
 #[derive(Clone, Copy)]
 pub enum Stop {
     At(usize),
@@ -43,19 +35,9 @@ const FIRST: usize = 1;
 // The node at the front of a term.
 fn known_node(s: &[u8], at: usize) -> Node
     requires { GoodAt s.now at }
-    ensures { node_at s.now at ≡ Is result }
+    ensures { node_at s.now at ≡ Some result }
 {
-    let Front::Is(node) = term::node_at(s, at) else {
-        return Node {
-            tag: Node::UNIT,
-            arg: 0,
-            size: 1,
-            subterms: 0,
-            binders: 0,
-            refers: Form::TO_NOTHING,
-        };
-    };
-    node
+    term::node_at(s, at).unwrap()
 }
 
 // Where a term ends.
@@ -63,10 +45,7 @@ pub fn end_of(s: &[u8], at: usize) -> usize
     requires { GoodAt s.now at }
     ensures { result ≡ end_at s.now at }
 {
-    let Extent::Ends(end, _) = term_scan::scan(s, at) else {
-        return at;
-    };
-    end
+    term_scan::scan(s, at).unwrap().end
 }
 
 // Whether a term with this tag is no value whatever its subterms are: an application of anything but exch, a case, a variable.
@@ -132,12 +111,12 @@ fn second_stop(s: &[u8], node: usize, second: usize) -> Stop
 }
 
 // Each stop inside the last one is nearer to the place; where there is none, the last one is it.
-pub fn find_place(s: &[u8], at: usize) -> Place
+pub fn find_place(s: &[u8], at: usize) -> Option<Meeting>
     requires { Searchable s.now at }
     ensures { result ≡ place_of at (place (term_at s.now at)) }
 {
     let Stop::At(outermost) = next_stop(s, at) else {
-        return Place::Done;
+        return None;
     };
     let mut node = outermost;
     loop {
@@ -153,7 +132,7 @@ pub fn find_place(s: &[u8], at: usize) -> Place
                         node = inner;
                     }
                     Stop::Past(end) => {
-                        return Place::Meet(Meeting {
+                        return Some(Meeting {
                             at: node,
                             second,
                             end,

@@ -12,5 +12,7 @@ pub mod Going
 pub mod Scopes
 -- what the loop of `scan_scoped` knows
 mod Scanning
--- the node forms of an edition, and what the loop of `forms_within` knows
+-- walks that ask each node by its tag and operand, and what their loops know
+pub mod Plain
+-- the node forms of an edition, and what the loop of `scan_within` knows
 pub mod Editions

@@ -2,25 +2,25 @@
 use mathlib.Core.Path.{◌≡◌, ap, refl, sym, ◌∙◌}
 use mathlib.Core.Bool.{Bool, ◌&&◌, false, true}
 use mathlib.Core.List.{List, [], ◌∷◌}
-use Prim.Native.Nat.{◌+◌, ◌-◌, ◌<◌, ◌≤◌, max, suc, zero, ℕ}
+use Prim.Native.Nat.{◌+◌, ◌<◌, ◌≤◌, max, suc, zero, ℕ}
 use native.Mathlib.Omega.{arith}
 use borrow.Author.Tests.{le-leb, leb-true, le-ltb, lt-ltb, ltb-true}
 use lib.Dec.{leb, ltb}
-use lib.ListN.{get_or, length}
+use lib.ListN.{length}
 use Rattle.calculus.specs.Limits.{max_nesting}
 use Rattle.calculus.proofs.Theory.Tests.{and_parts, equal_from}
-use Rattle.term.specs.declared.Front.TheVariants.{Bad, Is}
-use Rattle.term.specs.declared.Front.{Front}
+use Rattle.std.proofs.Common.{None, Some, Option}
 use Rattle.term.specs.declared.Node.{Node}
 use Rattle.term.specs.Tree.{HasForm, leaf, one, Tree, two}
 use Rattle.term.specs.Reader.{first_tree, GoodAt, node_at, tree_at}
 use Rattle.term.specs.Expressions.{exp_of, leaf_exp, nesting, term_at, term_of}
 use Rattle.term.proofs.Leaves.{leaf_nesting}
 use Rattle.term.proofs.Shapes.{nesting_two}
-use Rattle.term_walk.specs.Frames.{opened, Passed, stack_of}
-use Rattle.term_walk.proofs.Law.{from, from_node, from_none, Walk}
+use Rattle.term.proofs.Views.{NodeAt}
+use Rattle.term_walk.specs.Frames.{below, opened, top_of}
+use Rattle.term_walk.proofs.Law.{from, from_end, from_node, Walk}
 use Rattle.term_walk.proofs.Asking.{asked, asking}
-use Rattle.term_walk.proofs.Stack.{length_stack, pop}
+use Rattle.term_walk.proofs.Stack.{length_below, length_passed, pop}
 use Rattle.term_scan.proofs.Many.{More, refused_ends, Seen, seen_bad, seen_node, seen_start}
 use Rattle.term_scan.proofs.Answers.{scan_good}
 
@@ -88,69 +88,72 @@ steep_opened limit (suc zero) d ds low h s = (record { waiting = omega arith; wi
 steep_opened limit (suc (suc k)) d ds low h s =
     (record { waiting = omega arith; within = omega arith }, (record { waiting = omega arith; within = omega arith }, s))
 
-pub record Nesting (limit : ℕ) (l : List ℕ) (at here waits : ℕ) (a : List ℕ) : Type 0 where
+pub record Nesting (limit : ℕ) (l : List ℕ) (at here : ℕ) (ds : List ℕ) : Type 0 where
   pub good : GoodAt l at
   pub read : ℕ
-  pub seen : Seen l at here read waits
-  pub steep : Steep limit (stack_of waits a)
+  pub seen : Seen l at here read (length ds)
+  pub steep : Steep limit ds
   pub limited : limit ≤ max_nesting
-  pub room : length a ≡ max_nesting + 1
-  pub same : leb (nesting (term_at l at)) limit ≡ from (levels limit) (stack_of waits a) l here
+  pub same : leb (nesting (term_at l at)) limit ≡ from (levels limit) ds l here
 
-pub nesting_start : (limit : ℕ) (l : List ℕ) (at : ℕ) (a : List ℕ) → GoodAt l at → limit ≤ max_nesting → length a ≡ max_nesting + 1 → get_or a 0 0 ≡ 0 → Nesting limit l at at 1 a
-unfolding stack_of
-nesting_start limit l at a g limited room z =
-    record {
+pub nesting_start : (limit : ℕ) (l : List ℕ) (at : ℕ) {ds : List ℕ} → GoodAt l at → limit ≤ max_nesting → ds ≡ 0 ∷ [] → Nesting limit l at at ds
+nesting_start limit l at g limited e =
+    rw e
+    (record {
       good = g;
       read = 0;
       seen = seen_start l at g.inside;
       steep = (record { waiting = omega arith; within = omega arith }, tt);
       limited = limited;
-      room = room;
-      same = sym (nesting_of limit g) ∙ ap (λ x. from (levels limit) (x ∷ []) l at) (sym z);
-    }
+      same = sym (nesting_of limit g);
+    })
 
-module _ {limit : ℕ} {l : List ℕ} {at here waits : ℕ} {a : List ℕ} (w : Nesting limit l at here waits a) where
-  pub nesting_done : waits ≡ 0 → true ≡ leb (nesting (term_at l at)) limit
-  unfolding stack_of
-  nesting_done e = sym (w.same ∙ ap (λ x. from (levels limit) (stack_of x a) l here) e ∙ from_none (levels limit) l here)
+-- what the next node gives
+pub record Met (l : List ℕ) (here : ℕ) (ds : List ℕ) (h : Node) : Type 0 where
+  pub some : 0 < length ds
+  pub is : node_at l here ≡ Some h
+  pub node : NodeAt l here h
+  pub room : length ds ≤ max_nesting
 
-  module _ (some : 0 < waits) where
+module _ {limit : ℕ} {l : List ℕ} {at here : ℕ} {ds : List ℕ} (w : Nesting limit l at here ds) where
+  pub nesting_done : length ds ≡ 0 → true ≡ leb (nesting (term_at l at)) limit
+  nesting_done e = sym (w.same ∙ from_end (levels limit) ds l here e)
+
+  module _ (some : 0 < length ds) where
     abbrev d : ℕ
-    d = get_or a (waits - 1) 0
+    d = top_of ds
 
-    split : Steep limit (d ∷ stack_of (waits - 1) a)
-    split = rw (pop waits a some) at w.steep
-
-    -- so there is room
-    pub nesting_few : waits ≤ d + 1
-    nesting_few = omega (arith, split.0.waiting, length_stack (waits - 1) a)
+    split : Steep limit (d ∷ below ds)
+    split = rw (pop ds some) at w.steep
 
     pub nesting_top : d ≤ limit
     nesting_top = split.0.within
 
-    pub nesting_not_bad : node_at l here ≡ Bad → ⊥
+    pub nesting_not_bad : node_at l here ≡ None → ⊥
     nesting_not_bad is = refused_ends (seen_bad w.seen some is ∙ scan_good w.good)
 
-    module _ {h : Node} (is : node_at l here ≡ Is h) where
-      pub nesting_node : More l at here w.read waits h
-      nesting_node = seen_node w.seen some is
+    module _ {h : Node} (is : node_at l here ≡ Some h) where
+      more : More l at here w.read (length ds) h
+      more = seen_node w.seen some is
+
+      -- where it is not too deep there is room
+      pub nesting_met : d < limit → Met l here ds h
+      nesting_met low =
+          record { some = some; is = is; node = more.node; room = omega (arith, split.0.waiting, length_below ds, low, w.limited) }
 
       -- the law
-      turn : leb (nesting (term_at l at)) limit
-          ≡ (ltb d limit && from (levels limit) (opened h.subterms (d + 1) (d + 1) (stack_of (waits - 1) a)) l (here + h.size))
-      turn = w.same ∙ ap (λ x. from (levels limit) x l here) (pop waits a some) ∙ from_node (levels limit) d (stack_of (waits - 1) a) l here is
+      turn : leb (nesting (term_at l at)) limit ≡ (ltb d limit && from (levels limit) (opened h.subterms (d + 1) (d + 1) (below ds)) l (here + h.size))
+      turn = w.same ∙ ap (λ x. from (levels limit) x l here) (pop ds some) ∙ from_node (levels limit) d (below ds) l here is
 
-      pub nesting_on : d < limit → {b : List ℕ} {next : ℕ} → Passed a waits h.subterms (d + 1) (d + 1) b next → Nesting limit l at (here + h.size) next b
-      nesting_on low {b} {next} p =
+      pub nesting_on : d < limit → {new : List ℕ} → new ≡ opened h.subterms (d + 1) (d + 1) (below ds) → Nesting limit l at (here + h.size) new
+      nesting_on low {new} p =
           record {
             good = w.good;
             read = w.read + 1;
-            seen = rw p.left nesting_node.seen;
-            steep = rw p.frames (steep_opened limit h.subterms d (stack_of (waits - 1) a) low split.0.waiting split.1);
+            seen = rw (length_passed h.subterms (d + 1) (d + 1) ds more.node.few p) more.seen;
+            steep = rw p (steep_opened limit h.subterms d (below ds) low split.0.waiting split.1);
             limited = w.limited;
-            room = p.room ∙ w.room;
-            same = rw (lt-ltb d limit low) at turn ∙ ap (λ x. from (levels limit) x l (here + h.size)) (sym p.frames);
+            same = rw (lt-ltb d limit low) at turn ∙ ap (λ x. from (levels limit) x l (here + h.size)) (sym p);
           }
 
     -- too deep: whatever the node is, and there is one
@@ -158,6 +161,6 @@ module _ {limit : ℕ} {l : List ℕ} {at here waits : ℕ} {a : List ℕ} (w : 
     unfolding from
     nesting_deep high = by (node_at l here) refl
       where
-        by : (x : Front) → node_at l here ≡ x → false ≡ leb (nesting (term_at l at)) limit
-        by Bad e = absurd (nesting_not_bad e)
-        by (Is h) e = sym (rw (le-ltb d limit high) at (turn e))
+        by : (x : Option Node) → node_at l here ≡ x → false ≡ leb (nesting (term_at l at)) limit
+        by None e = absurd (nesting_not_bad e)
+        by (Some h) e = sym (rw (le-ltb d limit high) at (turn e))

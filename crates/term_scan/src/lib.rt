@@ -10,54 +10,56 @@ ghost use Rattle.calculus.specs.Verdict.{scoped};
 ghost use Rattle.term.specs.Forms.{to_name};
 ghost use Rattle.term.specs.Reader.{GoodAt};
 ghost use Rattle.term.specs.Expressions.{nesting, term_at};
-ghost use Rattle.term_walk.specs.Frames.{max_waits};
-ghost use Rattle.term_scan.specs.Extents.{extent_at, in_scope, part_of, small};
+ghost use Rattle.term_scan.specs.Extents.{edition_extent, extent_at, in_scope, part_of, small};
 ghost use Rattle.term_scan.specs.Scopes.{bound_of, operand_scoped};
 
-use numbers::{Image, Recipe};
-use term::{Front, Node};
-use term_walk::{Frames, pass};
+use numbers::Image;
+use term::Node;
+use term_walk::{Frames, MAX_NESTED, MAX_WAITS};
 
-// Where a term ends and how many nodes it has, or that there is none.
+// Where a term ends, and how many nodes it has.
 #[derive(Clone, Copy)]
-pub enum Extent {
-    Ends(usize, usize),
-    Refused,
+pub struct Extent {
+    pub end: usize,
+    pub nodes: usize,
 }
 
-// The number of nodes of bytes that are exactly one term.
-#[derive(Clone, Copy)]
-pub enum Part {
-    Nodes(usize),
-    NoTerm,
-}
-
-// One answer for what is no term and for what has too many nodes, so that the scan stops at the budget.
-pub fn scan_small(s: &[u8], at: usize, budget: usize) -> Extent
+// One answer for what is no term, for what has too many nodes and for what has a form that an edition with so many lacks, so that the scan stops there.
+fn scan_within(s: &[u8], at: usize, budget: usize, forms: u8) -> Option<Extent>
     requires { at ≤ length s.now }
-    ensures { result ≡ small budget (extent_at s.now at) }
+    ensures { result ≡ small budget (edition_extent forms s.now at) }
 {
     let mut here = at;
     let mut nodes: usize = 0;
-    let mut pending: usize = 1;
-    while 0 < pending {
+    let mut waits: usize = 1;
+    while 0 < waits {
         if budget <= nodes {
-            return Extent::Refused;
+            return None;
         }
-        let Front::Is(node) = term::node_at(s, here) else {
-            return Extent::Refused;
-        };
+        let node = term::node_at(s, here)?;
+        let tag = node.tag;
         let size = node.size;
         let subterms = node.subterms;
+        if forms <= tag {
+            return None;
+        }
         here += size;
         nodes += 1;
-        pending = pending - 1 + (subterms as usize);
+        waits = waits - 1 + (subterms as usize);
     }
-    Extent::Ends(here, nodes)
+    Some(Extent { end: here, nodes })
+}
+
+// The same with all forms.
+pub fn scan_small(s: &[u8], at: usize, budget: usize) -> Option<Extent>
+    requires { at ≤ length s.now }
+    ensures { result ≡ small budget (extent_at s.now at) }
+{
+    scan_within(s, at, budget, Node::TAGS)
 }
 
 // No term has more nodes than bytes, so the budget is all of them.
-pub fn scan(s: &[u8], at: usize) -> Extent
+pub fn scan(s: &[u8], at: usize) -> Option<Extent>
     requires { at ≤ length s.now }
     ensures { result ≡ extent_at s.now at }
 {
@@ -65,51 +67,32 @@ pub fn scan(s: &[u8], at: usize) -> Extent
 }
 
 // Document 01, cause 5: whether a part is exactly one term, in an edition with so many node forms.
-pub fn scan_part(s: &[u8], forms: u8) -> Part
+pub fn scan_part(s: &[u8], forms: u8) -> Option<usize>
     ensures { result ≡ part_of forms s.now }
 {
-    let mut here: usize = 0;
-    let mut nodes: usize = 0;
-    let mut waits: usize = 1;
-    while 0 < waits {
-        let Front::Is(node) = term::node_at(s, here) else {
-            return Part::NoTerm;
-        };
-        let tag = node.tag;
-        let size = node.size;
-        let subterms = node.subterms;
-        if forms <= tag {
-            return Part::NoTerm;
-        }
-        here += size;
-        nodes += 1;
-        waits = waits - 1 + (subterms as usize);
+    let found = scan_within(s, 0, s.len(), forms)?;
+    if found.end != s.len() {
+        return None;
     }
-    if here != s.len() {
-        return Part::NoTerm;
-    }
-    Part::Nodes(nodes)
+    Some(found.nodes)
 }
 
-// Document 01, cause 6: whether a term nests within a limit. `frames` has the number of nodes above each term still to come.
+// Document 01, cause 6: whether a term nests within a limit. A frame is the number of nodes above a term still to come.
 pub fn nesting_within(s: &[u8], at: usize, limit: usize) -> bool
     requires { GoodAt s.now at × (limit ≤ max_nesting) }
     ensures { result ≡ leb (nesting (term_at s.now at)) limit }
 {
-    let mut frames = [0u16; Recipe::MAX_NESTING + 1];
-    let mut waits: usize = 1;
+    let mut frames = Frames::<MAX_NESTED>::new();
     let mut here = at;
-    while 0 < waits {
-        let above = frames[waits - 1];
+    while 0 < frames.waits() {
+        let above = frames.top();
         if limit <= (above as usize) {
             return false;
         }
-        let Front::Is(node) = term::node_at(s, here) else {
-            return false;
-        };
+        let node = term::node_at(s, here).unwrap();
         let size = node.size;
         let subterms = node.subterms;
-        waits = pass(&mut frames, waits, subterms, above + 1, above + 1);
+        frames.pass(subterms, above + 1, above + 1);
         here += size;
     }
     true
@@ -133,43 +116,40 @@ pub fn is_there(refers: u8, arg: usize, types: usize, names: usize, around: usiz
 }
 
 // Where a term ends that has at most `limit` nodes and names only what is there: each index has its variable, each name is below `names` and each type
-// number below `types`. `frames` has the number of variables around each term still to come; it is lent, and what it holds before does not matter.
+// number below `types`. A frame is the number of variables around a term still to come; the frames are lent, and what they hold before does not matter.
 pub fn scan_scoped(
     s: &[u8],
     at: usize,
     limit: usize,
     types: usize,
     names: usize,
-    frames: &mut [u16],
-) -> Extent
-    requires { (at ≤ length s.now) × ((limit ≤ max_nodes) × (length frames.old ≡ max_waits)) }
+    frames: &mut Frames<MAX_WAITS>,
+) -> Option<Extent>
+    requires { (at ≤ length s.now) × (limit ≤ max_nodes) }
     ensures { result ≡ in_scope (scoped types names 0 (term_at s.now at)) (small limit (extent_at s.now at)) }
 {
-    frames[0] = 0;
-    let mut waits: usize = 1;
+    frames.restart();
     let mut here = at;
     let mut nodes: usize = 0;
-    while 0 < waits {
-        if limit < nodes + waits {
-            return Extent::Refused;
+    while 0 < frames.waits() {
+        if limit < nodes + frames.waits() {
+            return None;
         }
-        let Front::Is(node) = term::node_at(s, here) else {
-            return Extent::Refused;
-        };
-        let around = frames[waits - 1];
+        let node = term::node_at(s, here)?;
+        let around = frames.top();
         let refers = node.refers;
         let arg = node.arg;
         let size = node.size;
         let subterms = node.subterms;
         let binders = node.binders;
         if !is_there(refers, arg, types, names, around as usize) {
-            return Extent::Refused;
+            return None;
         }
-        waits = pass(frames, waits, subterms, around, around + (binders as u16));
+        frames.pass(subterms, around, around + (binders as u16));
         here += size;
         nodes += 1;
     }
-    Extent::Ends(here, nodes)
+    Some(Extent { end: here, nodes })
 }
 
 // Document 01, cause 7: whether a term names only what is there.
@@ -177,9 +157,6 @@ pub fn scoped_within(s: &[u8], at: usize, types: usize, names: usize) -> bool
     requires { GoodAt s.now at × (nodes (term_at s.now at) ≤ max_nodes) }
     ensures { result ≡ scoped types names 0 (term_at s.now at) }
 {
-    let mut frames = [0u16; Frames::MAX_WAITS];
-    let Extent::Ends(_, _) = scan_scoped(s, at, Image::MAX_NODES, types, names, &mut frames) else {
-        return false;
-    };
-    true
+    let mut frames = Frames::<MAX_WAITS>::new();
+    scan_scoped(s, at, Image::MAX_NODES, types, names, &mut frames).is_some()
 }

@@ -6,7 +6,7 @@ use native.Mathlib.Omega.{arith}
 use lib.ListN.{drop, length, length-drop, take}
 use lib.Seq.{length-take-le, take-append_seam}
 use Rattle.calculus.specs.Bytes.{Bytes}
-use Rattle.term.specs.declared.Front.TheVariants.{Is}
+use Rattle.std.proofs.Common.{Some}
 use Rattle.term.specs.declared.Node.{Node}
 use Rattle.term.specs.Reader.{end_at, GoodAt, node_at}
 use Rattle.term.specs.Tree.{node_bytes}
@@ -37,7 +37,7 @@ module _ (s : List ℕ) (b : Bytes s) where
       front s (bytes (term_at s from)) _ from to t.stands (omega (arith, ends, e, length_bytes (term_at s from)))
 
   -- a node without its subterms
-  pub copied_node : (here : ℕ) {h : Node} → node_at s here ≡ Is h → part s here (here + h.size) ≡ node_bytes h.tag h.arg
+  pub copied_node : (here : ℕ) {h : Node} → node_at s here ≡ Some h → part s here (here + h.size) ≡ node_bytes h.tag h.arg
   unfolding node_at
   copied_node here {h} is =
       let f = head_is (drop here s) h is in

@@ -2,14 +2,14 @@
 use mathlib.Core.Path.{◌≡◌, ap, ap₂, refl, sym, ◌∙◌}
 use mathlib.Core.Bool.{Bool, cond, false, true}
 use mathlib.Core.List.{List, [], ◌∷◌}
-use Prim.Native.Nat.{◌+◌, ◌-◌, ◌<◌, ◌≤◌, ℕ}
+use Prim.Native.Nat.{◌+◌, ◌<◌, ◌≤◌, ℕ}
 use native.Mathlib.Omega.{arith}
-use lib.ListN.{get_or, length}
+use lib.ListN.{length}
 use Rattle.calculus.specs.Limits.{max_nodes}
 use Rattle.calculus.specs.Syntax.{Exp}
 use Rattle.calculus.specs.Names.{uses}
 use Rattle.calculus.specs.Image.{nodes}
-use Rattle.term.specs.declared.Front.TheVariants.{Is}
+use Rattle.std.proofs.Common.{Some}
 use Rattle.term.specs.declared.Node.{Node}
 use Rattle.term.specs.Forms.{binders_of, refers_of}
 use Rattle.term.specs.Tree.{leaf, one, Shaped, Tree, two}
@@ -17,12 +17,12 @@ use Rattle.term.specs.Reader.{first_tree, GoodAt, node_at, tree_at}
 use Rattle.term.specs.Expressions.{exp_of, term_at, term_of}
 use Rattle.term.proofs.Views.{shaped_at}
 use Rattle.term.proofs.Shapes.{uses_one, uses_two}
-use Rattle.term_walk.specs.Frames.{max_waits, opened, Passed, stack_of}
-use Rattle.term_walk.proofs.Law.{fold, from, from_good, from_node, from_none, Walk}
+use Rattle.term_walk.specs.Frames.{below, opened, top_of}
+use Rattle.term_walk.proofs.Law.{fold, from, from_end, from_good, from_node, Walk}
 use Rattle.term_walk.proofs.Stack.{pop}
 use Rattle.term_scan.proofs.Many.{seen_end}
 use Rattle.term_scan.proofs.Answers.{scanned_nodes}
-use Rattle.term_scan.proofs.Going.{Going, going_few, going_node, going_on, going_start}
+use Rattle.term_scan.proofs.Going.{Going, going_few, going_met, going_node, going_on, going_start, Met}
 use Rattle.term_subst.specs.Counted.{UsesOf}
 use Rattle.term_subst.specs.Variable.{is_variable}
 use Rattle.term_subst.proofs.Nodes.{none_one, none_two, uses_leaf}
@@ -81,68 +81,60 @@ whole {l} {at} g =
     ∙ ap₂ (λ a b. (a, b)) (omega arith) (omega arith)
 
 -- n nodes read, a, b uses counted
-pub record Counting (l : List ℕ) (at here waits : ℕ) (frames : List ℕ) (n a b : ℕ) : Type 0 where
+pub record Counting (l : List ℕ) (at here : ℕ) (ds : List ℕ) (n a b : ℕ) : Type 0 where
   pub good : GoodAt l at
   pub small : nodes (term_at l at) ≤ max_nodes
-  pub going : Going l at here n waits frames
+  pub going : Going l at here n ds
   pub few : (a ≤ n) × (b ≤ n)
-  pub same : uses_of (term_at l at) ≡ from counting (stack_of waits frames) l here a b
+  pub same : uses_of (term_at l at) ≡ from counting ds l here a b
 
-pub counting_start : (l : List ℕ) (at : ℕ) (frames : List ℕ) → GoodAt l at → nodes (term_at l at) ≤ max_nodes → length frames ≡ max_waits → get_or frames 0 0 ≡ 0 →
-    Counting l at at 1 frames 0 0 0
-unfolding stack_of
-counting_start l at frames g small room z =
-    record {
-      good = g;
-      small = small;
-      going = going_start l at frames g.inside room z;
-      few = (omega arith, omega arith);
-      same = sym (whole g) ∙ ap (λ x. from counting (x ∷ []) l at 0 0) (sym z);
-    }
+pub counting_start : (l : List ℕ) (at : ℕ) {ds : List ℕ} → GoodAt l at → nodes (term_at l at) ≤ max_nodes → ds ≡ 0 ∷ [] → Counting l at at ds 0 0 0
+counting_start l at g small e =
+    rw e (record { good = g; small = small; going = going_start l at g.inside; few = (omega arith, omega arith); same = sym (whole g) })
 
 at_most_one : (x : Bool) → cond x 1 0 ≤ 1
 at_most_one true = omega arith
 at_most_one false = omega arith
 
-module _ {l : List ℕ} {at here waits : ℕ} {frames : List ℕ} {n a b : ℕ} (c : Counting l at here waits frames n a b) where
-  found : waits ≡ 0 → (a, b) ≡ uses_of (term_at l at)
-  unfolding stack_of
-  found e = sym (c.same ∙ ap (λ x. from counting (stack_of x frames) l here a b) e ∙ ap (λ x. x a b) (from_none counting l here))
+module _ {l : List ℕ} {at here : ℕ} {ds : List ℕ} {n a b : ℕ} (c : Counting l at here ds n a b) where
+  found : length ds ≡ 0 → (a, b) ≡ uses_of (term_at l at)
+  found e = sym (c.same ∙ ap (λ x. x a b) (from_end counting ds l here e))
 
-  pub counting_done : waits ≡ 0 → UsesOf (term_at l at) (record { nodes = n; inner = a; outer = b })
+  pub counting_done : length ds ≡ 0 → UsesOf (term_at l at) (record { nodes = n; inner = a; outer = b })
   counting_done e =
       record { nodes = scanned_nodes c.good (seen_end c.going.seen e); inner = ap (λ u. u.0) (found e); outer = ap (λ u. u.1) (found e) }
 
   -- the nodes read and the terms to come
-  pub counting_few : n + waits ≤ max_nodes
+  counting_few : n + length ds ≤ max_nodes
   counting_few = omega (arith, going_few c.going c.good, c.small)
 
-  module _ (some : 0 < waits) where
+  module _ (some : 0 < length ds) where
     -- the numbers stay small
     pub counting_room : (n < max_nodes) × ((a < max_nodes) × (b < max_nodes))
     counting_room = (omega (arith, counting_few, some), (omega (arith, counting_few, some, c.few.0), omega (arith, counting_few, some, c.few.1)))
 
     abbrev d : ℕ
-    d = get_or frames (waits - 1) 0
+    d = top_of ds
 
-    module _ {h : Node} (is : node_at l here ≡ Is h) where
+    module _ {h : Node} (is : node_at l here ≡ Some h) where
+      pub counting_met : Met l here ds h
+      counting_met = going_met c.going some is counting_few
+
       -- the law
       turn : uses_of (term_at l at)
-          ≡ from counting (opened h.subterms d (d + h.binders) (stack_of (waits - 1) frames)) l (here + h.size)
-          (a + use_at h.refers h.arg d) (b + use_at h.refers h.arg (d + 1))
+          ≡ from counting (opened h.subterms d (d + h.binders) (below ds)) l (here + h.size) (a + use_at h.refers h.arg d) (b + use_at h.refers h.arg (d + 1))
       turn =
           let f = going_node c.going some is in
           c.same
-          ∙ ap (λ x. from counting x l here a b) (pop waits frames some)
-          ∙ ap (λ x. x a b) (from_node counting d (stack_of (waits - 1) frames) l here is)
+          ∙ ap (λ x. from counting x l here a b) (pop ds some)
+          ∙ ap (λ x. x a b) (from_node counting d (below ds) l here is)
           ∙ ap₂
-          (λ x y. from counting (opened h.subterms d (d + x) (stack_of (waits - 1) frames)) l (here + h.size)
-          (a + use_at y h.arg d) (b + use_at y h.arg (d + 1)))
+          (λ x y. from counting (opened h.subterms d (d + x) (below ds)) l (here + h.size) (a + use_at y h.arg d) (b + use_at y h.arg (d + 1)))
           f.binds f.refers
 
-      pub counting_on : {new : List ℕ} {next : ℕ} → Passed frames waits h.subterms d (d + h.binders) new next →
-          Counting l at (here + h.size) next new (n + 1) (a + use_at h.refers h.arg d) (b + use_at h.refers h.arg (d + 1))
-      counting_on {new} {next} p =
+      pub counting_on : {new : List ℕ} → new ≡ opened h.subterms d (d + h.binders) (below ds) →
+          Counting l at (here + h.size) new (n + 1) (a + use_at h.refers h.arg d) (b + use_at h.refers h.arg (d + 1))
+      counting_on {new} p =
           record {
             good = c.good;
             small = c.small;
@@ -150,5 +142,5 @@ module _ {l : List ℕ} {at here waits : ℕ} {frames : List ℕ} {n a b : ℕ} 
             few = (omega (arith, c.few.0, at_most_one (is_variable h.refers h.arg d)), omega (arith, c.few.1, at_most_one (is_variable h.refers h.arg (d + 1))));
             same =
                 turn
-                ∙ ap (λ x. from counting x l (here + h.size) (a + use_at h.refers h.arg d) (b + use_at h.refers h.arg (d + 1))) (sym p.frames);
+                ∙ ap (λ x. from counting x l (here + h.size) (a + use_at h.refers h.arg d) (b + use_at h.refers h.arg (d + 1))) (sym p);
           }

@@ -6,13 +6,13 @@ use mathlib.Core.List.{List, [], ◌++◌, ◌∷◌, append_assoc}
 use Prim.Native.Nat.{◌+◌, ◌-◌, ◌<◌, ◌≤◌, ℕ}
 use native.Mathlib.Omega.{arith}
 use lib.Dec.{eqb}
-use lib.ListN.{drop, get_or, length, length-append}
+use lib.ListN.{drop, length, length-append}
 use Rattle.calculus.specs.Bytes.{Bytes}
 use Rattle.calculus.specs.Limits.{max_nodes}
 use Rattle.calculus.specs.Syntax.{Exp, lam, var}
 use Rattle.calculus.specs.Image.{nodes}
 use Rattle.calculus.proofs.Theory.Tests.{clash}
-use Rattle.term.specs.declared.Front.TheVariants.{Is}
+use Rattle.std.proofs.Common.{Some}
 use Rattle.term.specs.declared.Node.{Node}
 use Rattle.term.specs.Forms.{application_tag, binders_of, case_list_tag, case_pair_tag, cell_tag, exch_tag, form_of, forms, handle_tag, lambda_tag, list_tag, name_tag, num_tag, pair_tag, refers_of, thread_tag, unit_tag}
 use Rattle.term.specs.Numbers.{little_endian}
@@ -23,12 +23,12 @@ use Rattle.term.proofs.Shapes.{at_0, at_1, at_2, leaf_tag, one_tag, two_tag}
 use Rattle.term.proofs.Trees.{exp_bytes}
 use Rattle.term.proofs.Views.{end_inside, end_onward, NodeAt}
 use Rattle.term.proofs.Expressions.{well_formed_at}
-use Rattle.term_walk.specs.Frames.{max_waits, opened, Passed, stack_of}
-use Rattle.term_walk.proofs.Law.{ahead, fold, from, from_good, from_node, from_none, onward, Walk}
+use Rattle.term_walk.specs.Frames.{below, opened, top_of}
+use Rattle.term_walk.proofs.Law.{ahead, fold, from, from_end, from_good, from_node, onward, Walk}
 use Rattle.term_walk.proofs.Stack.{pop}
 use Rattle.buffer.specs.Written.{Wrote}
 use Rattle.buffer.proofs.Theory.Writes.{known_as, same, still, then}
-use Rattle.term_scan.proofs.Going.{Going, going_few, going_node, going_on, going_start}
+use Rattle.term_scan.proofs.Going.{Going, going_few, going_met, going_node, going_on, going_start, Met}
 use Rattle.term_subst.specs.declared.Span.{Span}
 use Rattle.term_subst.specs.Variable.{is_variable}
 use Rattle.term_subst.specs.Replaced.{replaced}
@@ -175,7 +175,7 @@ copied_value {l} {v} b g =
     }
 
 -- the part that is written for a node is the piece
-pub copied : {l : List ℕ} {here : ℕ} {h : Node} {p : Span} (inner outer : Span) (d : ℕ) → Bytes l → ValueAt l inner → ValueAt l outer → node_at l here ≡ Is h → NodeAt l here h →
+copied : {l : List ℕ} {here : ℕ} {h : Node} {p : Span} (inner outer : Span) (d : ℕ) → Bytes l → ValueAt l inner → ValueAt l outer → node_at l here ≡ Some h → NodeAt l here h →
     p ≡ cond (is_variable h.refers h.arg d) inner (cond (is_variable h.refers h.arg (d + 1)) outer (record { from = here; to = here + h.size })) → Copied l p (piece (value l inner) (value l outer) h.refers d h.tag h.arg)
 copied {l} {here} {h} inner outer d b p q is n e = rw e (by (is_variable h.refers h.arg d) (is_variable h.refers h.arg (d + 1)))
   where
@@ -185,71 +185,78 @@ copied {l} {here} {h} inner outer d b p q is n e = rw e (by (is_variable h.refer
     by false true = copied_value b q
     by false false = record { forward = omega (arith, n.onward); inside = n.inside; stands = copied_node l b here is }
 
--- began at `at` in a buffer `old` at pos, now here, `waits` terms to come, what is written in hand
-pub record Putting (l : List ℕ) (at : ℕ) (inner outer : Span) (old : List ℕ) (pos here waits : ℕ) (frames out : List ℕ) (next : ℕ) : Type 0 where
+-- began at `at` in a buffer `old` at pos, now here, what is written in hand
+pub record Putting (l : List ℕ) (at : ℕ) (inner outer : Span) (old : List ℕ) (pos here : ℕ) (ds out : List ℕ) (next : ℕ) : Type 0 where
+  pub all_bytes : Bytes l
   pub good : GoodAt l at
   pub small : nodes (term_at l at) ≤ max_nodes
   pub one : ValueAt l inner
   pub other : ValueAt l outer
   pub read : ℕ
-  pub going : Going l at here read waits frames
+  pub going : Going l at here read ds
   pub before : List ℕ
   pub wrote : Wrote old pos before out next
-  pub same : from (writing (value l inner) (value l outer)) (stack_of waits frames) l here before ≡ some (replaced 0 (value l inner) (value l outer) (term_at l at))
+  pub same : from (writing (value l inner) (value l outer)) ds l here before ≡ some (replaced 0 (value l inner) (value l outer) (term_at l at))
   pub room : pos + length (replaced 0 (value l inner) (value l outer) (term_at l at)) ≤ length old
 
-pub putting_start : (l : List ℕ) (at : ℕ) (inner outer : Span) (old : List ℕ) (pos : ℕ) (frames : List ℕ) → Bytes l → GoodAt l at → nodes (term_at l at) ≤ max_nodes →
+pub putting_start : (l : List ℕ) (at : ℕ) (inner outer : Span) (old : List ℕ) (pos : ℕ) {ds : List ℕ} → Bytes l → GoodAt l at → nodes (term_at l at) ≤ max_nodes →
     ValueAt l inner → ValueAt l outer → pos + length (replaced 0 (value l inner) (value l outer) (term_at l at)) ≤ length old →
-    length frames ≡ max_waits → get_or frames 0 0 ≡ 0 → Putting l at inner outer old pos at 1 frames old pos
-unfolding stack_of
-putting_start l at inner outer old pos frames b g small p q room enough z =
-    record {
+    ds ≡ 0 ∷ [] → Putting l at inner outer old pos at ds old pos
+putting_start l at inner outer old pos b g small p q room e =
+    rw e
+    (record {
+      all_bytes = b;
       good = g;
       small = small;
       one = p;
       other = q;
       read = 0;
-      going = going_start l at frames g.inside enough z;
+      going = going_start l at g.inside;
       before = [];
       wrote = still;
-      same = ap (λ x. from (writing (value l inner) (value l outer)) (x ∷ []) l at []) z ∙ whole (value l inner) (value l outer) b g;
+      same = whole (value l inner) (value l outer) b g;
       room = room;
-    }
+    })
 
-module _ {l : List ℕ} {at : ℕ} {inner outer : Span} {old : List ℕ} {pos here waits : ℕ} {frames out : List ℕ} {next : ℕ}
-    (c : Putting l at inner outer old pos here waits frames out next) where
+module _ {l : List ℕ} {at : ℕ} {inner outer : Span} {old : List ℕ} {pos here : ℕ} {ds out : List ℕ} {next : ℕ}
+    (c : Putting l at inner outer old pos here ds out next) where
   abbrev asked : List ℕ
   asked = replaced 0 (value l inner) (value l outer) (term_at l at)
 
   abbrev W : Walk (List ℕ → Option (List ℕ))
   W = writing (value l inner) (value l outer)
 
-  pub putting_done : waits ≡ 0 → Wrote old pos asked out next
-  unfolding stack_of
+  pub putting_done : length ds ≡ 0 → Wrote old pos asked out next
   putting_done e =
-      let p : some c.before ≡ some asked =
-      sym (ap (λ x. from W (stack_of x frames) l here c.before) e ∙ ap (λ f. f c.before) (from_none W l here)) ∙ c.same in
+      let p : some c.before ≡ some asked = sym (ap (λ f. f c.before) (from_end W ds l here e)) ∙ c.same in
       known_as c.wrote (cc)
 
-  pub putting_few : c.read + waits ≤ max_nodes
+  putting_few : c.read + length ds ≤ max_nodes
   putting_few = omega (arith, going_few c.going c.good, c.small)
 
-  module _ (more : 0 < waits) {h : Node} (is : node_at l here ≡ Is h) where
+  module _ (more : 0 < length ds) {h : Node} (is : node_at l here ≡ Some h) where
+    pub putting_met : Met l here ds h
+    putting_met = going_met c.going more is putting_few
+
     abbrev d : ℕ
-    d = get_or frames (waits - 1) 0
+    d = top_of ds
 
     abbrev new : List ℕ
     new = piece (value l inner) (value l outer) h.refers d h.tag h.arg
 
+    -- what is written for it
+    pub putting_copied : {p : Span} → p ≡ cond (is_variable h.refers h.arg d) inner (cond (is_variable h.refers h.arg (d + 1)) outer (record { from = here; to = here + h.size })) → Copied l p new
+    putting_copied e = copied inner outer d c.all_bytes c.one c.other is (going_node c.going more is) e
+
     -- the law
-    turn : from W (opened h.subterms d (d + h.binders) (stack_of (waits - 1) frames)) l (here + h.size) (c.before ++ new) ≡ some asked
+    turn : from W (opened h.subterms d (d + h.binders) (below ds)) l (here + h.size) (c.before ++ new) ≡ some asked
     turn =
         let n = going_node c.going more is in
         sym
-        (ap (λ ds. from W ds l here c.before) (pop waits frames more)
-        ∙ ap (λ f. f c.before) (from_node W d (stack_of (waits - 1) frames) l here is)
+        (ap (λ x. from W x l here c.before) (pop ds more)
+        ∙ ap (λ f. f c.before) (from_node W d (below ds) l here is)
         ∙ ap₂
-        (λ k r. from W (opened h.subterms d (d + k) (stack_of (waits - 1) frames)) l (here + h.size)
+        (λ k r. from W (opened h.subterms d (d + k) (below ds)) l (here + h.size)
         (c.before ++ piece (value l inner) (value l outer) r d h.tag h.arg))
         n.binds n.refers)
         ∙ c.same
@@ -262,10 +269,11 @@ module _ {l : List ℕ} {at : ℕ} {inner outer : Span} {old : List ℕ} {pos he
           let m : length new ≡ p.to - p.from = ap length (sym k.stands) ∙ length_part l p.from p.to k.inside in
           (k.forward, (k.inside, omega (arith, z, m, length-append c.before new, c.room, c.wrote.ends, same c.wrote)))
 
-      pub putting_on : {out' : List ℕ} {next' : ℕ} → Wrote out next (part l p.from p.to) out' next' → {frames' : List ℕ} {waits' : ℕ} →
-          Passed frames waits h.subterms d (d + h.binders) frames' waits' → Putting l at inner outer old pos (here + h.size) waits' frames' out' next'
+      pub putting_on : {out' : List ℕ} {next' : ℕ} → Wrote out next (part l p.from p.to) out' next' → {new' : List ℕ} →
+          new' ≡ opened h.subterms d (d + h.binders) (below ds) → Putting l at inner outer old pos (here + h.size) new' out' next'
       putting_on w q =
           record {
+            all_bytes = c.all_bytes;
             good = c.good;
             small = c.small;
             one = c.one;
@@ -274,6 +282,6 @@ module _ {l : List ℕ} {at : ℕ} {inner outer : Span} {old : List ℕ} {pos he
             going = going_on c.going more is q;
             before = c.before ++ new;
             wrote = then c.wrote (known_as w k.stands);
-            same = ap (λ ds. from W ds l (here + h.size) (c.before ++ new)) q.frames ∙ turn;
+            same = ap (λ x. from W x l (here + h.size) (c.before ++ new)) q ∙ turn;
             room = c.room;
           }

@@ -14,8 +14,8 @@ ghost use Rattle.term_subst.specs.Counted.{UsesOf};
 ghost use Rattle.term_subst.specs.Replaced.{replaced};
 
 use buffer::put_part;
-use term::{Form, Front};
-use term_walk::{Frames, pass};
+use term::Form;
+use term_walk::{Frames, MAX_WAITS};
 
 // Whether a node refers to the variable with number `depth` around it.
 fn is_variable(refers: u8, arg: usize, depth: usize) -> bool
@@ -50,28 +50,21 @@ pub fn count_uses(s: &[u8], at: usize) -> Uses
     requires { GoodAt s.now at × (nodes (term_at s.now at) ≤ max_nodes) }
     ensures { UsesOf (term_at s.now at) result }
 {
-    let mut frames = [0u16; Frames::MAX_WAITS];
-    let mut waits: usize = 1;
+    let mut frames = Frames::<MAX_WAITS>::new();
     let mut here = at;
     let mut nodes: usize = 0;
     let mut inner: usize = 0;
     let mut outer: usize = 0;
-    while 0 < waits {
-        let Front::Is(node) = term::node_at(s, here) else {
-            return Uses {
-                nodes,
-                inner,
-                outer,
-            };
-        };
-        let around = frames[waits - 1];
+    while 0 < frames.waits() {
+        let node = term::node_at(s, here).unwrap();
+        let around = frames.top();
         let size = node.size;
         let subterms = node.subterms;
         let last = around + (node.binders as u16);
         nodes += 1;
         inner += use_of(node.refers, node.arg, around as usize);
         outer += use_of(node.refers, node.arg, (around as usize) + 1);
-        waits = pass(&mut frames, waits, subterms, around, last);
+        frames.pass(subterms, around, last);
         here += size;
     }
     Uses {
@@ -118,15 +111,12 @@ pub fn put_substituted(
     requires room { pos + length (replaced 0 (bytes (term_at s.now inner.from)) (bytes (term_at s.now outer.from)) (term_at s.now at)) ≤ length out.old }
     ensures { Wrote out.old pos (replaced 0 (bytes (term_at s.now inner.from)) (bytes (term_at s.now outer.from)) (term_at s.now at)) out.new result }
 {
-    let mut frames = [0u16; Frames::MAX_WAITS];
-    let mut waits: usize = 1;
+    let mut frames = Frames::<MAX_WAITS>::new();
     let mut here = at;
     let mut next = pos;
-    while 0 < waits {
-        let Front::Is(node) = term::node_at(s, here) else {
-            return next;
-        };
-        let around = frames[waits - 1];
+    while 0 < frames.waits() {
+        let node = term::node_at(s, here).unwrap();
+        let around = frames.top();
         let subterms = node.subterms;
         let last = around + (node.binders as u16); // variables around its last subterm
         let past = here + node.size;
@@ -136,7 +126,7 @@ pub fn put_substituted(
         };
         let span = span_for(node.refers, node.arg, around as usize, itself, inner, outer);
         next = put_part(out, next, s, span.from, span.to);
-        waits = pass(&mut frames, waits, subterms, around, last);
+        frames.pass(subterms, around, last);
         here = past;
     }
     next

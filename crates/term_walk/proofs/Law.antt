@@ -4,9 +4,9 @@ use mathlib.Core.Path.{◌≡◌, ap, refl, sym, ◌∙◌}
 use mathlib.Core.List.{List, [], ◌∷◌}
 use Prim.Native.Nat.{◌+◌, suc, zero, ℕ}
 use native.Mathlib.Omega.{arith}
-use lib.ListN.{drop}
+use lib.ListN.{drop, length}
 use lib.Seq.{drop-drop}
-use Rattle.term.specs.declared.Front.TheVariants.{Bad, Is}
+use Rattle.std.proofs.Common.{None, Some}
 use Rattle.term.specs.declared.Node.{Node}
 use Rattle.term.specs.Tree.{leaf, one, Tree, two}
 use Rattle.term.specs.Reader.{first_rest, GoodAt, Got, got, node_at, node_of, none, read_term, tree_at}
@@ -50,11 +50,11 @@ module _ {A : Type 0} (W : Walk A) where
       ∙ W.strict d tag arg
 
   module _ (d : ℕ) (ds l : List ℕ) where
-    ahead_bad : node_of l ≡ Bad → ahead (d ∷ ds) l ≡ W.refused
+    ahead_bad : node_of l ≡ None → ahead (d ∷ ds) l ≡ W.refused
     unfolding ahead
     ahead_bad is = rw (step l, is)
 
-    module _ (h : Node) (is : node_of l ≡ Is h) where
+    module _ (h : Node) (is : node_of l ≡ Some h) where
       abbrev see : A → A
       see = W.visit d h.tag h.arg
 
@@ -94,6 +94,10 @@ module _ {A : Type 0} (W : Walk A) where
   unfolding from ahead
   from_none l p = refl
 
+  pub from_end : (ds l : List ℕ) (p : ℕ) → length ds ≡ 0 → from ds l p ≡ W.done (drop p l)
+  from_end [] l p e = from_none l p
+  from_end (d ∷ ds) l p e = absurd (omega arith)
+
   -- one term
   pub from_one : (d : ℕ) (l : List ℕ) (p : ℕ) → from (d ∷ []) l p ≡ onward d W.done (read_term (drop p l))
   unfolding from ahead
@@ -104,12 +108,12 @@ module _ {A : Type 0} (W : Walk A) where
   from_good d {l} {p} g = ap (onward d W.done) g.good
 
   module _ (d : ℕ) (ds l : List ℕ) (p : ℕ) where
-    pub from_bad : node_at l p ≡ Bad → from (d ∷ ds) l p ≡ W.refused
+    pub from_bad : node_at l p ≡ None → from (d ∷ ds) l p ≡ W.refused
     unfolding from node_at
     from_bad is = ahead_bad d ds (drop p l) is
 
     -- the law
-    pub from_node : {h : Node} → node_at l p ≡ Is h →
+    pub from_node : {h : Node} → node_at l p ≡ Some h →
         from (d ∷ ds) l p ≡ W.visit d h.tag h.arg (from (opened h.subterms (W.first h.tag d) (W.last h.tag d) ds) l (p + h.size))
     unfolding from node_at
     from_node {h} is =

@@ -1,13 +1,14 @@
--- `buffer::put_u16` meets its contract: two stores in a row.
+-- `buffer::put_u16` meets its contract: its two bytes are copied.
+use mathlib.Core.Path.{◌≡◌, ◌∙◌, ap}
+use mathlib.Core.List.{[], ◌∷◌}
+use Prim.Native.Nat.{ℕ, ◌/◌, ◌%◌}
 use native.Mathlib.Omega.{arith}
-use lib.ListN.{length-set}
 use Rattle.calculus.specs.Bytes.{two_bytes}
-use Rattle.buffer.proofs.Theory.Writes.{stored, then, landed}
+use Rattle.buffer.proofs.Theory.Writes.{known_as}
 use Rattle.buffer.proofs.put_u16.Goals as goal
-
-pub bounds-out-at-2 : goal.bounds-out-at-2
-bounds-out-at-2 c = simp length-set (omega arith)
 
 pub returns : goal.returns
 unfolding two_bytes
-returns c = landed (then (stored _) (stored _)) (omega arith)
+returns c =
+    let high : c.args.n / 256 % 256 ≡ c.args.n / 256 = omega arith in
+    known_as c.put_bytes.ensures (c.to_le_bytes.ensures ∙ ap (λ (b : ℕ). c.args.n % 256 ∷ b ∷ []) high)

@@ -1,5 +1,5 @@
 -- `check_annotations::both_annotated` meets its contract.
-use mathlib.Core.Path.{◌∙◌}
+use Rattle.std.proofs.Common.{◌∙◌}
 use Rattle.check_annotations.proofs.Fronts.{front_kind}
 use Rattle.check_annotations.proofs.both_annotated.Goals as goal
 

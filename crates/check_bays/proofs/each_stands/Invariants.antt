@@ -1,10 +1,6 @@
 -- `check_bays::each_stands` meets its contract. The loop's invariant: the parts passed stand, and `total` is the sum of their nodes.
-use Prim.Native.Nat.{◌-◌}
 use Rattle.check_bays.proofs.Standing.{Stood}
 use Rattle.check_bays.proofs.each_stands.Given as goal
 
 abbrev pub invariant-loop-bay : goal.invariant-loop-bay
-invariant-loop-bay l = Stood l.recipe l.bay l.total
-
-abbrev pub decreases-loop-bay : goal.decreases-loop-bay
-decreases-loop-bay l = l.bays - l.bay
+invariant-loop-bay l = Stood l.recipe.bytes.now l.bay l.total

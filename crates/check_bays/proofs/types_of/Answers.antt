@@ -3,29 +3,37 @@ use mathlib.Core.Path.{◌∙◌, ap, refl}
 use mathlib.Core.List.{List}
 use Prim.Native.Nat.{ℕ}
 use native.Mathlib.Omega.{arith}
-use borrow.Author.Rules.{rules}
 use Rattle.calculus.specs.Table.{is_many}
 use Rattle.recipe_table.specs.Entries.{table_of, type_table}
-use Rattle.check_bays.proofs.Typing.{typing_all, typing_next, typing_none, typing_not}
+use Rattle.check_bays.proofs.Typing.{numbers_all, typing_all, typing_next, typing_none, typing_not, typing_not_many, typing_not_linear}
 use Rattle.check_bays.proofs.types_of.Goals as goal
 
 pub loop-bay-init : goal.loop-bay-init
 loop-bay-init c = typing_none _
 
 pub walk_bay-requires : goal.walk_bay-requires
-walk_bay-requires c = (search rules, omega arith, search rules)
+walk_bay-requires c = (c.requires, omega arith)
 
-pub returns-in_default : goal.returns-in_default
-returns-in_default c = typing_not _ c.loop-bay.bay (omega arith) c.walk_bay.ensures _ refl c.in_default.is
+pub returns-in_default-clause-refusal : goal.returns-in_default-clause-refusal
+returns-in_default-clause-refusal c = typing_not _ c.loop-bay.bay (omega arith) c.walk_bay.ensures c.in_default.is
 
 pub bounds-numbers-bay : goal.bounds-numbers-bay
-bounds-numbers-bay c = omega (arith, c.requires.0.terms.laid.has_parts.high)
+bounds-numbers-bay c = omega (arith, c.requires.terms.laid.has_parts.high)
 
 pub loop-bay-preserved : goal.loop-bay-preserved
 unfolding type_table
 loop-bay-preserved c =
-    typing_next _ c.loop-bay.bay (omega arith) c.walk_bay.ensures _ _ _ _ _ _ c.loop-bay.invariant c.in-Has.is
-    (c.many_at-many.ensures ∙ ap (λ (t : List ℕ). is_many (table_of t) c.in-Has.number) c.table_bytes-table.ensures) refl refl
+    typing_next _ c.loop-bay.bay (omega arith) c.walk_bay.ensures _ _ _ _ _ _ c.loop-bay.invariant c.in-Some.is
+    (c.many_at-many.ensures ∙ ap (λ (t : List ℕ). is_many (table_of t) c.in-Some.walked.number) c.table-table.ensures) refl refl
 
-pub returns : goal.returns
-returns c = typing_all c.loop-bay.invariant (omega arith)
+pub returns-then-not-linear-clause-refusal : goal.returns-then-not-linear-clause-refusal
+returns-then-not-linear-clause-refusal c = typing_not_linear c.loop-bay.invariant (omega arith) c.if-not-linear.true
+
+pub returns-then-not-many-clause-refusal : goal.returns-then-not-many-clause-refusal
+returns-then-not-many-clause-refusal c = typing_not_many c.loop-bay.invariant (omega arith) c.if-not-linear.false c.if-not-many.true
+
+pub returns-clause-refusal : goal.returns-clause-refusal
+returns-clause-refusal c = typing_all c.loop-bay.invariant (omega arith) c.if-not-linear.false c.if-not-many.false
+
+pub returns-clause-types : goal.returns-clause-types
+returns-clause-types c = numbers_all c.loop-bay.invariant (omega arith)

@@ -5,8 +5,8 @@ use Rattle.recipe_table.specs.Entries.{table_of}
 use Rattle.check_prescan.proofs.Glancing.{Glancing}
 use Rattle.check_prescan.proofs.glance.Given as goal
 
-abbrev pub invariant-loop-waits : goal.invariant-loop-waits
-invariant-loop-waits l = Glancing l.forms (table_of l.table) l.names l.s l.here l.nodes l.waits l.frames
+abbrev pub invariant-loop-frames : goal.invariant-loop-frames
+invariant-loop-frames l = Glancing l.forms (table_of l.table) l.names l.s l.here l.nodes l.frames
 
-abbrev pub decreases-loop-waits : goal.decreases-loop-waits
-decreases-loop-waits l = length l.s - l.here
+abbrev pub decreases-loop-frames : goal.decreases-loop-frames
+decreases-loop-frames l = length l.s - l.here

@@ -1,29 +1,24 @@
 -- `check_recipe::parts_refusal` meets its contract.
-use mathlib.Core.Path.{◌∙◌, ◌≡◌, sym}
-use Rattle.check_recipe.specs.Refusals.{terms_refusal}
+use mathlib.Core.Path.{◌∙◌, sym}
+use Rattle.numbers.proofs.Refusals.{handed_on}
+use Rattle.recipe_file.proofs.LaidOut.{laid_where}
 use Rattle.check_recipe.proofs.Parts.{all_clear, by_annotations, by_scope, by_terms, terms_stand}
 use Rattle.check_recipe.proofs.parts_refusal.Goals as goal
 
 pub returns-then-each_stands : goal.returns-then-each_stands
 returns-then-each_stands c = all_clear _ (sym c.if-each_stands.true ∙ c.each_stands.ensures)
 
-pub returns-then-terms-ne0 : goal.returns-then-terms-ne0
-returns-then-terms-ne0 c = by_terms _ _ c.terms_refusal-terms.ensures c.if-terms-ne0.true
+pub returns-in_err-terms_refusal : goal.returns-in_err-terms_refusal
+returns-in_err-terms_refusal c = handed_on _ _ c.from_residual.ensures.1 ∙ by_terms _ _ c.in_err-terms_refusal.ensures
 
-pub each_passes-requires : goal.each_passes-requires
-each_passes-requires c =
-    let neither : terms_refusal c.args.recipe.now ≡ 0 = sym c.terms_refusal-terms.ensures ∙ c.if-terms-ne0.false in
-    let p = c.requires in (terms_stand _ p.0 p.1 neither, p.2)
+pub all_scoped-requires : goal.all_scoped-requires
+all_scoped-requires c = terms_stand _ (laid_where _ c.args.recipe.laid) c.requires c.in_ok-terms_refusal.ensures
 
-pub returns-then-not-each_passes : goal.returns-then-not-each_passes
-returns-then-not-each_passes c =
-    let neither : terms_refusal c.args.recipe.now ≡ 0 = sym c.terms_refusal-terms.ensures ∙ c.if-terms-ne0.false in
-    let p = c.requires in
-    by_scope _ p.0 p.1 neither (sym c.each_passes.ensures ∙ c.if-not-each_passes.true)
+pub returns-then-not-all_scoped : goal.returns-then-not-all_scoped
+returns-then-not-all_scoped c =
+    by_scope _ (laid_where _ c.args.recipe.laid) c.requires c.in_ok-terms_refusal.ensures (sym c.all_scoped.ensures ∙ c.if-not-all_scoped.true)
 
 pub returns : goal.returns
 returns c =
-    let neither : terms_refusal c.args.recipe.now ≡ 0 = sym c.terms_refusal-terms.ensures ∙ c.if-terms-ne0.false in
-    let p = c.requires in
-    by_annotations _ p.0 p.1 neither (sym c.each_passes.ensures ∙ c.if-not-each_passes.false)
+    by_annotations _ (laid_where _ c.args.recipe.laid) c.requires c.in_ok-terms_refusal.ensures (sym c.all_scoped.ensures ∙ c.if-not-all_scoped.false)
     (sym c.each_stands.ensures ∙ c.if-each_stands.false)

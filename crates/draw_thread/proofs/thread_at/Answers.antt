@@ -1,52 +1,29 @@
--- `draw_thread::thread_at` meets its contract. The loop's invariant: the threads among the names passed are counted, and the last one counted is the one looked for once
--- there are more than its index. The measure is how many names are still to come.
-use mathlib.Core.Path.{◌∙◌, sym}
-use Prim.Native.Nat.{◌<◌}
+-- `draw_thread::thread_at` meets its contract. The loop's invariant: the threads among the names passed are counted, and no more than the index.
 use native.Mathlib.Omega.{arith}
-use Rattle.image_layout.specs.Slice.{names}
-use Rattle.draw_thread.proofs.Counted.{counted_few, next_head, passed_found, passed_inside, passed_none, passed_one, passed_skip, passed_some}
+use mathlib.Core.Path.{◌∙◌, sym}
+use Rattle.image_layout.proofs.Theory.Reading.{has_names}
+use Rattle.draw_thread.proofs.Counted.{counted_found, counted_none, counted_one, counted_skip, next_head}
 use Rattle.draw_thread.proofs.thread_at.Goals as goal
+use Rattle.draw_thread.proofs.thread_at.Goals.{then-has_thread_kind+else-passed-index, else-has_thread_kind}
 
-pub loop-passed-init : goal.loop-passed-init
-loop-passed-init c = passed_none
+pub names_of-x-end-requires : goal.names_of-x-end-requires
+names_of-x-end-requires c = has_names _ c.requires.0
 
-pub has_thread_kind-thread-requires : goal.has_thread_kind-thread-requires
-has_thread_kind-thread-requires c =
-    let inside : c.loop-passed.x < names c.args.image.now = passed_inside c.loop-passed.invariant c.requires.1 c.loop-passed-test.true in
-    next_head c.loop-passed.invariant.counts c.requires.0 inside
+pub loop-x-init : goal.loop-x-init
+loop-x-init c = (counted_none, omega arith)
 
-pub overflow_add-x : goal.overflow_add-x
-overflow_add-x c =
-    let inside : c.loop-passed.x < names c.args.image.now = passed_inside c.loop-passed.invariant c.requires.1 c.loop-passed-test.true in
-    omega (arith, (next_head c.loop-passed.invariant.counts c.requires.0 inside).head_inside, c.well_formed)
+pub has_thread_kind-requires : goal.has_thread_kind-requires
+has_thread_kind-requires c = next_head c.loop-x.invariant.0 c.requires.0 (omega (arith, c.names_of-x-end.ensures.0))
 
-pub loop-passed-smaller-then-not-thread : goal.loop-passed-smaller-then-not-thread
-loop-passed-smaller-then-not-thread c =
-    let inside : c.loop-passed.x < names c.args.image.now = passed_inside c.loop-passed.invariant c.requires.1 c.loop-passed-test.true in
-    omega (arith, inside)
+pub returns-then-passed-index : goal.returns-then-passed-index
+returns-then-passed-index c =
+    counted_found c.loop-x.invariant.0 c.if-passed-index.true (omega (arith, c.names_of-x-end.ensures.0)) (sym c.has_thread_kind.ensures ∙ c.if-has_thread_kind.true)
 
-pub loop-passed-preserved-then-not-thread : goal.loop-passed-preserved-then-not-thread
-loop-passed-preserved-then-not-thread c =
-    let inside : c.loop-passed.x < names c.args.image.now = passed_inside c.loop-passed.invariant c.requires.1 c.loop-passed-test.true in
-    passed_skip c.loop-passed.invariant c.loop-passed-test.true inside (sym c.has_thread_kind-thread.ensures ∙ c.if-not-thread.true)
-
-pub overflow_add-passed : goal.overflow_add-passed
-overflow_add-passed c =
-    let inside : c.loop-passed.x < names c.args.image.now = passed_inside c.loop-passed.invariant c.requires.1 c.loop-passed-test.true in
-    omega (arith, counted_few c.loop-passed.invariant.counts, (next_head c.loop-passed.invariant.counts c.requires.0 inside).head_inside)
-
-pub loop-passed-smaller : goal.loop-passed-smaller
-loop-passed-smaller c =
-    let inside : c.loop-passed.x < names c.args.image.now = passed_inside c.loop-passed.invariant c.requires.1 c.loop-passed-test.true in
-    omega (arith, inside)
-
-pub loop-passed-preserved : goal.loop-passed-preserved
-loop-passed-preserved c =
-    let inside : c.loop-passed.x < names c.args.image.now = passed_inside c.loop-passed.invariant c.requires.1 c.loop-passed-test.true in
-    passed_one c.loop-passed.invariant c.loop-passed-test.true inside (sym c.has_thread_kind-thread.ensures ∙ c.if-not-thread.false)
-
-pub overflow_sub-result : goal.overflow_sub-result
-overflow_sub-result c = passed_some c.loop-passed.invariant (omega (arith, c.loop-passed-test.false))
-
-pub returns : goal.returns
-returns c = passed_found c.loop-passed.invariant (omega (arith, c.loop-passed-test.false))
+pub loop-x-preserved : goal.loop-x-preserved
+loop-x-preserved c = elim c.if-has_thread_kind.branch [
+  | then-has_thread_kind+else-passed-index w ↦
+      rw w.passed-is
+      (counted_one c.loop-x.invariant.0 (omega (arith, c.names_of-x-end.ensures.0)) (sym c.has_thread_kind.ensures ∙ w.if-has_thread_kind.true), omega (arith, w.if-passed-index.false))
+  | else-has_thread_kind w ↦
+      rw w.passed-is (counted_skip c.loop-x.invariant.0 (omega (arith, c.names_of-x-end.ensures.0)) (sym c.has_thread_kind.ensures ∙ w.if-has_thread_kind.false), c.loop-x.invariant.1)
+]

@@ -4,6 +4,6 @@ use Rattle.fikarehu.proofs.fikarehu_run.Goals as goal
 
 pub returns : goal.returns
 returns c = record {
-  value = c.run_numbers.ensures ∙ ap run_numbers c.run.ensures.value;
+  value = c.from.ensures ∙ ap run_numbers c.run.ensures.value;
   leaves = c.run.ensures.leaves;
 }

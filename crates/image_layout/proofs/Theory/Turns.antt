@@ -21,6 +21,11 @@ module _ (m : ℕ) (f : ℕ → Encoded) where
       → Wrote old at (expressions (tabulate (i + 1) f)) out last
   expression_turn {i = i} w v = known_as (then w v) (sym (expressions_one i f))
 
+  -- there is room for it, where there is for all
+  pub room_turn : {old : List ℕ} {at i : ℕ} {out : List ℕ} {next : ℕ}
+      → at + length (expressions (tabulate m f)) ≤ length old → i < m → Wrote old at (expressions (tabulate i f)) out next → next + length (f i).expression ≤ length out
+  room_turn {i = i} room below w = omega (arith, same w, w.ends, so_far_one f i, so_far_most f m (i + 1) (omega arith))
+
   -- m, the heads and the expressions are the image
   pub image_turns : {old a b out : List ℕ} {first second last : ℕ}
       → Wrote old 0 (two_bytes m) a first → Wrote a first (heads (head_offset m) (tabulate m f)) b second → Wrote b second (expressions (tabulate m f)) out last
@@ -30,6 +35,10 @@ module _ (m : ℕ) (f : ℕ → Encoded) where
   module _ {old : List ℕ} (room : Room m f old) where
     pub room_kept : {out : List ℕ} → length out ≡ length old → Room m f out
     room_kept e = record { fits_in = rw e room.fits_in; small = room.small }
+
+    -- for all the expressions
+    pub room_expressions : {at : ℕ} → at ≡ head_offset m → at + length (expressions (tabulate m f)) ≤ length old
+    room_expressions e = omega (arith, length_tabulated m f, room.fits_in)
 
     -- for m, and for all the heads
     pub room_names : (first_head ≤ length old) × (m < two_byte_values)
@@ -42,8 +51,7 @@ module _ (m : ℕ) (f : ℕ → Encoded) where
 
       pub room_expression : {at : ℕ} {out : List ℕ} {next : ℕ}
           → at ≡ head_offset m → Wrote old at (expressions (tabulate i f)) out next → next + length (f i).expression ≤ length out
-      room_expression e w =
-          omega (arith, same w, w.ends, so_far_one f i, so_far_most f m (i + 1) (omega arith), length_tabulated m f, room.fits_in)
+      room_expression e w = room_turn (room_expressions e) below w
 
   -- i heads are written, the first where heads begin
   pub record HeadsTo (old : List ℕ) (at i : ℕ) (out : List ℕ) (next : Next) : Type 0 where

@@ -1,5 +1,4 @@
--- `image_layout::heads_stand` meets its contract. The loop's invariant: k names have stood, and what is left of the test is the test of the others. The measure is
--- their number.
+-- `image_layout::heads_stand` meets its contract. The loop's invariant: k names have stood, and what is left of the test is the test of the others.
 use mathlib.Core.Path.{sym, ◌∙◌}
 use native.Mathlib.Omega.{arith}
 use Rattle.image_layout.proofs.Pass.{no_room, passed_none, passed_all, next_head, passed_fault, passed_one}
@@ -7,15 +6,6 @@ use Rattle.image_layout.proofs.heads_stand.Goals as goal
 
 pub returns-then-image-lt-FIRST_HEAD : goal.returns-then-image-lt-FIRST_HEAD
 returns-then-image-lt-FIRST_HEAD c = no_room c.args.image.now (omega arith)
-
-pub names_of-names-requires : goal.names_of-names-requires
-names_of-names-requires c = omega arith
-
-pub overflow_mul-end : goal.overflow_mul-end
-overflow_mul-end c = omega arith
-
-pub overflow_add-end : goal.overflow_add-end
-overflow_add-end c = omega arith
 
 pub returns-then-image-end : goal.returns-then-image-end
 returns-then-image-end c = no_room c.args.image.now (omega (arith, c.names_of-names.ensures.0))
@@ -34,12 +24,6 @@ length_at-end-requires c = next_head c.loop-k.invariant c.loop-k-test.true
 
 pub overflow_add-end-in-loop-k : goal.overflow_add-end-in-loop-k
 overflow_add-end-in-loop-k c = omega (arith, c.loop-k.invariant.inside, c.length_at-end.ensures.1, c.well_formed.0.1)
-
-pub overflow_add-k : goal.overflow_add-k
-overflow_add-k c = omega arith
-
-pub loop-k-smaller : goal.loop-k-smaller
-loop-k-smaller c = omega arith
 
 pub loop-k-preserved : goal.loop-k-preserved
 loop-k-preserved c = passed_one c.loop-k.invariant c.loop-k-test.true (sym c.head_stands.ensures ∙ c.if-not-head_stands.false) c.length_at-end.ensures.0

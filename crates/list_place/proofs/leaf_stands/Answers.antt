@@ -1,6 +1,5 @@
 -- `list_place::leaf_stands` meets its contract (proofs/Asking.antt).
-use borrow.Author.Rules.{rules}
-use mathlib.Core.Path.{sym, ◌∙◌}
+use Rattle.std.proofs.Common.{arith, sym, ◌∙◌}
 use Rattle.list_place.proofs.Asking.{bound_variable, stands_met, stands_out, stands_plain}
 use Rattle.list_place.proofs.leaf_stands.Goals as goal
 
@@ -18,10 +17,9 @@ pub leaf_type-requires : goal.leaf_type-requires
 leaf_type-requires c =
     let p = c.requires in
     record {
-      few = p.few;
+      fits = omega (arith, p.few);
       bound = λ e. bound_variable _ _ _ e (rw (← c.bound_of.ensures) c.if-bound_of-arg.false);
-      byte = search rules;
-      known = p.first_forms;
+      entry = λ low high. omega arith;
     }
 
 pub returns : goal.returns

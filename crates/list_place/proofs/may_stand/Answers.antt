@@ -1,37 +1,37 @@
 -- `list_place::may_stand` meets its contract: a law for each tag (proofs/Asking.antt).
-use mathlib.Core.Path.{sym, ◌∙◌}
-use native.Mathlib.Omega.{arith}
+use Rattle.std.proofs.Common.{arith, sym, ◌∙◌}
+use Rattle.calculus.proofs.Theory.Tests.{eqb_differ, ltb_not}
 use Rattle.term.specs.Tree.{HasForm}
 use Rattle.list_place.specs.Candidates.{tag_in}
 use Rattle.list_place.proofs.Asking.{leaf_form, may_apply, may_lambda, may_leaf, may_no_lambda, may_no_leaf, may_not_apply}
 use Rattle.list_place.proofs.may_stand.Goals as goal
 
-pub returns-then-left-pending : goal.returns-then-left-pending
-returns-then-left-pending c = may_no_lambda _ _ _ _ _ _ _ _ c.requires.enough c.if-tag-eq-LAMBDA.true c.if-left-pending.true
+pub returns-then-pending-left : goal.returns-then-pending-left
+returns-then-pending-left c = may_lambda _ _ _ _ _ _ _ _ c.requires.enough c.in-1.is c.if-pending-left.true _ c.lambda_stands.ensures
 
-pub returns-then-tag-eq-LAMBDA : goal.returns-then-tag-eq-LAMBDA
-returns-then-tag-eq-LAMBDA c = may_lambda _ _ _ _ _ _ _ _ c.requires.enough c.if-tag-eq-LAMBDA.true c.if-left-pending.false _ c.lambda_stands.ensures
+pub returns-else-pending-left : goal.returns-else-pending-left
+returns-else-pending-left c = rw (ltb_not _ _ c.if-pending-left.false) (may_no_lambda _ _ _ _ _ _ _ _ c.requires.enough c.in-1.is c.if-pending-left.false)
 
-pub returns-then-code-ne0 : goal.returns-then-code-ne0
-returns-then-code-ne0 c = may_not_apply _ _ _ _ _ _ _ _ c.requires.enough c.if-tag-eq-APPLICATION.true c.if-code-ne0.true
+pub returns-then-arg-eq0 : goal.returns-then-arg-eq0
+returns-then-arg-eq0 c = may_apply _ _ _ _ _ _ _ _ c.requires.enough c.in-2.is c.if-arg-eq0.true
 
-pub returns-then-tag-eq-APPLICATION : goal.returns-then-tag-eq-APPLICATION
-returns-then-tag-eq-APPLICATION c = may_apply _ _ _ _ _ _ _ _ c.requires.enough c.if-tag-eq-APPLICATION.true c.if-code-ne0.false
-
-pub returns-then-not-has_leaf_room : goal.returns-then-not-has_leaf_room
-returns-then-not-has_leaf_room c =
-    let form : HasForm (tag_in c.args.code) 0 = leaf_form _ (omega (arith, c.requires.below)) c.if-tag-eq-LAMBDA.false c.if-tag-eq-APPLICATION.false in
-    let p = c.requires in
-    may_no_leaf _ _ _ _ _ _ _ _ p.enough p.few_types form p.some_pending (sym c.has_leaf_room.ensures ∙ c.if-not-has_leaf_room.true)
+pub returns-else-arg-eq0 : goal.returns-else-arg-eq0
+returns-else-arg-eq0 c = rw (eqb_differ _ _ c.if-arg-eq0.false) (may_not_apply _ _ _ _ _ _ _ _ c.requires.enough c.in-2.is c.if-arg-eq0.false)
 
 pub leaf_stands-requires : goal.leaf_stands-requires
 leaf_stands-requires c =
-    let form : HasForm (tag_in c.args.code) 0 = leaf_form _ (omega (arith, c.requires.below)) c.if-tag-eq-LAMBDA.false c.if-tag-eq-APPLICATION.false in
+    let form : HasForm (tag_in c.args.code) 0 = leaf_form _ (omega (arith, c.requires.below)) (λ e. omega (arith, e)) (λ e. omega (arith, e)) in
     let p = c.requires in
     record { few = p.few; few_types = p.few_types; known = p.known; form = form; first_forms = omega (arith, p.below) }
 
-pub returns : goal.returns
-returns c =
-    let form : HasForm (tag_in c.args.code) 0 = leaf_form _ (omega (arith, c.requires.below)) c.if-tag-eq-LAMBDA.false c.if-tag-eq-APPLICATION.false in
+pub returns-then-has_leaf_room : goal.returns-then-has_leaf_room
+returns-then-has_leaf_room c =
+    let form : HasForm (tag_in c.args.code) 0 = leaf_form _ (omega (arith, c.requires.below)) (λ e. omega (arith, e)) (λ e. omega (arith, e)) in
     let p = c.requires in
-    may_leaf _ _ _ _ _ _ _ _ p.enough p.few_types form p.some_pending (sym c.has_leaf_room.ensures ∙ c.if-not-has_leaf_room.false) _ c.leaf_stands.ensures
+    may_leaf _ _ _ _ _ _ _ _ p.enough p.few_types form p.some_pending (sym c.has_leaf_room.ensures ∙ c.if-has_leaf_room.true) _ c.leaf_stands.ensures
+
+pub returns-else-has_leaf_room : goal.returns-else-has_leaf_room
+returns-else-has_leaf_room c =
+    let form : HasForm (tag_in c.args.code) 0 = leaf_form _ (omega (arith, c.requires.below)) (λ e. omega (arith, e)) (λ e. omega (arith, e)) in
+    let p = c.requires in
+    rw c.if-has_leaf_room.false (may_no_leaf _ _ _ _ _ _ _ _ p.enough p.few_types form p.some_pending (sym c.has_leaf_room.ensures ∙ c.if-has_leaf_room.false))

@@ -3,11 +3,15 @@ use mathlib.Core.Path.{◌∙◌, ap}
 use native.Mathlib.Omega.{arith}
 use Rattle.recipe_file.specs.declared.Edition.{Edition}
 use Rattle.recipe_file.specs.File.{offset_of}
+use Rattle.recipe_file.proofs.LaidOut.{laid_where}
 use Rattle.load_image.proofs.Names.{first_pair}
 use Rattle.load_image.proofs.first_term.Goals as goal
 
 pub offset_of-requires : goal.offset_of-requires
-offset_of-requires c = let (l, e) = c.requires in omega (arith, (first_pair l).0, (first_pair l).1, ap (λ (x : Edition). x.terms) e)
+offset_of-requires c =
+    let f = c.args.recipe in
+    let p = first_pair (laid_where f.bytes.now f.laid) in
+    omega (arith, p.0, p.1, ap (λ (e : Edition). e.terms) f.said)
 
 pub returns : goal.returns
-returns c = c.offset_of.ensures.0 ∙ ap (λ (e : Edition). offset_of c.args.recipe.now e.terms) c.requires.1
+returns c = let f = c.args.recipe in c.offset_of.ensures.0 ∙ ap (λ (e : Edition). offset_of f.bytes.now e.terms) f.said

@@ -1,11 +1,6 @@
 -- `load_image::put_heads` meets its contract.
-use Prim.Native.Nat.{◌-◌}
-use Rattle.image_layout.proofs.Theory.Turns.{HeadsTo}
-use Rattle.load_image.specs.Starting.{starting_at, starting_names}
+use Rattle.load_image.specs.Starting.{starting_at}
 use Rattle.load_image.proofs.put_heads.Given as goal
 
-abbrev pub invariant-loop-k : goal.invariant-loop-k
-invariant-loop-k l = HeadsTo (starting_names l.recipe) (starting_at l.recipe) l.initial.out l.at l.k l.out l.next
-
-abbrev pub decreases-loop-k : goal.decreases-loop-k
-decreases-loop-k l = l.names - l.k
+abbrev pub ghost-put_heads : goal.ghost-put_heads
+ghost-put_heads a = starting_at a.head_of.0.now.bytes.now

@@ -1,14 +1,7 @@
 -- `load_image::put_settings` meets its contract.
-use Prim.Native.Nat.{◌-◌, ◌≤◌}
 use lib.ListN.{get_or}
-use Rattle.calculus.specs.Lists.{tabulate}
-use Rattle.buffer.specs.Written.{Wrote}
-use Rattle.image_layout.specs.Encoded.{expressions}
 use Rattle.load_image.specs.Starting.{setting}
 use Rattle.load_image.proofs.put_settings.Given as goal
 
-abbrev pub invariant-loop-k : goal.invariant-loop-k
-invariant-loop-k l = (l.k ≤ l.bays) × Wrote l.initial.out l.at (expressions (tabulate l.k (λ i. setting (get_or l.nums i 0) i))) l.out l.next
-
-abbrev pub decreases-loop-k : goal.decreases-loop-k
-decreases-loop-k l = l.bays - l.k
+abbrev pub ghost-put_expressions : goal.ghost-put_expressions
+ghost-put_expressions a k = setting (get_or a.put.now.0.now k 0) k

@@ -13,12 +13,6 @@ loop-i-init c =
     let inside : c.args.count ≤ length c.args.table = omega (arith, c.requires, c.well_formed.0.1) in
     ((keyed_none _ _ inside _ c.requires refl, marked_none _ _ _ refl), entries_done _ _ inside _)
 
-pub bounds-table-i : goal.bounds-table-i
-bounds-table-i c = let w = c.loop-i.invariant.0.0 in omega (arith, w.inside, w.few)
-
-pub bounds-table-i-in-loop-i : goal.bounds-table-i-in-loop-i
-bounds-table-i-in-loop-i c = let w = c.loop-i.invariant.0.0 in omega (arith, w.inside, w.few)
-
 pub returns-then-not-entry_stands : goal.returns-then-not-entry_stands
 returns-then-not-entry_stands c =
     let inside : c.args.count ≤ length c.args.table = omega (arith, c.requires, c.well_formed.0.1) in
@@ -41,9 +35,6 @@ returns-then-not-is_unmet c =
     let inside : c.args.count ≤ length c.args.table = omega (arith, c.requires, c.well_formed.0.1) in
     both_fail _ _ _ inside
     (keyed_twice _ _ inside _ _ (keyed_before c.loop-i.invariant.0.0 c.loop-i-test.true) c.key_of-key.ensures c.is_unmet.ensures c.if-not-is_unmet.true)
-
-pub bounds-keys-i : goal.bounds-keys-i
-bounds-keys-i c = let w = c.loop-i.invariant.0.0 in omega (arith, w.inside, w.few)
 
 pub loop-i-preserved : goal.loop-i-preserved
 loop-i-preserved c =

@@ -9,6 +9,3 @@ use Rattle.recipe_table.proofs.entries_stand.Given as goal
 
 abbrev pub invariant-loop-i : goal.invariant-loop-i
 invariant-loop-i l = (Keyed l.table l.count l.keys l.i × Marked l.keys l.marks l.i l.count) × (entries_from l.kinds (as_table l.table l.count) l.i ≡ true)
-
-abbrev pub decreases-loop-i : goal.decreases-loop-i
-decreases-loop-i l = l.i

@@ -1,12 +1,7 @@
-use mathlib.Core.Path.{◌≡◌}
-use Prim.Native.Nat.{◌-◌}
-use lib.ListN.{length, take}
+use lib.ListN.{take}
 use Rattle.run_spec.specs.Course.{take_turns}
 use Rattle.run_recipe.proofs.Underway.{Underway}
 use Rattle.run_recipe.proofs.run_turns.Given as goal
 
 abbrev pub invariant-loop-taken : goal.invariant-loop-taken
-invariant-loop-taken l = Underway (take_turns l.turns l.initial.at.next (take l.initial.at.length l.initial.first)) l.turns l.first l.second l.at l.taken × ((length l.first ≡ length l.initial.first) × (length l.second ≡ length l.initial.second))
-
-abbrev pub decreases-loop-taken : goal.decreases-loop-taken
-decreases-loop-taken l = l.turns - l.taken
+invariant-loop-taken l = Underway (take_turns l.turns l.initial.at.next (take l.initial.at.length l.initial.first)) l.turns l.first l.second l.at l.taken

@@ -1,36 +1,26 @@
-use mathlib.Core.Path.{◌≡◌, subst}
+use mathlib.Core.Path.{subst}
 use native.Mathlib.Omega.{arith}
-use Rattle.step_rules.specs.Moves.{image_after}
-use Rattle.step_look.specs.Looked.{Going}
 use Rattle.step_look.proofs.Theory.Writing.{after_fits, can_write}
-use Rattle.run_spec.specs.Course.{found, search_from}
-use Rattle.run_turn.specs.Turning.{Finds, met_one, nobody_went, went}
-use Rattle.run_turn.proofs.Turns.{few_names, found_goes, found_met, found_nobody, goes_below, turn_went}
+use Rattle.run_turn.specs.Turning.{Finds, went}
+use Rattle.run_turn.proofs.Turns.{few_names, found_goes, goes_below, turn_stops, turn_went}
 use Rattle.run_turn.proofs.take_turn.Goals as goal
+
+pub returns-in_err-going : goal.returns-in_err-going
+returns-in_err-going c = turn_stops c.from_residual.ensures.1 (subst (Finds _ _) c.in_err-going.was c.go_round.ensures)
 
 pub put_image_after-length-requires : goal.put_image_after-length-requires
 put_image_after-length-requires c =
-    let goes : Going c.args.image.now c.in-Goes.x c.in-Goes.step c.in-Goes.after × (search_from c.args.image.now c.args.at.next ≡ found c.in-Goes.x (image_after c.args.image.now c.in-Goes.step)) = found_goes (subst (Finds _ _) c.in-Goes.is c.go_round.ensures) in
-    let g = goes.0 in
+    let (g, e) = found_goes (subst (Finds _ _) c.in_ok-going.was c.go_round.ensures) in
     let l = after_fits g in
     record {
-      can_write = (can_write g (λ i. (c.shared_slice_known-1.given i).fits) c.requires.0.stands, g.handed);
-      room = (omega (arith, l, c.requires.1.1), omega (arith, l));
+      can_write = (can_write g c.args.image.fit c.args.image.stands, g.handed);
+      room = (omega (arith, l, c.requires.1), omega (arith, l));
     }
 
-pub overflow_add-on : goal.overflow_add-on
-overflow_add-on c =
-    let goes : Going c.args.image.now c.in-Goes.x c.in-Goes.step c.in-Goes.after × (search_from c.args.image.now c.args.at.next ≡ found c.in-Goes.x (image_after c.args.image.now c.in-Goes.step)) = found_goes (subst (Finds _ _) c.in-Goes.is c.go_round.ensures) in
-    omega (arith, goes_below goes.0, few_names c.args.image.now c.requires.0.stands)
+pub overflow_add-result : goal.overflow_add-result
+overflow_add-result c = omega (arith, goes_below (found_goes (subst (Finds _ _) c.in_ok-going.was c.go_round.ensures)).0, few_names c.args.image.bytes.now c.args.image.stands)
 
-pub returns-in-Goes : goal.returns-in-Goes
-returns-in-Goes c =
-    let goes : Going c.args.image.now c.in-Goes.x c.in-Goes.step c.in-Goes.after × (search_from c.args.image.now c.args.at.next ≡ found c.in-Goes.x (image_after c.args.image.now c.in-Goes.step)) = found_goes (subst (Finds _ _) c.in-Goes.is c.go_round.ensures) in
-    let (g, e) = goes in
-    went (turn_went g e c.args.out.now c.requires.1.1 _ _ c.put_image_after-length.ensures)
-
-pub returns-in-Nobody : goal.returns-in-Nobody
-returns-in-Nobody c = nobody_went (found_nobody (subst (Finds _ _) c.in-Nobody.is c.go_round.ensures))
-
-pub returns-in-Met : goal.returns-in-Met
-returns-in-Met c = met_one (found_met (subst (Finds _ _) c.in-Met.is c.go_round.ensures))
+pub returns : goal.returns
+returns c =
+    let (g, e) = found_goes (subst (Finds _ _) c.in_ok-going.was c.go_round.ensures) in
+    went (turn_went g e c.args.out.now c.requires.1 _ _ c.put_image_after-length.ensures)

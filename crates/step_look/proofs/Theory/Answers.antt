@@ -18,15 +18,15 @@ use Rattle.buffer.proofs.Theory.Writes.{beyond}
 use Rattle.image.specs.Configuration.{image_of, owned_of}
 use Rattle.image.specs.Stands.{image_stands}
 use Rattle.image.proofs.Theory.Lengths.{within_length}
-use Rattle.step_rules.specs.declared.Step.{Step}
 use Rattle.step_rules.specs.Effects.{rule_of}
 use Rattle.step_rules.specs.Moves.{image_after}
-use Rattle.step_room.specs.declared.Size.{Size}
 use Rattle.step_spec.specs.declared.Outcome.{Outcome}
 use Rattle.step_spec.specs.declared.Outcome.TheVariants.{Refused, Rule}
 use Rattle.step_spec.specs.Stepping.{outcome_of_reply, out_after_step, outcome_of, out_after_reply}
 use Rattle.step_spec.proofs.Theory.Replies.{reply_broken, reply_short, reply_stands}
-use Rattle.step_look.specs.Looked.{Going, Staying, reply_in}
+use Rattle.step_look.specs.Leaving.{left_by, outcome_from}
+use Rattle.step_look.specs.declared.Going.{Going}
+use Rattle.step_look.specs.Looked.{Goes, Staying, reply_in}
 
 -- an outcome above document 01's limits has no room under either profile
 no_room : (p : Profile) (I I' : Owned) → limits_test I'.config ≡ false → room_test p I I' ≡ false
@@ -83,12 +83,21 @@ unwritten finished out n = refl
 unwritten (refuses n) out unmoved = refl
 
 -- what a thread that goes leaves
-abbrev pub left : {s : List ℕ} {x : ℕ} {step : Step} {after : Size} → Going s x step after → Owned
+abbrev pub left : {s : List ℕ} {x : ℕ} {going : Going} → Goes s x going → Owned
 left {s} {x} g = grown (owned_of s) x g.stepped.outcome
 
+-- it is what the step of that thread leaves
+pub left_is : {s : List ℕ} {x : ℕ} {going : Going} (g : Goes s x going) → left_by s x ≡ left g
+unfolding outcome_from
+left_is g = let e = g.stepped.steps in rw e refl
+
+-- and within document 01's limits
+pub left_fits : {s : List ℕ} {x : ℕ} {going : Going} → Goes s x going → limits_test (left_by s x).config ≡ true
+left_fits g = ap (λ (I : Owned). limits_test I.config) (left_is g) ∙ g.fits
+
 -- it goes: there is room, or there is none
-module _ (p : Profile) {s : List ℕ} {x : ℕ} {step : Step} {after : Size} (g : Going s x step after) where
-  pub goes_reply : room_test p (owned_of s) (left g) ≡ true → reply_under p s x ≡ moved (number (rule_of step.by)) (left g)
+module _ (p : Profile) {s : List ℕ} {x : ℕ} {going : Going} (g : Goes s x going) where
+  pub goes_reply : room_test p (owned_of s) (left g) ≡ true → reply_under p s x ≡ moved (number (rule_of going.step.by)) (left g)
   unfolding reply_of
   goes_reply room = let e = g.stepped.steps in rw (e, room) refl
 
@@ -97,7 +106,7 @@ module _ (p : Profile) {s : List ℕ} {x : ℕ} {step : Step} {after : Size} (g 
   room_reply room = let e = g.stepped.steps in rw (e, room) refl
 
   -- the new image is written
-  pub goes_writes : room_test p (owned_of s) (left g) ≡ true → (out out' : List ℕ) → max_image_length ≤ length out → (n k : ℕ) → k ≡ number (rule_of step.by) → Wrote out 0 (image_after s step) out' n →
+  pub goes_writes : room_test p (owned_of s) (left g) ≡ true → (out out' : List ℕ) → max_image_length ≤ length out → (n k : ℕ) → k ≡ number (rule_of going.step.by) → Wrote out 0 (image_after s going.step) out' n →
       (Rule k n ≡ outcome_of_reply (reply_under p s x)) × (out' ≡ out_after_reply (reply_under p s x) out)
   unfolding outcome_of_reply out_after_reply
   goes_writes room out out' long n k numbered w =

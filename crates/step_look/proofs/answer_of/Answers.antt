@@ -1,3 +1,4 @@
+use native.Mathlib.Omega.{arith}
 use mathlib.Core.Path.{ap, sym}
 use Rattle.step_look.specs.Looked.{stays}
 use Rattle.step_look.proofs.answer_of.Goals as goal
@@ -12,4 +13,4 @@ returns-in-Waits c = sym (ap stays c.in-Waits.is)
 
 pub returns-in-Refuses : goal.returns-in-Refuses
 unfolding stays
-returns-in-Refuses c = sym (ap stays c.in-Refuses.is)
+returns-in-Refuses c = grind (arith, c.in-Refuses.is)

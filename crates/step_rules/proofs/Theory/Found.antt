@@ -1,5 +1,5 @@
 -- What the search of a thread's expression has found is a meeting of values in that thread.
-use Rattle.std.proofs.Common.{◌∙◌, sym, subst, arith}
+use Rattle.std.proofs.Common.{◌∙◌, sym, subst, arith, None}
 use Rattle.std.specs.Prelude.{◌≡◌, true, List, ℕ, ◌<◌, ◌≤◌}
 use Rattle.std.proofs.Math.Path.{ap}
 use Rattle.std.proofs.Math.Option.{some}
@@ -18,7 +18,6 @@ use Rattle.image_layout.specs.Slice.{names, offset_at}
 use Rattle.image.specs.Configuration.{config_of}
 use Rattle.image.specs.Stands.{image_stands}
 use Rattle.term_redex.specs.declared.Meeting.{Meeting}
-use Rattle.term_redex.specs.declared.Place.TheVariants.{Done}
 use Rattle.term_redex.specs.Places.{place_of, Searchable}
 use Rattle.term_redex.proofs.Meetings.{MeetingAt, done_value, meet_met, meeting_stands}
 use Rattle.step_rules.specs.Meets.{Deciding, MeetsAt}
@@ -74,7 +73,7 @@ module _ (s : List ℕ) (b : Bytes s) (stands : image_stands s ≡ true) (x : �
   thread_searchable =
       record { good = thread_found.good; closed = rw thread_found.term ((rules s b stands).bound x (thread_of e) h) }
 
-  pub found_done : place_of (offset_at s x) (place (term_at s (offset_at s x))) ≡ Done → step_of (config_of s) x ≡ done
+  pub found_done : place_of (offset_at s x) (place (term_at s (offset_at s x))) ≡ None → step_of (config_of s) x ≡ done
   unfolding step_of step_place
   found_done d =
       let (w, p) = done_value (offset_at s x) e ((rules s b stands).bound x (thread_of e) h) (sym (ap (λ g. place_of (offset_at s x) (place g)) thread_found.term) ∙ d) in

@@ -9,24 +9,21 @@ use Rattle.step_shares.proofs.NameNodes.{bare_nodes, whole_nodes}
 use Rattle.step_shares.proofs.name_nodes.Goals as goal
 
 pub kind_at-requires : goal.kind_at-requires
-kind_at-requires c = let (stands, below) = c.requires in has_head _ (whole_sound _ stands).heads _ below
+kind_at-requires c = has_head _ (whole_sound _ c.args.image.stands).heads _ c.requires
 
 pub returns-then-kind_at-gt-CELL : goal.returns-then-kind_at-gt-CELL
 returns-then-kind_at-gt-CELL c =
-    let (stands, below) = c.requires in
-    bare_nodes _ (λ i. (c.shared_slice_known-1.given i).fits) stands _ below c.kind_at.ensures c.if-kind_at-gt-CELL.true
+    bare_nodes _ c.args.image.fit c.args.image.stands _ c.requires c.kind_at.ensures c.if-kind_at-gt-CELL.true
 
 pub offset_at-requires : goal.offset_at-requires
-offset_at-requires c = let (stands, below) = c.requires in has_head _ (whole_sound _ stands).heads _ below
+offset_at-requires c = has_head _ (whole_sound _ c.args.image.stands).heads _ c.requires
 
 pub nodes_at-requires : goal.nodes_at-requires
 nodes_at-requires c =
-    let (stands, below) = c.requires in
-    rw c.offset_at.ensures.0 (whole_nodes _ (λ i. (c.shared_slice_known-1.given i).fits) stands _ below c.kind_at.ensures c.if-kind_at-gt-CELL.false).0
+    rw c.offset_at.ensures.0 (whole_nodes _ c.args.image.fit c.args.image.stands _ c.requires c.kind_at.ensures c.if-kind_at-gt-CELL.false).0
 
 pub returns : goal.returns
 returns c =
-    let (stands, below) = c.requires in
     c.nodes_at.ensures
-    ∙ ap (λ (at : ℕ). nodes (term_at c.args.image.now at)) c.offset_at.ensures.0
-    ∙ (whole_nodes _ (λ i. (c.shared_slice_known-1.given i).fits) stands _ below c.kind_at.ensures c.if-kind_at-gt-CELL.false).1
+    ∙ ap (λ (at : ℕ). nodes (term_at c.args.image.bytes.now at)) c.offset_at.ensures.0
+    ∙ (whole_nodes _ c.args.image.fit c.args.image.stands _ c.requires c.kind_at.ensures c.if-kind_at-gt-CELL.false).1

@@ -10,35 +10,35 @@ use Rattle.step_write.proofs.Components.{becomes_as, same_expression}
 use Rattle.step_write.proofs.put_expression_after.Goals as goal
 
 pub expression_at-requires : goal.expression_at-requires
-expression_at-requires c = has_expression _ c.requires.can_write.0.stands _ (becomes_as c.change_of-change.ensures c.in-Kept.is).sure
+expression_at-requires c = has_expression _ c.args.writable.can_write.stands _ (becomes_as c.change_of-change.ensures c.in-Kept.is).sure
 
 pub put_bytes-requires : goal.put_bytes-requires
 unfolding changed
 put_bytes-requires c =
-    omega (arith, ap length c.expression_at.ensures, ap length (encoded_expression c.args.image.now c.args.k), ap length (same_expression (becomes_as c.change_of-change.ensures c.in-Kept.is).is), c.requires.room)
+    omega (arith, ap length c.expression_at.ensures, ap length (encoded_expression c.args.writable.image.now c.args.k), ap length (same_expression (becomes_as c.change_of-change.ensures c.in-Kept.is).is), c.requires.room)
 
 pub put_thread_after-requires : goal.put_thread_after-requires
 unfolding changed
-put_thread_after-requires c = (c.requires.can_write.0, (omega (arith, ap length (same_expression (becomes_as c.change_of-change.ensures c.in-Goes.is).is), c.requires.room)))
+put_thread_after-requires c = omega (arith, ap length (same_expression (becomes_as c.change_of-change.ensures c.in-Goes.is).is), c.requires.room)
 
 pub put_started-requires : goal.put_started-requires
 unfolding changed
 put_started-requires c =
     let e = c.in-Starts.is in
     record {
-      can_write = (c.requires.can_write.0, (becomes_as c.change_of-change.ensures e).sure);
+      few = (becomes_as c.change_of-change.ensures e).sure;
       room = omega (arith, ap length (same_expression (becomes_as c.change_of-change.ensures e).is), c.requires.room);
     }
 
 pub put_argument-requires : goal.put_argument-requires
 unfolding changed
-put_argument-requires c = (c.requires.can_write.0, (omega (arith, ap length (same_expression (becomes_as c.change_of-change.ensures c.in-Holds.is).is), c.requires.room)))
+put_argument-requires c = omega (arith, ap length (same_expression (becomes_as c.change_of-change.ensures c.in-Holds.is).is), c.requires.room)
 
 pub returns-in-Kept : goal.returns-in-Kept
 unfolding changed
 returns-in-Kept c =
     known_as c.put_bytes.ensures
-    (c.expression_at.ensures ∙ sym (encoded_expression c.args.image.now c.args.k) ∙ same_expression (becomes_as c.change_of-change.ensures c.in-Kept.is).is)
+    (c.expression_at.ensures ∙ sym (encoded_expression c.args.writable.image.now c.args.k) ∙ same_expression (becomes_as c.change_of-change.ensures c.in-Kept.is).is)
 
 pub returns-in-Goes : goal.returns-in-Goes
 unfolding changed

@@ -1,11 +1,6 @@
 -- `step_write::put_heads` meets its contract.
-use Prim.Native.Nat.{◌-◌}
-use Rattle.image_layout.proofs.Theory.Turns.{HeadsTo}
-use Rattle.step_rules.specs.Moves.{component_after, names_after}
+use Rattle.step_rules.specs.Moves.{component_after}
 use Rattle.step_write.proofs.put_heads.Given as goal
 
-abbrev pub invariant-loop-k : goal.invariant-loop-k
-invariant-loop-k l = HeadsTo (names_after l.image l.step) (component_after l.image l.step) l.initial.out l.at l.k l.out l.next
-
-abbrev pub decreases-loop-k : goal.decreases-loop-k
-decreases-loop-k l = l.after.names - l.k
+abbrev pub ghost-put_heads : goal.ghost-put_heads
+ghost-put_heads a = component_after a.head_of.0.now.image.now a.head_of.0.now.step

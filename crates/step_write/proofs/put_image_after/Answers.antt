@@ -26,7 +26,7 @@ put_heads-after_heads-requires c =
     (omega (arith, w.ends, length_two_bytes c.args.after.names), known_as w (ap two_bytes c.requires.can_write.1.names)) in
     let has_room : Room (names_after c.args.image.now c.args.step) (component_after c.args.image.now c.args.step) c.args.out.now = image_room c.args.image.now c.args.step c.requires.room.0 c.requires.room.1 in
     record {
-      can_write = (c.requires.can_write.0, (c.requires.can_write.1, names-wrote.0));
+      handed = (c.requires.can_write.1, names-wrote.0);
       room = room_kept _ _ {old = c.args.out.now} has_room (same names-wrote.1);
     }
 
@@ -36,7 +36,7 @@ put_expressions-requires c =
     (omega (arith, w.ends, length_two_bytes c.args.after.names), known_as w (ap two_bytes c.requires.can_write.1.names)) in
     let has_room : Room (names_after c.args.image.now c.args.step) (component_after c.args.image.now c.args.step) c.args.out.now = image_room c.args.image.now c.args.step c.requires.room.0 c.requires.room.1 in
     let w = c.put_heads-after_heads.ensures in record {
-      can_write = (c.requires.can_write.0, (c.requires.can_write.1.names, heads_end (names_after c.args.image.now c.args.step) (component_after c.args.image.now c.args.step) names-wrote.0 w.ends));
+      handed = (c.requires.can_write.1.names, heads_end (names_after c.args.image.now c.args.step) (component_after c.args.image.now c.args.step) names-wrote.0 w.ends);
       room = room_kept _ _ {old = c.args.out.now} has_room (same w ∙ same names-wrote.1);
     }
 

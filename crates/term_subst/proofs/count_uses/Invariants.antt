@@ -5,8 +5,8 @@ use lib.ListN.{length}
 use Rattle.term_subst.proofs.Counting.{Counting}
 use Rattle.term_subst.proofs.count_uses.Given as goal
 
-abbrev pub invariant-loop-waits : goal.invariant-loop-waits
-invariant-loop-waits l = Counting l.s l.at l.here l.waits l.frames l.nodes l.inner l.outer
+abbrev pub invariant-loop-frames : goal.invariant-loop-frames
+invariant-loop-frames l = Counting l.s l.at l.here l.frames l.nodes l.inner l.outer
 
-abbrev pub decreases-loop-waits : goal.decreases-loop-waits
-decreases-loop-waits l = length l.s - l.here
+abbrev pub decreases-loop-frames : goal.decreases-loop-frames
+decreases-loop-frames l = length l.s - l.here

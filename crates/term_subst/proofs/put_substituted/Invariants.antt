@@ -5,8 +5,8 @@ use lib.ListN.{length}
 use Rattle.term_subst.proofs.Putting.{Putting}
 use Rattle.term_subst.proofs.put_substituted.Given as goal
 
-abbrev pub invariant-loop-waits : goal.invariant-loop-waits
-invariant-loop-waits l = Putting l.s l.at l.inner l.outer l.initial.out l.pos l.here l.waits l.frames l.out l.next
+abbrev pub invariant-loop-inner : goal.invariant-loop-inner
+invariant-loop-inner l = Putting l.s l.at l.inner l.outer l.initial.out l.pos l.here l.frames l.out l.next
 
-abbrev pub decreases-loop-waits : goal.decreases-loop-waits
-decreases-loop-waits l = length l.s - l.here
+abbrev pub decreases-loop-inner : goal.decreases-loop-inner
+decreases-loop-inner l = length l.s - l.here

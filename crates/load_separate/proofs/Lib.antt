@@ -1,2 +1,0 @@
--- the profile's causes, by the tests
-pub mod Causes

@@ -1,2 +1,0 @@
--- what a step answers and leaves in the profile of separate bays
-pub mod Answers
