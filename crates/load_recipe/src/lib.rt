@@ -1,4 +1,4 @@
-// Loading a recipe: the out buffer's length, then the check, and only then the starting image is written.
+// Loading a recipe: the out buffer's length, then the check, then what the profile asks, and only then the starting image is written.
 #![tactic(auto)]
 
 ghost use Rattle.std.specs.Prelude.{◌≡◌, ◌++◌, ◌≤◌, drop, length};
@@ -16,7 +16,7 @@ use load_spec::Loaded;
 use numbers::{Cause, Image, Recipe};
 use recipe_file::RecipeFile;
 
-// A refusal and nothing else.
+// A refusal and nothing else. It takes a number, since a check answers its cause by number, as the C interface has it.
 pub fn refused(number: u32) -> Loaded
     ensures { result ≡ not_loaded number }
 {

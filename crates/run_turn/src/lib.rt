@@ -12,7 +12,7 @@ use numbers::Cause;
 use step_look::Going;
 use step_spec::Outcome;
 
-// What is seen of a name: a thread that goes; one that lacks room; nothing to do; a number to be passed on.
+// What is seen of a name: a thread that goes; one that lacks room; nothing to do; a number to be passed on, as `Outcome::Refused` has it.
 #[derive(Clone, Copy)]
 pub enum Sight {
     Goes(Going),
@@ -21,7 +21,7 @@ pub enum Sight {
     PassesOn(u8),
 }
 
-// Why no thread is found that goes: there is none, and whether one lacked room; a number to be passed on.
+// Why no thread is found that goes: there is none, and whether one lacked room; a number to be passed on, as `Outcome::Refused` has it.
 #[derive(Clone, Copy)]
 pub enum Halt {
     Nobody(bool),
