@@ -31,14 +31,15 @@ pub fn put_u16(out: &mut [u8], at: usize, n: usize) -> usize
     put_bytes(out, at, &(n as u16).to_le_bytes())
 }
 
-// Writes all of src.
+// Writes all of src, byte by byte: the machine moves several at once, and the library's copy would call a function of the C library for each few bytes.
 pub fn put_bytes(out: &mut [u8], at: usize, src: &[u8]) -> usize
     requires { at + length src.now ≤ length out.old }
     ensures { Wrote out.old at src.now out.new result }
 {
-    let end = at + src.len();
-    out[at..end].copy_from_slice(src);
-    end
+    for i in 0..src.len() {
+        out[at + i] = src[i];
+    }
+    at + src.len()
 }
 
 // Writes the part of src from `from` to `to`.

@@ -8,7 +8,7 @@ ghost use Rattle.check_bays.specs.Tests.{all_scoped, all_shallow, bay_scoped, ba
 ghost use Rattle.check_bays.specs.Standing.{all_stand};
 ghost use Rattle.check_bays.specs.Terms.{nodes_in};
 ghost use Rattle.check_bays.specs.Stages.{ScopedTerms, Terms};
-ghost use Rattle.check_bays.specs.Numbers.{types_refusal};
+ghost use Rattle.check_bays.specs.Numbers.{Numbered, types_refusal};
 ghost use Rattle.recipe_table.specs.Entries.{type_table};
 ghost use Rattle.check_walk.specs.Walk.{Decides};
 ghost use Rattle.check_spec.specs.Verdict.{bay_type_numbers};
@@ -16,6 +16,14 @@ ghost use Rattle.check_spec.specs.Verdict.{bay_type_numbers};
 use check_walk::Walked;
 use numbers::{Cause, Recipe};
 use recipe_file::RecipeFile;
+
+// The types of the bays, where each has one: whether cause 10 fits none, whether all are many, and their numbers.
+#[derive(Clone, Copy)]
+pub struct BayTypes {
+    pub linear: bool,
+    pub many: bool,
+    pub numbers: [u8; Recipe::MAX_BAYS],
+}
 
 // Document 01, cause 5: the nodes of all terms, or that a part is not exactly one term.
 pub fn count_nodes(recipe: RecipeFile) -> Option<usize>
@@ -94,11 +102,10 @@ fn walk_bay(recipe: RecipeFile, bay: usize) -> Option<Walked>
     check_walk::walk(table, term)
 }
 
-// The types of all bays, or the lowest of document 01's causes 9 to 11 that fits: each is tried over all bays before the next.
-pub fn types_of(recipe: RecipeFile) -> Result<[u8; Recipe::MAX_BAYS], Cause>
+// Document 01, causes 9 to 11: the types of all bays; none, where one has no type.
+pub fn types_of(recipe: RecipeFile) -> Option<BayTypes>
     requires { ScopedTerms recipe.bytes.now }
-    ensures refusal { refusal_number result ≡ types_refusal recipe.entry.bytes.now }
-    ensures types { IfOk result (λ types. types ≡ bay_type_numbers recipe.entry.bytes.now) }
+    ensures { Numbered recipe.entry.bytes.now result }
 {
     let bays = recipe.bays();
     let table = recipe.table();
@@ -106,18 +113,33 @@ pub fn types_of(recipe: RecipeFile) -> Result<[u8; Recipe::MAX_BAYS], Cause>
     let mut many = true;
     let mut linear = true;
     for bay in 0..bays {
-        let Some(walked) = walk_bay(recipe, bay) else {
-            return Err(Cause::Type);
-        };
+        let walked = walk_bay(recipe, bay)?;
         many &= check_types::many_at(table, walked.number as usize);
         linear &= walked.kept;
         numbers[bay] = walked.number;
     }
-    if !linear {
+    Some(BayTypes {
+        linear,
+        many,
+        numbers,
+    })
+}
+
+// The numbers of the types of all bays, or the lowest of causes 9 to 11 that fits: each is tried over all bays before the next.
+pub fn type_numbers(recipe: RecipeFile) -> Result<[u8; Recipe::MAX_BAYS], Cause>
+    requires { ScopedTerms recipe.bytes.now }
+    ensures refusal { refusal_number result ≡ types_refusal recipe.entry.bytes.now }
+    ensures types { IfOk result (λ types. types ≡ bay_type_numbers recipe.entry.bytes.now) }
+{
+    let Some(found) = types_of(recipe) else {
+        return Err(Cause::Type);
+    };
+    if !found.linear {
         return Err(Cause::Linearity);
     }
-    if !many {
+    if !found.many {
         return Err(Cause::BayOnce);
     }
+    let numbers = found.numbers;
     Ok(numbers)
 }

@@ -230,7 +230,7 @@ module _ {forms : ℕ} {T : Table} {names : ℕ} {l : List ℕ} {here n : ℕ} {
         by false = refl
 
     module _ {h : Node} (is : node_at l here ≡ Some h) where
-      glancing_node : More l 0 here n (length ds) h
+      pub glancing_node : More l 0 here n (length ds) h
       glancing_node = seen_node g.seen some is
 
       abbrev rest : List ℕ
@@ -331,7 +331,7 @@ module _ {forms : ℕ} {T : Table} {names : ℕ} {l : List ℕ} {here n : ℕ} {
       pub is : node_at l here ≡ Some h
       pub stood : node_stands forms T names top h ≡ true
 
-    next_is : {h : Node} → next_node forms T names top (node_at l here) ≡ Some h → Next h
+    pub next_is : {h : Node} → next_node forms T names top (node_at l here) ≡ Some h → Next h
     unfolding next_node
     next_is {h} e = by (node_at l here) refl e
       where

@@ -26,6 +26,7 @@ use Rattle.check_bays.specs.Tests.{all_scoped, all_shallow, bay_scoped, bay_shal
 use Rattle.check_bays.specs.Standing.{bay_annotated}
 use Rattle.check_bays.specs.Stages.{ScopedTerms}
 use Rattle.check_bays.specs.Numbers.{bay_linear, bay_number, has_many, has_type, types_refusal, walk_causes}
+use Rattle.check_bays.proofs.Typing.{first_not_linear, first_not_many, first_untyped, none_first, typed}
 use Rattle.check_recipe.specs.Refusals.{parts_refusal, scope_causes}
 use Rattle.check_recipe.proofs.Parts.{none_of_parts}
 
@@ -91,8 +92,8 @@ module _ (s : List ℕ) where
       unfolding types_refusal
       by_starting g = past_parts ∙ first_cause_rest (walk_causes s) (starting_causes s) (none_fits (walk_causes s) tt (sym g))
 
--- the refusal by the first stage that answers a cause
-pub ruleset stages = (by_table, by_parts, by_types, by_starting, some_number)
+-- the refusal by the first stage that answers a cause; of the types also by what is answered of all bays
+pub ruleset stages = (by_table, by_parts, by_types, by_starting, some_number, first_untyped, first_not_linear, first_not_many, none_first, typed)
 
 -- what a refusal's number says
 module _ (s : List ℕ) where

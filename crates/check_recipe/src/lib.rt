@@ -72,7 +72,7 @@ fn accept(recipe: &[u8]) -> Result<Accepted, Cause>
 {
     let recipe = recipe_table::read(recipe)?;
     parts_refusal(recipe)?;
-    let types = check_bays::types_of(recipe)?;
+    let types = check_bays::type_numbers(recipe)?;
     if recipe.starting_breaks() {
         return Err(Cause::Starting);
     }

@@ -39,7 +39,7 @@ module _ (own : ℕ) where
   abbrev pub own_node : ℕ → ℕ → Bool
   own_node tag arg = own_operand own (refers_of tag) arg
 
-  own_of : {l : List ℕ} {at : ℕ} → GoodAt l at → from (plain own_node) (0 ∷ []) l at ≡ names_only own (term_at l at)
+  pub own_of : {l : List ℕ} {at : ℕ} → GoodAt l at → from (plain own_node) (0 ∷ []) l at ≡ names_only own (term_at l at)
   unfolding exp_of term_of tree_at first_tree
   own_of g =
       asked (λ tag d. 0) (λ tag d. 0) (λ d tag arg. own_node tag arg) (λ d t. names_only own (exp_of t))

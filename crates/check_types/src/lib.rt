@@ -21,8 +21,8 @@ use term::{Node, is_case};
 // The number of a term's type, and where the term ends.
 #[derive(Clone, Copy)]
 pub struct Typed {
-    pub number: u8,
     pub end: usize,
+    pub number: u8,
 }
 
 // An entry of this kind is a function.

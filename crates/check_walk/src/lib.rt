@@ -43,9 +43,9 @@ struct Scope {
 // The number of a term's type, where the term ends, and whether cause 10 does not fit.
 #[derive(Clone, Copy)]
 pub struct Walked {
-    pub number: u8,
     pub end: usize,
     pub kept: bool,
+    pub number: u8,
 }
 
 // The mark of a new variable whose type has number p.

@@ -145,7 +145,7 @@ module _ {c : Course} {taken : ℕ} {image : List ℕ} {stop : Stop} (q : Rest c
       }
 
 -- what a turn says, by its variant
-took_as : {s out : List ℕ} {next : ℕ} {t u : Result At Halt} → t ≡ u → Took s next t out → Took s next u out
+pub took_as : {s out : List ℕ} {next : ℕ} {t u : Result At Halt} → t ≡ u → Took s next t out → Took s next u out
 took_as {s} {out} {next} e t = subst (λ (u : Result At Halt). Took s next u out) e t
 
 went_of : {at' : At} {s out : List ℕ} {next : ℕ} → Took s next (Ok at') out → Went s next at' out

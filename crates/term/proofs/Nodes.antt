@@ -82,7 +82,7 @@ head_is l h e =
     subst (Heads l) p.1
     (record { at_tag = refl; at_arg = refl; at_size = refl; at_subterms = refl; at_binders = refl; at_refers = refl; known = s.0; whole = s.1 })
 
--- the ways to `Bad`, and the way to a node
+-- the ways to no node, and the way to one
 module _ (l : List ℕ) where
   pub head_none : length l ≡ 0 → None ≡ node_of l
   unfolding node_of

@@ -105,7 +105,7 @@ module _ {l : List ℕ} {at here : ℕ} {ds : List ℕ} {n a b : ℕ} (c : Count
       record { nodes = scanned_nodes c.good (seen_end c.going.seen e); inner = ap (λ u. u.0) (found e); outer = ap (λ u. u.1) (found e) }
 
   -- the nodes read and the terms to come
-  counting_few : n + length ds ≤ max_nodes
+  pub counting_few : n + length ds ≤ max_nodes
   counting_few = omega (arith, going_few c.going c.good, c.small)
 
   module _ (some : 0 < length ds) where

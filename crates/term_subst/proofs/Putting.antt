@@ -175,7 +175,7 @@ copied_value {l} {v} b g =
     }
 
 -- the part that is written for a node is the piece
-copied : {l : List ℕ} {here : ℕ} {h : Node} {p : Span} (inner outer : Span) (d : ℕ) → Bytes l → ValueAt l inner → ValueAt l outer → node_at l here ≡ Some h → NodeAt l here h →
+pub copied : {l : List ℕ} {here : ℕ} {h : Node} {p : Span} (inner outer : Span) (d : ℕ) → Bytes l → ValueAt l inner → ValueAt l outer → node_at l here ≡ Some h → NodeAt l here h →
     p ≡ cond (is_variable h.refers h.arg d) inner (cond (is_variable h.refers h.arg (d + 1)) outer (record { from = here; to = here + h.size })) → Copied l p (piece (value l inner) (value l outer) h.refers d h.tag h.arg)
 copied {l} {here} {h} inner outer d b p q is n e = rw e (by (is_variable h.refers h.arg d) (is_variable h.refers h.arg (d + 1)))
   where
@@ -231,7 +231,7 @@ module _ {l : List ℕ} {at : ℕ} {inner outer : Span} {old : List ℕ} {pos he
       let p : some c.before ≡ some asked = sym (ap (λ f. f c.before) (from_end W ds l here e)) ∙ c.same in
       known_as c.wrote (cc)
 
-  putting_few : c.read + length ds ≤ max_nodes
+  pub putting_few : c.read + length ds ≤ max_nodes
   putting_few = omega (arith, going_few c.going c.good, c.small)
 
   module _ (more : 0 < length ds) {h : Node} (is : node_at l here ≡ Some h) where

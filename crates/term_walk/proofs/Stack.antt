@@ -5,7 +5,7 @@ use Prim.Native.Nat.{◌+◌, ◌-◌, ◌<◌, ◌≤◌, suc, zero, ℕ}
 use native.Mathlib.Omega.{arith}
 use lib.ListN.{get_or, length, length-set, set}
 use lib.Seq.{get_or-set_other, get_or-set_same}
-use Rattle.term_walk.specs.Frames.{below, opened, stack_of, top_of}
+use Rattle.term_walk.specs.Frames.{below, opened, Passed, stack_of, top_of}
 
 pub length_stack : (n : ℕ) (a : List ℕ) → length (stack_of n a) ≡ n
 unfolding stack_of
@@ -25,6 +25,12 @@ top zero a some = absurd (omega arith)
 top (suc n) a some =
     let e : suc n - 1 ≡ n = omega arith in
     ap (λ x. get_or a x 0) e
+
+-- those below it
+pub below_stack : (n : ℕ) (a : List ℕ) → below (stack_of n a) ≡ stack_of (n - 1) a
+unfolding stack_of
+below_stack zero a = refl
+below_stack (suc n) a = let e : suc n - 1 ≡ n = omega arith in rw e refl
 
 -- frames with one on top
 pub pop : (ds : List ℕ) → 0 < length ds → ds ≡ top_of ds ∷ below ds
@@ -64,13 +70,16 @@ module _ (a : List ℕ) (n x y : ℕ) (room : suc n < length a) where
   stored_frames (suc (suc zero)) h m e = let z : m ≡ suc (suc n) = omega arith in rw z (ap₂ ◌∷◌ is_first (ap₂ ◌∷◌ is_last below_last))
   stored_frames (suc (suc (suc k))) h m e = absurd (omega arith)
 
-pub passed : (a : List ℕ) (waits k x y : ℕ) → 0 < waits → waits < length a → k ≤ 2 →
-    stack_of (waits - 1 + k) (set (set a (waits - 1) y) waits x) ≡ opened k x y (below (stack_of waits a))
-unfolding stack_of
+pub passed : (a : List ℕ) (waits k x y : ℕ) → 0 < waits → waits < length a → k ≤ 2 → Passed a waits k x y (set (set a (waits - 1) y) waits x) (waits - 1 + k)
 passed a zero k x y some room few = absurd (omega arith)
 passed a (suc n) k x y some room few =
     let e : suc n - 1 ≡ n = omega arith in
-    rw e (stored_frames a n x y room k few (n + k) refl)
+    rw e
+    (record {
+      frames = rw e (stored_frames a n x y room k few (n + k) refl);
+      left = rw e refl;
+      room = length-set (set a n y) (suc n) x ∙ length-set a n y;
+    })
 
 -- so past a node they are as many as are still to come
 pub length_passed : (k x y : ℕ) (ds : List ℕ) {new : List ℕ} → k ≤ 2 → new ≡ opened k x y (below ds) → length new ≡ length ds - 1 + k

@@ -1,5 +1,5 @@
 -- A stack of frames in an array, one for each term still to come.
-use Rattle.std.specs.Prelude.{List, [], ◌∷◌, ◌+◌, ◌/◌, suc, zero, ℕ, get_or}
+use Rattle.std.specs.Prelude.{◌≡◌, List, [], ◌∷◌, ◌+◌, ◌-◌, ◌/◌, suc, zero, ℕ, get_or, length}
 use Rattle.calculus.specs.Limits.{max_nodes}
 
 -- the most frames at once, where there are at most 4,096 nodes
@@ -16,6 +16,12 @@ unfoldable pub opened : ℕ → ℕ → ℕ → List ℕ → List ℕ
 opened zero first last ds = ds
 opened (suc zero) first last ds = last ∷ ds
 opened (suc (suc k)) first last ds = first ∷ last ∷ ds
+
+-- past a node: its frame goes, and those of its subterms come
+pub record Passed (old : List ℕ) (waits subterms first last : ℕ) (new : List ℕ) (next : ℕ) : Type 0 where
+  pub frames : stack_of next new ≡ opened subterms first last (stack_of (waits - 1) old)
+  pub left : next ≡ waits - 1 + subterms
+  pub room : length new ≡ length old
 
 -- the next term's frame, and those below
 abbrev pub top_of : List ℕ → ℕ

@@ -3,7 +3,7 @@
 #![tactic(auto)]
 
 ghost use Rattle.std.specs.Prelude.{◌≡◌, ◌≤◌, ◌<◌, ℕ, List, [], ◌∷◌, length};
-ghost use Rattle.term_walk.specs.Frames.{below, max_waits, opened, stack_of, top_of};
+ghost use Rattle.term_walk.specs.Frames.{below, max_waits, opened, Passed, stack_of, top_of};
 
 use numbers::{Image, Recipe};
 use std::marker::Model;
@@ -18,6 +18,16 @@ pub fn max_waits() -> usize
     ensures { result ≡ max_waits }
 {
     MAX_WAITS
+}
+
+// Past a node that was the first of `waits` terms, by the array: its frame goes, and those of its subterms come, `first` and `last`, or `last` alone.
+pub fn pass(frames: &mut [u16], waits: usize, subterms: u8, first: u16, last: u16) -> usize
+    requires { (0 < waits) × ((waits < length frames.old) × (subterms ≤ 2)) }
+    ensures { Passed frames.old waits subterms first last frames.new result }
+{
+    frames[waits - 1] = last;
+    frames[waits] = first;
+    waits - 1 + (subterms as usize)
 }
 
 // The frames of a walk where at most N terms wait at once.
@@ -77,8 +87,6 @@ impl<const N: usize> Frames<N> {
         requires { (0 < length self.old) × ((length self.old < N) × (subterms ≤ 2)) }
         ensures { self.new ≡ opened subterms first last (below self.old) }
     {
-        self.frames[self.waits - 1] = last;
-        self.frames[self.waits] = first;
-        self.waits = self.waits - 1 + (subterms as usize);
+        self.waits = pass(&mut self.frames, self.waits, subterms, first, last);
     }
 }

@@ -5,7 +5,7 @@ use Prim.Native.Nat.{ℕ}
 use native.Mathlib.Omega.{arith}
 use Rattle.calculus.specs.Table.{is_many}
 use Rattle.recipe_table.specs.Entries.{table_of, type_table}
-use Rattle.check_bays.proofs.Typing.{numbers_all, typing_all, typing_next, typing_none, typing_not, typing_not_many, typing_not_linear}
+use Rattle.check_bays.proofs.Typing.{typing_all, typing_next, typing_none, typing_not}
 use Rattle.check_bays.proofs.types_of.Goals as goal
 
 pub loop-bay-init : goal.loop-bay-init
@@ -14,8 +14,8 @@ loop-bay-init c = typing_none _
 pub walk_bay-requires : goal.walk_bay-requires
 walk_bay-requires c = (c.requires, omega arith)
 
-pub returns-in_default-clause-refusal : goal.returns-in_default-clause-refusal
-returns-in_default-clause-refusal c = typing_not _ c.loop-bay.bay (omega arith) c.walk_bay.ensures c.in_default.is
+pub returns-in_err-walked : goal.returns-in_err-walked
+returns-in_err-walked c = rw c.from_residual.ensures (typing_not _ c.loop-bay.bay (omega arith) c.walk_bay.ensures c.in_err-walked.was)
 
 pub bounds-numbers-bay : goal.bounds-numbers-bay
 bounds-numbers-bay c = omega (arith, c.requires.terms.laid.has_parts.high)
@@ -23,17 +23,8 @@ bounds-numbers-bay c = omega (arith, c.requires.terms.laid.has_parts.high)
 pub loop-bay-preserved : goal.loop-bay-preserved
 unfolding type_table
 loop-bay-preserved c =
-    typing_next _ c.loop-bay.bay (omega arith) c.walk_bay.ensures _ _ _ _ _ _ c.loop-bay.invariant c.in-Some.is
-    (c.many_at-many.ensures ∙ ap (λ (t : List ℕ). is_many (table_of t) c.in-Some.walked.number) c.table-table.ensures) refl refl
+    typing_next _ c.loop-bay.bay (omega arith) c.walk_bay.ensures _ _ _ _ _ _ c.loop-bay.invariant c.in_ok-walked.was
+    (c.many_at-many.ensures ∙ ap (λ (t : List ℕ). is_many (table_of t) c.in_ok-walked.walked.number) c.table-table.ensures) refl refl
 
-pub returns-then-not-linear-clause-refusal : goal.returns-then-not-linear-clause-refusal
-returns-then-not-linear-clause-refusal c = typing_not_linear c.loop-bay.invariant (omega arith) c.if-not-linear.true
-
-pub returns-then-not-many-clause-refusal : goal.returns-then-not-many-clause-refusal
-returns-then-not-many-clause-refusal c = typing_not_many c.loop-bay.invariant (omega arith) c.if-not-linear.false c.if-not-many.true
-
-pub returns-clause-refusal : goal.returns-clause-refusal
-returns-clause-refusal c = typing_all c.loop-bay.invariant (omega arith) c.if-not-linear.false c.if-not-many.false
-
-pub returns-clause-types : goal.returns-clause-types
-returns-clause-types c = numbers_all c.loop-bay.invariant (omega arith)
+pub returns : goal.returns
+returns c = typing_all c.loop-bay.invariant (omega arith)
